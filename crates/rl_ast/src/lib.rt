@@ -1,0 +1,3 @@
+// The image: its schema, and the reader.
+mod fields;
+mod schema;

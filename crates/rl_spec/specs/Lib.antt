@@ -1,0 +1,5 @@
+pub mod Utf8
+pub mod Bytes
+pub mod Schema
+pub mod Fields
+pub mod Read

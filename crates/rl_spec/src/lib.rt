@@ -1,0 +1,116 @@
+// The types that the definitions in specs/ and the code above them share.
+
+// The number of an arena, and the number of a node in it: two types, so that neither is taken for the other.
+pub struct ArenaNo(pub u32);
+
+pub struct NodeNo(pub u32);
+
+// A node of an arena.
+pub struct Id {
+    pub arena: ArenaNo,
+    pub node: NodeNo,
+}
+
+// The header's counts, in its order.
+pub struct Counts {
+    pub bytes: u16,
+    pub texts: u16,
+    pub lists: u16,
+    pub expressions: u16,
+    pub statements: u16,
+    pub parameters: u16,
+    pub clauses: u16,
+    pub functions: u16,
+    pub calls: u16,
+}
+
+// Why the reader refuses. `numberOf` gives each cause its number.
+pub enum Cause {
+    ImageTooLong,
+    WorkTooShort,
+    BytesEnd,
+    WrongKind,
+    CountOverLimit,
+    BadText,
+    BadValue,
+    BadReference,
+    TooHigh,
+    BytesLeft,
+}
+
+// What the reader answers.
+pub enum Answer {
+    Accepted { arena: ArenaNo, counts: Counts },
+    Refused { cause: Cause, place: usize },
+}
+
+// The sections that hold records.
+pub enum Section {
+    Texts,
+    Lists,
+    Expressions,
+    Statements,
+    Parameters,
+    Clauses,
+    Functions,
+    Calls,
+}
+
+// What a reference has to find.
+pub enum Target {
+    Text,
+    Expression,
+    // any statement but a match arm
+    Statement,
+    Branch,
+    ElseBranch,
+    Arm,
+}
+
+// The sorts of field.
+pub enum Sort {
+    // bytes of any value
+    Raw {
+        width: u8,
+    },
+    // a byte from low to high
+    Byte {
+        low: u8,
+        high: u8,
+    },
+    // a Unicode scalar
+    Scalar,
+    // a text's offset and length
+    Part,
+    One {
+        target: Target,
+    },
+    // 65,535 for none
+    Maybe {
+        target: Target,
+    },
+    // list entries, by turns a left and a right; their count is a multiple of step
+    Many {
+        left: Target,
+        right: Target,
+        step: u8,
+    },
+    // records of a section
+    Range {
+        section: Section,
+    },
+    OperandSort,
+    Operand,
+}
+
+// What checking a field comes to: the greatest height of a child so far, or why it is refused.
+pub enum Check {
+    Holds { tall: u16 },
+    Fails { cause: Cause },
+}
+
+// What a record, or a run of them, comes to: the next place, or where it is refused.
+pub enum Step {
+    Next { at: usize, tall: u16 },
+    Stop { cause: Cause, place: usize },
+}

@@ -1,0 +1,14 @@
+//! The image format: records, bytes, text form, an independent reader, and
+//! generators of accepted and damaged images.
+
+pub mod builder;
+pub mod damage;
+pub mod decode;
+pub mod edges;
+pub mod encode;
+pub mod image;
+pub mod random;
+pub mod reader;
+pub mod rng;
+pub mod schema;
+pub mod text;
