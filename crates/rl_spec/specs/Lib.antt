@@ -3,3 +3,4 @@ pub mod Bytes
 pub mod Schema
 pub mod Fields
 pub mod Read
+pub mod Image

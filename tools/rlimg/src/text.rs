@@ -33,7 +33,8 @@ const OPERATORS: [&str; 11] = [
 const REFINEMENTS: [&str; 7] = ["none", "Gt", "Ge", "Lt", "Le", "Eq", "Ne"];
 const OPERAND_SORTS: [&str; 5] = ["none", "Integer", "Str", "Bool", "Param"];
 
-/// The words before a record's fields, where the kind has no name in the line.
+/// The words before a record's first fields, "" for none. The kind's name
+/// follows a span that comes first.
 fn labels(section: Section) -> &'static [&'static str] {
     match section {
         Section::Expression | Section::Statement => &["span"],
@@ -91,18 +92,15 @@ fn dump_record(out: &mut String, image: &Image, section: Section, record: &Recor
     let labels = labels(section);
     let mut notes = String::new();
     for (position, (sort, value)) in row.sorts.iter().zip(&record.values).enumerate() {
-        if position == labels.len() && position == 1 {
-            write!(out, " {}", row.name).unwrap();
-        }
         match labels.get(position) {
             None | Some(&"") => out.push(' '),
             Some(label) => write!(out, " {label} ").unwrap(),
         }
         out.push_str(&value_text(*sort, *value));
+        if position == 0 && *sort == Sort::Span {
+            write!(out, " {}", row.name).unwrap();
+        }
         notes.push_str(&note(image, *sort, *value));
-    }
-    if record.values.len() == 1 {
-        write!(out, " {}", row.name).unwrap();
     }
     if !notes.is_empty() {
         write!(out, " #{notes}").unwrap();
