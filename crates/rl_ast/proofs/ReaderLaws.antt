@@ -14,15 +14,17 @@ use mir.Syntax.{w16}
 use borrow.Author.Tests.{lt-ltb, le-ltb, eq-eqb, ne-eqb}
 use Rattle.rl_spec.specs.declared.Counts.{Counts}
 use Rattle.rl_spec.specs.declared.Cause.{Cause}
-use Rattle.rl_spec.specs.declared.Cause.the-variants.{BytesEnd, WrongKind, CountOverLimit, BytesLeft}
+use Rattle.rl_spec.specs.declared.Cause.the-variants.{ImageTooLong, WorkTooShort, BytesEnd, WrongKind, CountOverLimit, BytesLeft}
+use Rattle.rl_spec.specs.declared.Answer.{Answer}
+use Rattle.rl_spec.specs.declared.Answer.the-variants.{Accepted, Refused}
 use Rattle.rl_spec.specs.declared.Section.{Section}
 use Rattle.rl_spec.specs.declared.Section.the-variants.{Texts, Lists, Expressions, Statements, Parameters, Clauses, Functions, Calls}
 use Rattle.rl_spec.specs.declared.Step.{Step}
 use Rattle.rl_spec.specs.declared.Step.the-variants.{Next, Stop}
-use Rattle.rl_spec.specs.Bytes.{pick, u16At, past}
+use Rattle.rl_spec.specs.Bytes.{pick, u16At, u32At, past}
 use Rattle.rl_spec.specs.Schema.{limits, sections, countOf, inSection, fieldsOf}
 use Rattle.rl_spec.specs.Fields.{recordAt, heightStep, fieldsFrom}
-use Rattle.rl_spec.specs.Read.{after, countsOf, countsFrom, headerOf, Out, good, bad, outOf, seenBy, keep, recordsFrom, andThen, sectionsFrom, endOf, bodyOf}
+use Rattle.rl_spec.specs.Read.{after, countsOf, countsFrom, headerOf, Out, good, bad, outOf, seenBy, keep, recordsFrom, andThen, sectionsFrom, endOf, bodyOf, contentOf, mostStarts, readOf, answerOf, workOf, startsOf}
 use Rattle.rl_ast.proofs.FieldLaws.{turn, ended}
 use Rattle.rl_ast.proofs.RecordLaws.{byte-there}
 
@@ -86,9 +88,9 @@ module _ (s : List ℕ) (b : Bool) (e : b ≡ past s 0 1) where
       unfolding headerOf
       header-counts y r z = rw (← e, q, ← f, eq-eqb k 1 x, ← g, y) z
 
-pub counts-are : (s : List ℕ) (c : Counts) → c .bytes ≡ u16At s 5 → c .texts ≡ u16At s 7 → c .lists ≡ u16At s 9 → c .expressions ≡ u16At s 11 → c .statements ≡ u16At s 13 → c .parameters ≡ u16At s 15 → c .clauses ≡ u16At s 17 → c .functions ≡ u16At s 19 → c .calls ≡ u16At s 21 → c ≡ countsOf s
+pub counts-are : (s : List ℕ) (b t l e d q k f c : ℕ) → b ≡ u16At s 5 → t ≡ u16At s 7 → l ≡ u16At s 9 → e ≡ u16At s 11 → d ≡ u16At s 13 → q ≡ u16At s 15 → k ≡ u16At s 17 → f ≡ u16At s 19 → c ≡ u16At s 21 → _≡_ {A = Counts} (record { bytes = b; texts = t; lists = l; expressions = e; statements = d; parameters = q; clauses = k; functions = f; calls = c }) (countsOf s)
 unfolding countsOf
-counts-are s c e1 e2 e3 e4 e5 e6 e7 e8 e9 = cc
+counts-are s b t l e d q k f c e1 e2 e3 e4 e5 e6 e7 e8 e9 = rw (e1, e2, e3, e4, e5, e6, e7, e8, e9) refl
 
 -- ---- the records
 
@@ -122,6 +124,12 @@ record-there s w p seen own at r e a t f = go (past s at 1) refl (sym e ∙ f)
 
 pub start-fits : (s w p : List ℕ) (seen : Counts) (own : Section) (at : ℕ) (r : Step) → r ≡ recordAt s w p seen own at → (a t : ℕ) → r ≡ Next a t → length s ≤ 65535 → Fits w16 at
 start-fits s w p seen own at r e a t f l = omega (arith, record-there s w p seen own at r e a t f)
+
+pub at-most : (i n : ℕ) → i < n → i + 1 ≤ n
+at-most i n q = omega arith
+
+pub next-fits : (i n : ℕ) → i < n → Fits w16 n → Fits w16 (i + 1)
+next-fits i n q f = omega arith
 
 module _ (s : List ℕ) (c : Counts) (o : Section) (n i at : ℕ) (w p : List ℕ) (whole : Out) (v : whole ≡ recordsFrom s c o (n - i) i at w p) where
   pub records-end : n ≤ i → good at w p ≡ whole
@@ -189,3 +197,47 @@ module _ (s : List ℕ) (c : Counts) (w p : List ℕ) (b : Bool) (e : b ≡ past
       pub body-end : length s ≤ a → good a w' p' ≡ bodyOf s c w p
       unfolding endOf
       body-end x = rw (← body-is, g, le-ltb a (length s) x) refl
+
+-- ---- the content
+
+module _ (s w p : List ℕ) (r : Step) (e : r ≡ headerOf s) where
+  pub content-stop : (d : Cause) (z : ℕ) → r ≡ Stop d z → bad d z ≡ contentOf s w p
+  content-stop d z f = rw (← e, f) refl
+
+  pub content-more : (a t : ℕ) → r ≡ Next a t → (c : Counts) → c ≡ countsOf s → (o : Out) → o ≡ bodyOf s c w p → o ≡ contentOf s w p
+  content-more a t f c g o h = rw (← e, f, ← g) h
+
+-- ---- the answer
+
+pub cleared : (v w : List ℕ) (k : ℕ) → w ≡ replicate (length v) 0 → length v ≡ k → w ≡ replicate k 0
+cleared v w k e f = e ∙ ap (λ (n : ℕ). replicate n 0) f
+
+-- what is promised of the reader's answer, the work slice of k entries, and the starts
+abbrev Promised : List ℕ → ℕ → Answer → List ℕ → List ℕ → Type 0
+Promised s k r w p = (r ≡ answerOf s k) × ((w ≡ workOf s k) × (p ≡ startsOf s k))
+
+module _ (s : List ℕ) (k : ℕ) where
+  refused : (d : Cause) (z : ℕ) → bad d z ≡ readOf s k → (w p : List ℕ) → w ≡ replicate k 0 → p ≡ replicate mostStarts 0 → Promised s k (Refused d z) w p
+  unfolding answerOf workOf startsOf
+  refused d z e w p f g = rw (← e) (refl, (f, g))
+
+  pub read-long : 65535 < length s → (w p : List ℕ) → w ≡ replicate k 0 → p ≡ replicate mostStarts 0 → Promised s k (Refused ImageTooLong 0) w p
+  unfolding readOf
+  read-long h w p f g = refused ImageTooLong 0 (rw (lt-ltb 65535 (length s) h) refl) w p f g
+
+  module _ (h : length s ≤ 65535) where
+    pub read-short : k < 8192 → (w p : List ℕ) → w ≡ replicate k 0 → p ≡ replicate mostStarts 0 → Promised s k (Refused WorkTooShort 0) w p
+    unfolding readOf
+    read-short q w p f g = refused WorkTooShort 0 (rw (le-ltb 65535 (length s) h, lt-ltb k 8192 q) refl) w p f g
+
+    module _ (q : 8192 ≤ k) (r : Step) (w p w' p' : List ℕ) (f : w ≡ replicate k 0) (g : p ≡ replicate mostStarts 0) (e : outOf r w' p' ≡ contentOf s w p) where
+      read-is : outOf r w' p' ≡ readOf s k
+      unfolding readOf
+      read-is = rw (le-ltb 65535 (length s) h, le-ltb k 8192 q, ← f, ← g) e
+
+      pub read-stop : (d : Cause) (z : ℕ) → r ≡ Stop d z → (w'' p'' : List ℕ) → w'' ≡ replicate k 0 → p'' ≡ replicate mostStarts 0 → Promised s k (Refused d z) w'' p''
+      read-stop d z x w'' p'' y v = refused d z (ap (λ (i : Step). outOf i w' p') (sym x) ∙ read-is) w'' p'' y v
+
+      pub read-good : (a t : ℕ) → r ≡ Next a t → (n : ℕ) → n ≡ u32At s 1 → (c : Counts) → c ≡ countsOf s → Promised s k (Accepted (record { 0 = n }) c) w' p'
+      unfolding answerOf workOf startsOf
+      read-good a t x n y c z = rw (← read-is, x, y, z) (refl, (refl, refl))

@@ -18,7 +18,7 @@ ghost use mathlib.Core.Path.{_≡_};
 ghost use Prim.Native.Nat.{_≤_};
 ghost use lib.ListN.{length, getD};
 ghost use Rattle.rl_spec.specs.Schema.{limits, sections};
-ghost use Rattle.rl_spec.specs.Read.{countsOf, countsFrom, headerOf, seenBy, keep, outOf, recordsFrom, sectionsFrom, bodyOf, answerOf, workOf, startsOf};
+ghost use Rattle.rl_spec.specs.Read.{countsOf, countsFrom, headerOf, seenBy, keep, outOf, recordsFrom, sectionsFrom, bodyOf, contentOf, answerOf, workOf, startsOf};
 
 // The largest count that the header may have at j.
 fn limit_at(j: usize) -> u16
@@ -247,6 +247,18 @@ fn after_header(s: &[u8], c: Counts, w: &mut [u16], p: &mut [u16]) -> Step
     }
 }
 
+// The image's content, where its length is within the limit.
+fn content(s: &[u8], w: &mut [u16], p: &mut [u16]) -> Step
+    requires { ⌜ length (now s) ≤ 65535 ⌝ }
+    ensures { λ r. ⌜ outOf r (now (w .exit)) (now (p .exit)) ≡ contentOf (now (s .entry)) (now (w .entry)) (now (p .entry)) ⌝ }
+{
+    let head = header(s);
+    match head {
+        Step::Next { at: _, tall: _ } => after_header(s, header_counts(s), w, p),
+        Step::Stop { cause, place } => Step::Stop { cause, place },
+    }
+}
+
 // Reads an image. Where it is accepted, the work slice holds the heights of the expressions and then of the statements, and
 // `starts` the place where each of them starts; all else of both is 0.
 pub fn read_starts(image: &[u8], work: &mut [u16], starts: &mut [u16; 6144]) -> Answer
@@ -268,24 +280,17 @@ pub fn read_starts(image: &[u8], work: &mut [u16], starts: &mut [u16; 6144]) -> 
             place: 0,
         };
     }
-    let head = header(image);
-    match head {
-        Step::Next { at: _, tall: _ } => {
-            let counts = header_counts(image);
-            let all = after_header(image, counts, work, starts);
-            match all {
-                Step::Next { at: _, tall: _ } => Answer::Accepted {
-                    arena: ArenaNo(u32_at(image, 1)),
-                    counts,
-                },
-                Step::Stop { cause, place } => {
-                    clear(work);
-                    clear(starts);
-                    Answer::Refused { cause, place }
-                }
-            }
+    let all = content(image, work, starts);
+    match all {
+        Step::Next { at, tall } => Answer::Accepted {
+            arena: ArenaNo(u32_at(image, 1)),
+            counts: header_counts(image),
+        },
+        Step::Stop { cause, place } => {
+            clear(work);
+            clear(starts);
+            Answer::Refused { cause, place }
         }
-        Step::Stop { cause, place } => Answer::Refused { cause, place },
     }
 }
 

@@ -146,6 +146,10 @@ bodyOf s c w p =
     pick (past s textBytesAt (c .bytes)) (bad BytesEnd textBytesAt)
     (endOf s (sectionsFrom s c sections (textBytesAt + c .bytes) w p))
 
+-- the header, and what follows it
+abbrev pub contentOf : List ℕ → List ℕ → List ℕ → Out
+contentOf s w p = after (headerOf s) (λ a tall. bodyOf s (countsOf s) w p) bad
+
 -- as many places for starts as there can be expressions and statements
 abbrev pub mostStarts : ℕ
 mostStarts = 6144
@@ -155,7 +159,7 @@ unfoldable pub readOf : List ℕ → ℕ → Out
 readOf s k =
     pick (ltb 65535 (length s)) (bad ImageTooLong 0)
     (pick (ltb k 8192) (bad WorkTooShort 0)
-    (after (headerOf s) (λ a tall. bodyOf s (countsOf s) (replicate k 0) (replicate mostStarts 0)) bad))
+    (contentOf s (replicate k 0) (replicate mostStarts 0)))
 
 abbrev pub answerBy : List ℕ → Out → Answer
 answerBy s (good at w p) = Accepted (record { 0 = u32At s 1 }) (countsOf s)

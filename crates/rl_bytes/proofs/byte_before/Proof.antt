@@ -1,30 +1,22 @@
 use borrow.Author.Needs.{needs}
 use Rattle.rl_bytes.proofs.byte_before.Statement.{statement}
 use Rattle.rl_bytes.proofs.byte_before.Tie as tie
-use Rattle.rl_bytes.proofs.byte_before.Reads as reads
-use Rattle.rl_bytes.proofs.byte_before.Lts as lts
-use Rattle.rl_bytes.proofs.byte_at.Reads as byte-at-reads
 use Rattle.rl_bytes.proofs.Laws.{before-first}
 
 ruleset laws = (before-first)
 
--- src/lib.rt:71:9
 byte-at-requires : tie.Need-byte-at-requires
 byte-at-requires c κs = search needs
 
--- src/lib.rt:71:9
 returns : tie.Need-returns
 returns c = search (laws, needs)
 
--- src/lib.rt:73:16
 sub-byte-at : tie.Need-sub-byte-at
 sub-byte-at c = search needs
 
--- src/lib.rt:73:5
 byte-at-requires-2 : tie.Need-byte-at-requires-2
 byte-at-requires-2 c κs = search needs
 
--- src/lib.rt:67:1
 returns-2 : tie.Need-returns-2
 returns-2 c = search needs
 

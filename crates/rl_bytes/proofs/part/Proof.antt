@@ -1,65 +1,49 @@
 use borrow.Author.Needs.{needs}
 use Rattle.rl_bytes.proofs.part.Statement.{statement}
 use Rattle.rl_bytes.proofs.part.Tie as tie
-use Rattle.rl_bytes.proofs.part.Reads as reads
-use Rattle.rl_bytes.proofs.part.Lts as lts
 use Rattle.rl_bytes.proofs.Laws.{part-none, part-short, part-whole}
 
 ruleset laws = (part-none, part-short, part-whole)
 
--- src/lib.rt:82:16
 sub-result : tie.Need-sub-result
 sub-result c = search needs
 
--- src/lib.rt:82:16
 part-result-start : tie.Need-part-result-start
 part-result-start c = search needs
 
--- src/lib.rt:82:16
 part-result-end : tie.Need-part-result-end
 part-result-end c = search needs
 
--- src/lib.rt:82:9
 returns : tie.Need-returns
 returns c = search (laws, needs)
 
--- src/lib.rt:84:8
 sub-if2 : tie.Need-sub-if2
 sub-if2 c = search needs
 
--- src/lib.rt:85:16
 sub-result-2 : tie.Need-sub-result-2
 sub-result-2 c = search needs
 
--- src/lib.rt:85:16
 part-result-start-2 : tie.Need-part-result-start-2
 part-result-start-2 c = search needs
 
--- src/lib.rt:85:16
 part-result-end-2 : tie.Need-part-result-end-2
 part-result-end-2 c = search needs
 
--- src/lib.rt:85:9
 returns-2 : tie.Need-returns-2
 returns-2 c = search (laws, needs)
 
--- src/lib.rt:87:14
 add-to : tie.Need-add-to
 add-to c = search needs
 
--- src/lib.rt:88:5
 sub-result-3 : tie.Need-sub-result-3
 sub-result-3 c = search needs
 
--- src/lib.rt:88:5
 part-result-start-3 : tie.Need-part-result-start-3
 part-result-start-3 c = search needs
 
--- src/lib.rt:88:5
 part-result-end-3 : tie.Need-part-result-end-3
 part-result-end-3 c = search needs
 
--- src/lib.rt:77:1
 returns-3 : tie.Need-returns-3
 returns-3 c = search (laws, needs)
 

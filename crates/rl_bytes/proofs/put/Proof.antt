@@ -1,29 +1,22 @@
 use borrow.Author.Needs.{needs}
 use Rattle.rl_bytes.proofs.put.Statement.{statement}
 use Rattle.rl_bytes.proofs.put.Tie as tie
-use Rattle.rl_bytes.proofs.put.Reads as reads
-use Rattle.rl_bytes.proofs.put.Lts as lts
 use Rattle.rl_bytes.proofs.Laws.{set-past}
 
 ruleset laws = (set-past)
 
--- src/lib.rt:73:9
 mul-w : tie.Need-mul-w
 mul-w c = search needs
 
--- src/lib.rt:73:9
 slice-write-w : tie.Need-slice-write-w
 slice-write-w c = search needs
 
--- src/lib.rt:69:1
 same-length : tie.Need-same-length
 same-length c = search needs
 
--- src/lib.rt:69:1
 returns : tie.Need-returns
 returns c = search needs
 
--- src/lib.rt:69:1
 returns-2 : tie.Need-returns-2
 returns-2 c = search (laws, needs)
 

@@ -1,34 +1,25 @@
 use borrow.Author.Needs.{needs}
 use Rattle.rl_bytes.proofs.second_u16.Statement.{statement}
 use Rattle.rl_bytes.proofs.second_u16.Tie as tie
-use Rattle.rl_bytes.proofs.second_u16.Reads as reads
-use Rattle.rl_bytes.proofs.second_u16.Lts as lts
-use Rattle.rl_bytes.proofs.u16_at.Reads as u16-at-reads
 use Rattle.rl_bytes.proofs.Laws.{second-none, second-short}
 
 ruleset laws = (second-none, second-short)
 
--- src/lib.rt:58:9
 returns : tie.Need-returns
 returns c = search (laws, needs)
 
--- src/lib.rt:60:8
 sub-if2 : tie.Need-sub-if2
 sub-if2 c = search needs
 
--- src/lib.rt:61:9
 returns-2 : tie.Need-returns-2
 returns-2 c = search (laws, needs)
 
--- src/lib.rt:63:15
 add-u16-at : tie.Need-add-u16-at
 add-u16-at c = search needs
 
--- src/lib.rt:63:5
 u16-at-requires : tie.Need-u16-at-requires
 u16-at-requires c κs = search needs
 
--- src/lib.rt:54:1
 returns-3 : tie.Need-returns-3
 returns-3 c = search needs
 

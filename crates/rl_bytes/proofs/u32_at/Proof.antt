@@ -1,51 +1,37 @@
 use borrow.Author.Needs.{needs}
 use Rattle.rl_bytes.proofs.u32_at.Statement.{statement}
 use Rattle.rl_bytes.proofs.u32_at.Tie as tie
-use Rattle.rl_bytes.proofs.u32_at.Reads as reads
-use Rattle.rl_bytes.proofs.u32_at.Lts as lts
-use Rattle.rl_bytes.proofs.join32.Reads as join32-reads
-use Rattle.rl_bytes.proofs.u16_at.Reads as u16-at-reads
 use Rattle.rl_bytes.proofs.Laws.{u32-is, u32-past, u32-short}
 
 ruleset laws = (u32-is, u32-past, u32-short)
 
--- src/lib.rt:45:9
 returns : tie.Need-returns
 returns c = search (laws, needs)
 
--- src/lib.rt:47:8
 sub-if2 : tie.Need-sub-if2
 sub-if2 c = search needs
 
--- src/lib.rt:48:23
 u16-at-requires : tie.Need-u16-at-requires
 u16-at-requires c κs = search needs
 
--- src/lib.rt:48:9
 join32-requires : tie.Need-join32-requires
 join32-requires c κs = search needs
 
--- src/lib.rt:48:9
 returns-2 : tie.Need-returns-2
 returns-2 c = search (laws, needs)
 
--- src/lib.rt:50:12
 u16-at-requires-2 : tie.Need-u16-at-requires-2
 u16-at-requires-2 c κs = search needs
 
--- src/lib.rt:50:37
 add-u16-at : tie.Need-add-u16-at
 add-u16-at c = search needs
 
--- src/lib.rt:50:27
 u16-at-requires-3 : tie.Need-u16-at-requires-3
 u16-at-requires-3 c κs = search needs
 
--- src/lib.rt:50:5
 join32-requires-2 : tie.Need-join32-requires-2
 join32-requires-2 c κs = search needs
 
--- src/lib.rt:41:1
 returns-3 : tie.Need-returns-3
 returns-3 c = search (laws, needs)
 

@@ -4,8 +4,6 @@ use Prim.Native.Nat.{_-_, _+_, _≤_}
 use borrow.Author.Needs.{needs}
 use Rattle.rl_ast.proofs.fields.are_zeros.Statement.{statement}
 use Rattle.rl_ast.proofs.fields.are_zeros.Tie as tie
-use Rattle.rl_ast.proofs.fields.are_zeros.Reads as reads
-use Rattle.rl_ast.proofs.fields.are_zeros.Lts as lts
 use Rattle.rl_ast.proofs.FieldLaws.{zeros-start, zeros-more, zeros-not, zeros-end}
 
 ruleset laws = (zeros-start, zeros-more, zeros-not, zeros-end)
@@ -16,35 +14,27 @@ Inv-loop s at n i₀ i = (i ≤ n) × (zeros s at n ≡ zeros s (at + i) (n - i)
 abbrev μ-loop : tie.MeasureT-loop
 μ-loop s at n i₀ i = n - i
 
--- src/fields.rt:317:5
 loop-holds : tie.Need-loop-holds Inv-loop μ-loop
 loop-holds c = search (laws, needs)
 
--- src/fields.rt:318:14
 add-if1 : tie.Need-add-if1 Inv-loop μ-loop
 add-if1 c = search (laws, needs)
 
--- src/fields.rt:318:12
 shared-slice-read-if1 : tie.Need-shared-slice-read-if1 Inv-loop μ-loop
 shared-slice-read-if1 c = search (laws, needs)
 
--- src/fields.rt:319:13
 returns : tie.Need-returns Inv-loop μ-loop
 returns c = search (laws, needs)
 
--- src/fields.rt:321:9
 add-i : tie.Need-add-i Inv-loop μ-loop
 add-i c = search (laws, needs)
 
--- src/fields.rt:317:5
 loop-less : tie.Need-loop-less Inv-loop μ-loop
 loop-less c = search (laws, needs)
 
--- src/fields.rt:317:5
 loop-again : tie.Need-loop-again Inv-loop μ-loop
 loop-again c = search (laws, needs)
 
--- src/fields.rt:312:1
 returns-2 : tie.Need-returns-2 Inv-loop μ-loop
 returns-2 c = search (laws, needs)
 

@@ -1,21 +1,16 @@
 use borrow.Author.Needs.{needs}
 use Rattle.rl_ast.proofs.fields.byte_in.Statement.{statement}
 use Rattle.rl_ast.proofs.fields.byte_in.Tie as tie
-use Rattle.rl_ast.proofs.fields.byte_in.Reads as reads
-use Rattle.rl_ast.proofs.fields.byte_in.Lts as lts
 use Rattle.rl_ast.proofs.FieldLaws.{byte-low, byte-good, byte-high}
 
 ruleset laws = (byte-low, byte-good, byte-high)
 
--- src/fields.rt:280:9
 returns : tie.Need-returns
 returns c = search (laws, needs)
 
--- src/fields.rt:285:9
 returns-2 : tie.Need-returns-2
 returns-2 c = search (laws, needs)
 
--- src/fields.rt:276:1
 returns-3 : tie.Need-returns-3
 returns-3 c = search (laws, needs)
 

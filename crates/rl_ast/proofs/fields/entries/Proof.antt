@@ -4,12 +4,6 @@ use Prim.Native.Nat.{_-_, _+_, _≤_}
 use borrow.Author.Needs.{needs}
 use Rattle.rl_ast.proofs.fields.entries.Statement.{statement}
 use Rattle.rl_ast.proofs.fields.entries.Tie as tie
-use Rattle.rl_ast.proofs.fields.entries.Reads as reads
-use Rattle.rl_ast.proofs.fields.entries.Lts as lts
-use Rattle.rl_ast.proofs.fields.child_height.Reads as child-height-reads
-use Rattle.rl_ast.proofs.fields.entry_at.Reads as entry-at-reads
-use Rattle.rl_ast.proofs.fields.is_allowed.Reads as is-allowed-reads
-use Rattle.rl_bytes.proofs.larger.Reads as larger-reads
 use Rattle.rl_ast.proofs.FieldLaws.{entries-start, entries-more, entries-bad, entries-end}
 
 ruleset laws = (entries-start, entries-more, entries-bad, entries-end)
@@ -20,51 +14,39 @@ Inv-loop s w p seen own first count tall here₀ other₀ t₀ i₀ here other t
 abbrev μ-loop : tie.MeasureT-loop
 μ-loop s w p seen own first count tall here₀ other₀ t₀ i₀ here other t i = count - i
 
--- src/fields.rt:191:5
 loop-holds : tie.Need-loop-holds Inv-loop μ-loop
 loop-holds c = search (laws, needs)
 
--- src/fields.rt:192:53
 cast-entry-at : tie.Need-cast-entry-at Inv-loop μ-loop
 cast-entry-at c = search (laws, needs)
 
--- src/fields.rt:192:35
 add-entry-at : tie.Need-add-entry-at Inv-loop μ-loop
 add-entry-at c = search (laws, needs)
 
--- src/fields.rt:192:13
 entry-at-requires : tie.Need-entry-at-requires Inv-loop μ-loop
 entry-at-requires c κs = search (laws, needs)
 
--- src/fields.rt:193:12
 is-allowed-requires : tie.Need-is-allowed-requires Inv-loop μ-loop
 is-allowed-requires c κs = search (laws, needs)
 
--- src/fields.rt:194:27
 child-height-requires : tie.Need-child-height-requires Inv-loop μ-loop
 child-height-requires c κs = search (laws, needs)
 
--- src/fields.rt:194:13
 larger-requires : tie.Need-larger-requires Inv-loop μ-loop
 larger-requires c κs = search (laws, needs)
 
--- src/fields.rt:196:13
 returns : tie.Need-returns Inv-loop μ-loop
 returns c = search (laws, needs)
 
--- src/fields.rt:203:9
 add-i : tie.Need-add-i Inv-loop μ-loop
 add-i c = search (laws, needs)
 
--- src/fields.rt:191:5
 loop-less : tie.Need-loop-less Inv-loop μ-loop
 loop-less c = search (laws, needs)
 
--- src/fields.rt:191:5
 loop-again : tie.Need-loop-again Inv-loop μ-loop
 loop-again c = (search needs, search (entries-more))
 
--- src/fields.rt:173:1
 returns-2 : tie.Need-returns-2 Inv-loop μ-loop
 returns-2 c = search (laws, needs)
 

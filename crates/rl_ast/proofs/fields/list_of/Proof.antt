@@ -1,39 +1,28 @@
 use borrow.Author.Needs.{needs}
 use Rattle.rl_ast.proofs.fields.list_of.Statement.{statement}
 use Rattle.rl_ast.proofs.fields.list_of.Tie as tie
-use Rattle.rl_ast.proofs.fields.list_of.Reads as reads
-use Rattle.rl_ast.proofs.fields.list_of.Lts as lts
-use Rattle.rl_ast.proofs.fields.entries.Reads as entries-reads
-use Rattle.rl_ast.proofs.fields.is_multiple.Reads as is-multiple-reads
 use Rattle.rl_ast.proofs.FieldLaws.{list-far, list-in, list-odd}
 
 ruleset laws = (list-far, list-in, list-odd)
 
--- src/fields.rt:233:16
 cast-most : tie.Need-cast-most
 cast-most c = search needs
 
--- src/fields.rt:234:15
 add-if1 : tie.Need-add-if1
 add-if1 c = search needs
 
--- src/fields.rt:235:9
 returns : tie.Need-returns
 returns c = search (laws, needs)
 
--- src/fields.rt:239:8
 is-multiple-requires : tie.Need-is-multiple-requires
 is-multiple-requires c κs = search needs
 
--- src/fields.rt:240:9
 entries-requires : tie.Need-entries-requires
 entries-requires c κs = search needs
 
--- src/fields.rt:240:9
 returns-2 : tie.Need-returns-2
 returns-2 c = search (laws, needs)
 
--- src/fields.rt:218:1
 returns-3 : tie.Need-returns-3
 returns-3 c = search (laws, needs)
 

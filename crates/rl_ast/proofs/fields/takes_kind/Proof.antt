@@ -1,61 +1,46 @@
 use borrow.Author.Needs.{needs}
 use Rattle.rl_ast.proofs.fields.takes_kind.Statement.{statement}
 use Rattle.rl_ast.proofs.fields.takes_kind.Tie as tie
-use Rattle.rl_ast.proofs.fields.takes_kind.Reads as reads
-use Rattle.rl_ast.proofs.fields.takes_kind.Lts as lts
 use Rattle.rl_ast.proofs.FieldLaws.{takes-is, takes-first, takes-second}
 
 ruleset laws = (takes-is, takes-first, takes-second)
 
--- src/fields.rt:38:25
 enum-told : tie.Need-enum-told
 enum-told c = search needs
 
--- src/fields.rt:39:31
 enum-told-2 : tie.Need-enum-told-2
 enum-told-2 c = search needs
 
--- src/fields.rt:40:30
 enum-told-3 : tie.Need-enum-told-3
 enum-told-3 c = search needs
 
--- src/fields.rt:41:27
 enum-told-4 : tie.Need-enum-told-4
 enum-told-4 c = search needs
 
--- src/fields.rt:43:16
 enum-told-5 : tie.Need-enum-told-5
 enum-told-5 c = search needs
 
--- src/fields.rt:44:17
 returns : tie.Need-returns
 returns c = search (laws, needs)
 
--- src/fields.rt:48:24
 enum-told-6 : tie.Need-enum-told-6
 enum-told-6 c = search needs
 
--- src/fields.rt:34:1
 returns-2 : tie.Need-returns-2
 returns-2 c = search needs
 
--- src/fields.rt:34:1
 returns-3 : tie.Need-returns-3
 returns-3 c = search needs
 
--- src/fields.rt:34:1
 returns-4 : tie.Need-returns-4
 returns-4 c = search (laws, needs)
 
--- src/fields.rt:34:1
 returns-5 : tie.Need-returns-5
 returns-5 c = search (laws, needs)
 
--- src/fields.rt:34:1
 returns-6 : tie.Need-returns-6
 returns-6 c = search (laws, needs)
 
--- src/fields.rt:34:1
 returns-7 : tie.Need-returns-7
 returns-7 c = search (laws, needs)
 

@@ -1,74 +1,57 @@
 use borrow.Author.Needs.{needs}
 use Rattle.rl_ast.proofs.reader.after_header.Statement.{statement}
 use Rattle.rl_ast.proofs.reader.after_header.Tie as tie
-use Rattle.rl_ast.proofs.reader.after_header.Reads as reads
-use Rattle.rl_ast.proofs.reader.after_header.Lts as lts
-use Rattle.rl_ast.proofs.reader.all_sections.Reads as all-sections-reads
-use Rattle.rl_bytes.proofs.is_past.Reads as is-past-reads
+use Rattle.rl_ast.proofs.ReaderLaws.{body-past, body-left, body-end, body-stop}
 
--- src/reader.rt:228:16
+ruleset laws = (body-past, body-left, body-end, body-stop)
+
 cast-size : tie.Need-cast-size
 cast-size c = search needs
 
--- src/reader.rt:229:8
 is-past-requires : tie.Need-is-past-requires
 is-past-requires c κs = search needs
 
--- src/reader.rt:230:9
 returns : tie.Need-returns
-returns c = ?
+returns c = search (laws, needs)
 
--- src/reader.rt:235:34
 add-all-sections : tie.Need-add-all-sections
 add-all-sections c = search needs
 
--- src/reader.rt:235:9
 all-sections-requires : tie.Need-all-sections-requires
 all-sections-requires c κs = search needs
 
--- src/reader.rt:237:22
 enum-known-all : tie.Need-enum-known-all
 enum-known-all c = search needs
 
--- src/reader.rt:239:17
 same-length : tie.Need-same-length
 same-length c = search needs
 
--- src/reader.rt:239:17
 same-length-2 : tie.Need-same-length-2
 same-length-2 c = search needs
 
--- src/reader.rt:239:17
 returns-2 : tie.Need-returns-2
-returns-2 c = ?
+returns-2 c = search (laws, needs)
 
--- src/reader.rt:246:22
 enum-known-all-2 : tie.Need-enum-known-all-2
 enum-known-all-2 c = search needs
 
--- src/reader.rt:224:1
 same-length-3 : tie.Need-same-length-3
 same-length-3 c = search needs
 
--- src/reader.rt:224:1
 same-length-4 : tie.Need-same-length-4
 same-length-4 c = search needs
 
--- src/reader.rt:224:1
 returns-3 : tie.Need-returns-3
-returns-3 c = ?
+returns-3 c = search (laws, needs)
 
--- src/reader.rt:224:1
 same-length-5 : tie.Need-same-length-5
 same-length-5 c = search needs
 
--- src/reader.rt:224:1
 same-length-6 : tie.Need-same-length-6
 same-length-6 c = search needs
 
--- src/reader.rt:224:1
 returns-4 : tie.Need-returns-4
-returns-4 c = ?
+returns-4 c = search (laws, needs)
 
 pub after-header-spec : {M : Type 1} → statement M
 after-header-spec =

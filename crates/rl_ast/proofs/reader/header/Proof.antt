@@ -1,44 +1,31 @@
 use borrow.Author.Needs.{needs}
 use Rattle.rl_ast.proofs.reader.header.Statement.{statement}
 use Rattle.rl_ast.proofs.reader.header.Tie as tie
-use Rattle.rl_ast.proofs.reader.header.Reads as reads
-use Rattle.rl_ast.proofs.reader.header.Lts as lts
-use Rattle.rl_ast.proofs.reader.count_step.Reads as count-step-reads
-use Rattle.rl_bytes.proofs.byte_at.Reads as byte-at-reads
-use Rattle.rl_bytes.proofs.is_past.Reads as is-past-reads
 use Rattle.rl_ast.proofs.ReaderLaws.{header-past, header-kind, header-arena, header-counts}
 
 ruleset laws = (header-past, header-kind, header-arena, header-counts)
 
--- src/reader.rt:65:8
 is-past-requires : tie.Need-is-past-requires
 is-past-requires c κs = search needs
 
--- src/reader.rt:66:9
 returns : tie.Need-returns
 returns c = search (laws, needs)
 
--- src/reader.rt:71:8
 byte-at-requires : tie.Need-byte-at-requires
 byte-at-requires c κs = search needs
 
--- src/reader.rt:72:12
 is-past-requires-2 : tie.Need-is-past-requires-2
 is-past-requires-2 c κs = search needs
 
--- src/reader.rt:73:13
 returns-2 : tie.Need-returns-2
 returns-2 c = search (laws, needs)
 
--- src/reader.rt:78:9
 count-step-requires : tie.Need-count-step-requires
 count-step-requires c κs = search needs
 
--- src/reader.rt:78:9
 returns-3 : tie.Need-returns-3
 returns-3 c = search (laws, needs)
 
--- src/reader.rt:62:1
 returns-4 : tie.Need-returns-4
 returns-4 c = search (laws, needs)
 

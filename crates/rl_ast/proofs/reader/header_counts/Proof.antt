@@ -1,50 +1,37 @@
 use borrow.Author.Needs.{needs}
 use Rattle.rl_ast.proofs.reader.header_counts.Statement.{statement}
 use Rattle.rl_ast.proofs.reader.header_counts.Tie as tie
-use Rattle.rl_ast.proofs.reader.header_counts.Reads as reads
-use Rattle.rl_ast.proofs.reader.header_counts.Lts as lts
-use Rattle.rl_bytes.proofs.u16_at.Reads as u16-at-reads
 use Rattle.rl_ast.proofs.ReaderLaws.{counts-are}
 
 ruleset laws = (counts-are)
 
--- src/reader.rt:90:16
 u16-at-requires : tie.Need-u16-at-requires
 u16-at-requires c κs = search needs
 
--- src/reader.rt:91:16
 u16-at-requires-2 : tie.Need-u16-at-requires-2
 u16-at-requires-2 c κs = search needs
 
--- src/reader.rt:92:16
 u16-at-requires-3 : tie.Need-u16-at-requires-3
 u16-at-requires-3 c κs = search needs
 
--- src/reader.rt:93:22
 u16-at-requires-4 : tie.Need-u16-at-requires-4
 u16-at-requires-4 c κs = search needs
 
--- src/reader.rt:94:21
 u16-at-requires-5 : tie.Need-u16-at-requires-5
 u16-at-requires-5 c κs = search needs
 
--- src/reader.rt:95:21
 u16-at-requires-6 : tie.Need-u16-at-requires-6
 u16-at-requires-6 c κs = search needs
 
--- src/reader.rt:96:18
 u16-at-requires-7 : tie.Need-u16-at-requires-7
 u16-at-requires-7 c κs = search needs
 
--- src/reader.rt:97:20
 u16-at-requires-8 : tie.Need-u16-at-requires-8
 u16-at-requires-8 c κs = search needs
 
--- src/reader.rt:98:16
 u16-at-requires-9 : tie.Need-u16-at-requires-9
 u16-at-requires-9 c κs = search needs
 
--- src/reader.rt:86:1
 returns : tie.Need-returns
 returns c = search (laws, needs)
 

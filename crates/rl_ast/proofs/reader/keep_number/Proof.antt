@@ -1,14 +1,10 @@
 use borrow.Author.Needs.{needs}
 use Rattle.rl_ast.proofs.reader.keep_number.Statement.{statement}
 use Rattle.rl_ast.proofs.reader.keep_number.Tie as tie
-use Rattle.rl_ast.proofs.reader.keep_number.Reads as reads
-use Rattle.rl_ast.proofs.reader.keep_number.Lts as lts
-use Rattle.rl_bytes.proofs.put.Reads as put-reads
 use Rattle.rl_ast.proofs.ReaderLaws.{keep-is}
 
 ruleset laws = (keep-is)
 
--- src/reader.rt:155:17
 cast-first : tie.Need-cast-first
 cast-first c = search needs
 
@@ -18,23 +14,18 @@ enum-told c = search needs
 enum-told-2 : tie.Need-enum-told-2
 enum-told-2 c = search needs
 
--- src/reader.rt:159:37
 enum-told-3 : tie.Need-enum-told-3
 enum-told-3 c = search needs
 
--- src/reader.rt:159:33
 put-requires : tie.Need-put-requires
 put-requires c κs = search needs
 
--- src/reader.rt:160:36
 enum-told-4 : tie.Need-enum-told-4
 enum-told-4 c = search needs
 
--- src/reader.rt:160:39
 add-put : tie.Need-add-put
 add-put c = search needs
 
--- src/reader.rt:160:32
 put-requires-2 : tie.Need-put-requires-2
 put-requires-2 c κs = search needs
 
@@ -50,43 +41,33 @@ enum-told-7 c = search needs
 enum-told-8 : tie.Need-enum-told-8
 enum-told-8 c = search needs
 
--- src/reader.rt:152:1
 returns : tie.Need-returns
 returns c = search (laws, needs)
 
--- src/reader.rt:152:1
 returns-2 : tie.Need-returns-2
 returns-2 c = search (laws, needs)
 
--- src/reader.rt:152:1
 same-length : tie.Need-same-length
 same-length c = search needs
 
--- src/reader.rt:152:1
 returns-3 : tie.Need-returns-3
 returns-3 c = search (laws, needs)
 
--- src/reader.rt:152:1
 same-length-2 : tie.Need-same-length-2
 same-length-2 c = search needs
 
--- src/reader.rt:152:1
 returns-4 : tie.Need-returns-4
 returns-4 c = search (laws, needs)
 
--- src/reader.rt:152:1
 returns-5 : tie.Need-returns-5
 returns-5 c = search (laws, needs)
 
--- src/reader.rt:152:1
 returns-6 : tie.Need-returns-6
 returns-6 c = search (laws, needs)
 
--- src/reader.rt:152:1
 returns-7 : tie.Need-returns-7
 returns-7 c = search (laws, needs)
 
--- src/reader.rt:152:1
 returns-8 : tie.Need-returns-8
 returns-8 c = search (laws, needs)
 

@@ -1,83 +1,61 @@
 use borrow.Author.Needs.{needs}
 use Rattle.rl_ast.proofs.reader.seen_by.Statement.{statement}
 use Rattle.rl_ast.proofs.reader.seen_by.Tie as tie
-use Rattle.rl_ast.proofs.reader.seen_by.Reads as reads
-use Rattle.rl_ast.proofs.reader.seen_by.Lts as lts
-use Rattle.rl_ast.proofs.reader.seen_by_expression.Reads as seen-by-expression-reads
-use Rattle.rl_ast.proofs.reader.seen_by_statement.Reads as seen-by-statement-reads
 use Rattle.rl_ast.proofs.ReaderLaws.{seen-is}
 
 ruleset laws = (seen-is)
 
--- src/reader.rt:140:27
 enum-told : tie.Need-enum-told
 enum-told c = search needs
 
--- src/reader.rt:141:27
 enum-told-2 : tie.Need-enum-told-2
 enum-told-2 c = search needs
 
--- src/reader.rt:142:33
 enum-told-3 : tie.Need-enum-told-3
 enum-told-3 c = search needs
 
--- src/reader.rt:142:33
 seen-by-expression-requires : tie.Need-seen-by-expression-requires
 seen-by-expression-requires c κs = search needs
 
--- src/reader.rt:143:32
 enum-told-4 : tie.Need-enum-told-4
 enum-told-4 c = search needs
 
--- src/reader.rt:143:32
 seen-by-statement-requires : tie.Need-seen-by-statement-requires
 seen-by-statement-requires c κs = search needs
 
--- src/reader.rt:144:32
 enum-told-5 : tie.Need-enum-told-5
 enum-told-5 c = search needs
 
--- src/reader.rt:145:29
 enum-told-6 : tie.Need-enum-told-6
 enum-told-6 c = search needs
 
--- src/reader.rt:146:31
 enum-told-7 : tie.Need-enum-told-7
 enum-told-7 c = search needs
 
--- src/reader.rt:147:27
 enum-told-8 : tie.Need-enum-told-8
 enum-told-8 c = search needs
 
--- src/reader.rt:136:1
 returns : tie.Need-returns
 returns c = search needs
 
--- src/reader.rt:136:1
 returns-2 : tie.Need-returns-2
 returns-2 c = search needs
 
--- src/reader.rt:136:1
 returns-3 : tie.Need-returns-3
 returns-3 c = search (laws, needs)
 
--- src/reader.rt:136:1
 returns-4 : tie.Need-returns-4
 returns-4 c = search (laws, needs)
 
--- src/reader.rt:136:1
 returns-5 : tie.Need-returns-5
 returns-5 c = search needs
 
--- src/reader.rt:136:1
 returns-6 : tie.Need-returns-6
 returns-6 c = search needs
 
--- src/reader.rt:136:1
 returns-7 : tie.Need-returns-7
 returns-7 c = search needs
 
--- src/reader.rt:136:1
 returns-8 : tie.Need-returns-8
 returns-8 c = search needs
 

@@ -1,17 +1,13 @@
 use borrow.Author.Needs.{needs}
 use Rattle.rl_ast.proofs.schema.from_to.Statement.{statement}
 use Rattle.rl_ast.proofs.schema.from_to.Tie as tie
-use Rattle.rl_ast.proofs.schema.from_to.Reads as reads
-use Rattle.rl_ast.proofs.schema.from_to.Lts as lts
 use Rattle.rl_ast.proofs.Rows.{from-below, from-not}
 
 ruleset laws = (from-below, from-not)
 
--- src/schema.rt:245:9
 returns : tie.Need-returns
 returns c = search (laws, needs)
 
--- src/schema.rt:241:1
 returns-2 : tie.Need-returns-2
 returns-2 c = search (laws, needs)
 
