@@ -1,5 +1,5 @@
 -- What the reader answers for every image and length of the work slice, and what it leaves there.
-use Prim.Native.Nat.{ℕ, zero, suc, _+_}
+use Prim.Native.Nat.{ℕ, zero, suc, _+_, _*_, _^_}
 use mathlib.Core.Bool.{Bool, true, false}
 use mathlib.Core.List.{List, [], _∷_}
 use lib.ListN.{length, getD, set, replicate}
@@ -191,3 +191,7 @@ numberIn (Refused c q) = numberOf c
 abbrev pub placeIn : Answer → ℕ
 placeIn (Accepted a c) = 0
 placeIn (Refused c q) = q
+
+-- both in one number: the number above the 32 low bits, the place in them
+abbrev pub packed : Answer → ℕ
+packed a = numberIn a * 2 ^ 32 + placeIn a
