@@ -13,8 +13,9 @@ use Rattle.rl_spec.specs.declared.Counts.{Counts}
 use Rattle.rl_spec.specs.declared.Cause.{Cause}
 use Rattle.rl_spec.specs.declared.Cause.the-variants.{BytesEnd, WrongKind, BadText, BadValue, BadReference, TooHigh}
 use Rattle.rl_spec.specs.declared.Section.{Section}
+use Rattle.rl_spec.specs.declared.Section.the-variants.{Expressions}
 use Rattle.rl_spec.specs.declared.Target.{Target}
-use Rattle.rl_spec.specs.declared.Target.the-variants.{Text}
+use Rattle.rl_spec.specs.declared.Target.the-variants.{Text, Expression}
 use Rattle.rl_spec.specs.declared.Check.{Check}
 use Rattle.rl_spec.specs.declared.Check.the-variants.{Holds, Fails}
 use Rattle.rl_spec.specs.Bytes.{pick, u16At}
@@ -189,6 +190,42 @@ entries-start s w p seen own first count tall l r =
     let a : count - 0 ≡ count = omega arith in
     let b : first + 0 ≡ first = omega arith in
     rw (a, b)
+
+-- ---- a list of expressions in an expression
+
+module _ (s p : List ℕ) (seen : Counts) (n : ℕ) where
+  node-in : n < seen .expressions → allowed s p seen Expression n ≡ true
+  unfolding allowed
+  node-in q = rw (lt-ltb n (seen .expressions) q) refl
+
+  node-out : seen .expressions ≤ n → allowed s p seen Expression n ≡ false
+  unfolding allowed
+  node-out q = rw (le-ltb n (seen .expressions) q) refl
+
+node-child : (w : List ℕ) (seen : Counts) (n : ℕ) → getD w n 0 ≡ childHeight w seen Expressions Expression n
+unfolding childHeight
+node-child w seen n = refl
+
+module _ (s : List ℕ) (seen : Counts) (first start : ℕ) (a : start ≡ 23 + seen .bytes + seen .texts * 5 + first * 3 + 1) where
+  entry-here : (i n : ℕ) → n ≡ getD s (start + i * 3) 0 + getD s (start + i * 3 + 1) 0 * 256 → n ≡ entryAt s seen (first + i)
+  unfolding entryAt u16At
+  entry-here i n e =
+      let b : 23 + seen .bytes + seen .texts * 5 + (first + i) * 3 + 1 ≡ start + i * 3 = omega arith in
+      rw b e
+
+  module _ (w p : List ℕ) (count i tall : ℕ) (whole : Check) (v : whole ≡ entriesFrom s w p seen Expressions (count - i) (first + i) Expression Expression tall) (q : i < count) (n : ℕ) (e : n ≡ getD s (start + i * 3) 0 + getD s (start + i * 3 + 1) 0 * 256) where
+    pub nodes-more : n < seen .expressions → (t : ℕ) → t ≡ max tall (getD w n 0) → whole ≡ entriesFrom s w p seen Expressions (count - (i + 1)) (first + (i + 1)) Expression Expression t
+    nodes-more x t y =
+        entries-more s w p seen Expressions first count i tall Expression Expression whole v q n (entry-here i n e) true
+        (sym (node-in s p seen n x)) refl (getD w n 0) (node-child w seen n) t y
+
+    pub nodes-bad : seen .expressions ≤ n → Fails BadReference ≡ whole
+    nodes-bad x =
+        entries-bad s w p seen Expressions first count i tall Expression Expression whole v q n (entry-here i n e) false
+        (sym (node-out s p seen n x)) refl
+
+pub nodes-are : (s w p : List ℕ) (seen : Counts) (own : Section) (first count tall : ℕ) (l r : Target) (x : Check) → own ≡ Expressions → l ≡ Expression → r ≡ Expression → x ≡ entriesFrom s w p seen Expressions count first Expression Expression tall → x ≡ entriesFrom s w p seen own count first l r tall
+nodes-are s w p seen own first count tall l r x e f g h = rw (e, f, g) h
 
 -- ---- a list, and an operand
 

@@ -8,6 +8,7 @@ use crate::schema::width_of;
 use rl_bytes::byte_at;
 use rl_bytes::byte_before;
 use rl_bytes::is_past;
+use rl_bytes::join16;
 use rl_bytes::larger;
 use rl_bytes::part;
 use rl_bytes::second_u16;
@@ -23,12 +24,13 @@ use rl_spec::Step;
 use rl_spec::Target;
 ghost use mathlib.Core.Path.{_≡_};
 ghost use mathlib.Core.Bool.{false};
-ghost use Prim.Native.Nat.{_+_, _%_, _≤_};
+ghost use Prim.Native.Nat.{_+_, _*_, _%_, _≤_};
 ghost use lib.ListN.{length, getD};
 ghost use lib.Dec.{leb, eqb};
 ghost use Rattle.rl_spec.specs.Schema.{fieldsOf};
 ghost use Rattle.rl_spec.specs.Bytes.{pick};
-ghost use Rattle.rl_spec.specs.Fields.{unless, takes, within, kindOfStatement, allowed, childHeight, entryAt, rangeOf, partOf, byteIn, operandSortOf, zeros, referTo, referOrNone, entriesFrom, listOf, operandOf, fieldAt, fieldsFrom, recordAt, nodeHeight, statementHeight};
+ghost use Rattle.rl_ast.specs.Codes.{table};
+ghost use Rattle.rl_spec.specs.Fields.{listsAt, unless, takes, within, kindOfStatement, allowed, childHeight, entryAt, rangeOf, partOf, byteIn, operandSortOf, zeros, referTo, referOrNone, entriesFrom, listOf, operandOf, fieldAt, fieldsFrom, recordAt, nodeHeight, statementHeight};
 
 // Whether a reference may find a statement of this kind.
 fn takes_kind(target: Target, kind: u8) -> bool
@@ -205,6 +207,98 @@ fn entries(
     Check::Holds { tall: t }
 }
 
+// The entries of a list of expressions in an expression.
+fn node_entries(
+    s: &[u8],
+    w: &[u16],
+    p: &[u16],
+    seen: Counts,
+    first: u16,
+    count: u16,
+    tall: u16,
+) -> Check
+    requires { ⌜ listsAt seen + (first + count) * 3 ≤ length (now s) ⌝ }
+    requires { ⌜ seen .expressions ≤ length (now w) ⌝ }
+    ensures { λ r. ⌜ r ≡ entriesFrom (now (s .entry)) (now (w .entry)) (now (p .entry)) seen Section.Expressions count first Target.Expression Target.Expression tall ⌝ }
+{
+    let from = 23 + (seen.bytes as usize) + (seen.texts as usize) * 5;
+    let start = from + (first as usize) * 3 + 1;
+    let mut t = tall;
+    let mut i: u16 = 0;
+    while i < count {
+        let at = start + (i as usize) * 3;
+        let n = join16(s[at], s[at + 1]);
+        if n < seen.expressions {
+            t = larger(t, w[n as usize]);
+        } else {
+            return Check::Fails {
+                cause: Cause::BadReference,
+            };
+        }
+        i += 1;
+    }
+    Check::Holds { tall: t }
+}
+
+// The same, where the image and the work have the room that an accepted header gives them; else by the general way.
+fn node_list(
+    s: &[u8],
+    w: &[u16],
+    p: &[u16],
+    seen: Counts,
+    first: u16,
+    count: u16,
+    tall: u16,
+) -> Check
+    ensures { λ r. ⌜ r ≡ entriesFrom (now (s .entry)) (now (w .entry)) (now (p .entry)) seen Section.Expressions count first Target.Expression Target.Expression tall ⌝ }
+{
+    let from = 23 + (seen.bytes as usize) + (seen.texts as usize) * 5;
+    let end = from + ((first as usize) + (count as usize)) * 3;
+    let limit = seen.expressions as usize;
+    if end <= s.len() {
+        if limit <= w.len() {
+            return node_entries(s, w, p, seen, first, count, tall);
+        }
+    }
+    entries(
+        s,
+        w,
+        p,
+        seen,
+        Section::Expressions,
+        first,
+        count,
+        Target::Expression,
+        Target::Expression,
+        tall,
+    )
+}
+
+// The entries of a list: of expressions in an expression, or any.
+fn all_entries(
+    s: &[u8],
+    w: &[u16],
+    p: &[u16],
+    seen: Counts,
+    own: Section,
+    first: u16,
+    count: u16,
+    left: Target,
+    right: Target,
+    tall: u16,
+) -> Check
+    ensures { λ r. ⌜ r ≡ entriesFrom (now (s .entry)) (now (w .entry)) (now (p .entry)) seen own count first left right tall ⌝ }
+{
+    if let Section::Expressions = own {
+        if let Target::Expression = left {
+            if let Target::Expression = right {
+                return node_list(s, w, p, seen, first, count, tall);
+            }
+        }
+    }
+    entries(s, w, p, seen, own, first, count, left, right, tall)
+}
+
 // Whether the count is a multiple of the step; of 0, only 0 is.
 fn is_multiple(count: u16, step: u8) -> bool
     ensures { λ r. ⌜ r ≡ eqb (count % step) 0 ⌝ }
@@ -237,7 +331,7 @@ fn list_of(
         };
     }
     if is_multiple(count, step) {
-        return entries(s, w, p, seen, own, first, count, left, right, tall);
+        return all_entries(s, w, p, seen, own, first, count, left, right, tall);
     }
     Check::Fails {
         cause: Cause::BadReference,
@@ -404,6 +498,7 @@ fn field(
 // The fields of a kind, left to right.
 fn fields(
     s: &[u8],
+    rows: &[u64; 84],
     w: &[u16],
     p: &[u16],
     seen: Counts,
@@ -411,9 +506,10 @@ fn fields(
     kind: u8,
     start: usize,
 ) -> Step
+    requires { ⌜ now rows ≡ table ⌝ }
     ensures { λ r. ⌜ r ≡ fieldsFrom (now (s .entry)) (now (w .entry)) (now (p .entry)) seen own (fieldsOf kind) start 0 ⌝ }
 {
-    let mut rest = row_of(kind);
+    let mut rest = row_of(rows, kind);
     let mut at = start;
     let mut tall: u16 = 0;
     while rest != 0 {
@@ -434,7 +530,16 @@ fn fields(
 }
 
 // One record: its kind, its fields, its height.
-pub fn record(s: &[u8], w: &[u16], p: &[u16], seen: Counts, own: Section, at: usize) -> Step
+pub fn record(
+    s: &[u8],
+    rows: &[u64; 84],
+    w: &[u16],
+    p: &[u16],
+    seen: Counts,
+    own: Section,
+    at: usize,
+) -> Step
+    requires { ⌜ now rows ≡ table ⌝ }
     ensures { λ r. ⌜ r ≡ recordAt (now (s .entry)) (now (w .entry)) (now (p .entry)) seen own at ⌝ }
 {
     if is_past(s, at, 1) {
@@ -445,7 +550,7 @@ pub fn record(s: &[u8], w: &[u16], p: &[u16], seen: Counts, own: Section, at: us
     }
     let kind = s[at];
     if in_section(own, kind) {
-        let step = fields(s, w, p, seen, own, kind, at + 1);
+        let step = fields(s, rows, w, p, seen, own, kind, at + 1);
         match step {
             Step::Next { at: a, tall } => {
                 if tall < tallest_in(own) {

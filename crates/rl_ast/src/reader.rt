@@ -1,6 +1,7 @@
 // The reader: the header, the sections, the whole.
 use crate::fields::record;
 use crate::schema::count_in;
+use crate::schema::schema_table;
 use crate::schema::section_at;
 use rl_bytes::byte_at;
 use rl_bytes::clear;
@@ -17,6 +18,7 @@ use rl_spec::Step;
 ghost use mathlib.Core.Path.{_≡_};
 ghost use Prim.Native.Nat.{_≤_};
 ghost use lib.ListN.{length, getD};
+ghost use Rattle.rl_ast.specs.Codes.{table};
 ghost use Rattle.rl_spec.specs.Schema.{limits, sections};
 ghost use Rattle.rl_spec.specs.Read.{countsOf, countsFrom, headerOf, seenBy, keep, outOf, recordsFrom, sectionsFrom, bodyOf, contentOf, answerOf, workOf, startsOf};
 
@@ -168,6 +170,7 @@ fn keep_number(c: Counts, own: Section, i: u16, x: u16, w: &mut [u16])
 // The records of a section.
 fn records(
     s: &[u8],
+    rows: &[u64; 84],
     c: Counts,
     own: Section,
     count: u16,
@@ -176,12 +179,13 @@ fn records(
     p: &mut [u16],
 ) -> Step
     requires { ⌜ length (now s) ≤ 65535 ⌝ }
+    requires { ⌜ now rows ≡ table ⌝ }
     ensures { λ r. ⌜ outOf r (now (w .exit)) (now (p .exit)) ≡ recordsFrom (now (s .entry)) c own count 0 start (now (w .entry)) (now (p .entry)) ⌝ }
 {
     let mut at = start;
     let mut i: u16 = 0;
     while i < count {
-        let step = record(s, w, p, seen_by(c, own, i), own, at);
+        let step = record(s, rows, w, p, seen_by(c, own, i), own, at);
         match step {
             Step::Next { at: a, tall } => {
                 keep_number(c, own, i, tall, w);
@@ -198,15 +202,23 @@ fn records(
 }
 
 // The sections, in order.
-fn all_sections(s: &[u8], c: Counts, start: usize, w: &mut [u16], p: &mut [u16]) -> Step
+fn all_sections(
+    s: &[u8],
+    rows: &[u64; 84],
+    c: Counts,
+    start: usize,
+    w: &mut [u16],
+    p: &mut [u16],
+) -> Step
     requires { ⌜ length (now s) ≤ 65535 ⌝ }
+    requires { ⌜ now rows ≡ table ⌝ }
     ensures { λ r. ⌜ outOf r (now (w .exit)) (now (p .exit)) ≡ sectionsFrom (now (s .entry)) c sections start (now (w .entry)) (now (p .entry)) ⌝ }
 {
     let mut at = start;
     let mut j = 0;
     while j < 8 {
         let own = section_at(j);
-        let step = records(s, c, own, count_in(c, own), at, w, p);
+        let step = records(s, rows, c, own, count_in(c, own), at, w, p);
         match step {
             Step::Next { at: a, tall: _ } => {
                 at = a;
@@ -221,8 +233,9 @@ fn all_sections(s: &[u8], c: Counts, start: usize, w: &mut [u16], p: &mut [u16])
 }
 
 // After the header: the text bytes, the sections, the end.
-fn after_header(s: &[u8], c: Counts, w: &mut [u16], p: &mut [u16]) -> Step
+fn after_header(s: &[u8], rows: &[u64; 84], c: Counts, w: &mut [u16], p: &mut [u16]) -> Step
     requires { ⌜ length (now s) ≤ 65535 ⌝ }
+    requires { ⌜ now rows ≡ table ⌝ }
     ensures { λ r. ⌜ outOf r (now (w .exit)) (now (p .exit)) ≡ bodyOf (now (s .entry)) c (now (w .entry)) (now (p .entry)) ⌝ }
 {
     let size = c.bytes as usize;
@@ -232,7 +245,7 @@ fn after_header(s: &[u8], c: Counts, w: &mut [u16], p: &mut [u16]) -> Step
             place: 23,
         };
     }
-    let all = all_sections(s, c, 23 + size, w, p);
+    let all = all_sections(s, rows, c, 23 + size, w, p);
     match all {
         Step::Next { at, tall } => {
             if at < s.len() {
@@ -248,13 +261,14 @@ fn after_header(s: &[u8], c: Counts, w: &mut [u16], p: &mut [u16]) -> Step
 }
 
 // The image's content, where its length is within the limit.
-fn content(s: &[u8], w: &mut [u16], p: &mut [u16]) -> Step
+fn content(s: &[u8], rows: &[u64; 84], w: &mut [u16], p: &mut [u16]) -> Step
     requires { ⌜ length (now s) ≤ 65535 ⌝ }
+    requires { ⌜ now rows ≡ table ⌝ }
     ensures { λ r. ⌜ outOf r (now (w .exit)) (now (p .exit)) ≡ contentOf (now (s .entry)) (now (w .entry)) (now (p .entry)) ⌝ }
 {
     let head = header(s);
     match head {
-        Step::Next { at: _, tall: _ } => after_header(s, header_counts(s), w, p),
+        Step::Next { at: _, tall: _ } => after_header(s, rows, header_counts(s), w, p),
         Step::Stop { cause, place } => Step::Stop { cause, place },
     }
 }
@@ -280,7 +294,8 @@ pub fn read_starts(image: &[u8], work: &mut [u16], starts: &mut [u16; 6144]) -> 
             place: 0,
         };
     }
-    let all = content(image, work, starts);
+    let rows = schema_table();
+    let all = content(image, &rows, work, starts);
     match all {
         Step::Next { at, tall } => Answer::Accepted {
             arena: ArenaNo(u32_at(image, 1)),

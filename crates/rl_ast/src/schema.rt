@@ -9,7 +9,7 @@ ghost use lib.Dec.{ltb, leb};
 ghost use Rattle.rl_spec.specs.Bytes.{pick};
 ghost use lib.ListN.{getD};
 ghost use Rattle.rl_spec.specs.Schema.{fieldsOf, sortOf, widthOf, inSection, tallest, sections, countOf};
-ghost use Rattle.rl_ast.specs.Codes.{codes};
+ghost use Rattle.rl_ast.specs.Codes.{codes, table};
 
 // The schema: for each kind its fields' codes, one byte each, the first lowest; 0 where it is no kind.
 const SCHEMA: [u64; 84] = [
@@ -163,10 +163,18 @@ const SCHEMA: [u64; 84] = [
     0x13_03_0c,
 ];
 
-pub fn row_of(kind: u8) -> u64
+// The table. It is made once for an image and lent on, since each use of the constant makes it anew.
+pub fn schema_table() -> [u64; 84]
+    ensures { λ r. ⌜ r ≡ table ⌝ }
+{
+    SCHEMA
+}
+
+pub fn row_of(rows: &[u64; 84], kind: u8) -> u64
+    requires { ⌜ now rows ≡ table ⌝ }
     ensures { λ r. ⌜ codes r ≡ fieldsOf kind ⌝ }
 {
-    if kind < 84 { SCHEMA[kind as usize] } else { 0 }
+    if kind < 84 { rows[kind as usize] } else { 0 }
 }
 
 pub fn sort_of(code: u8) -> Sort

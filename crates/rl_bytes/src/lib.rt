@@ -16,7 +16,7 @@ pub fn word_at(w: &[u16], at: usize) -> u16
     if at < w.len() { w[at] } else { 0 }
 }
 
-fn join16(low: u8, high: u8) -> u16
+pub fn join16(low: u8, high: u8) -> u16
     ensures { λ r. ⌜ r ≡ low + high * 256 ⌝ }
 {
     (low as u16) + (high as u16) * 256

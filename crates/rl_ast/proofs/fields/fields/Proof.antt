@@ -6,52 +6,71 @@ use Prim.Native.Nat.{_^_, _<_}
 use borrow.Author.Needs.{needs}
 use Rattle.rl_ast.proofs.fields.fields.Statement.{statement}
 use Rattle.rl_ast.proofs.fields.fields.Tie as tie
+use Rattle.rl_ast.proofs.fields.fields.Reads as reads
+use Rattle.rl_ast.proofs.fields.fields.Lts as lts
+use Rattle.rl_ast.proofs.fields.field.Reads as field-reads
+use Rattle.rl_ast.proofs.schema.row_of.Reads as row-of-reads
+use Rattle.rl_ast.proofs.schema.sort_of.Reads as sort-of-reads
+use Rattle.rl_ast.proofs.schema.width_of.Reads as width-of-reads
 use Rattle.rl_ast.proofs.RecordLaws.{fields-start, fields-end, fields-more, fields-bad, field-fits}
 
-ruleset laws = (fields-start, fields-end, fields-more, fields-bad)
+ruleset laws = (fields-start, fields-end, fields-more, fields-bad, field-fits)
 
 abbrev Inv-loop : tie.InvT-loop
-Inv-loop s w p seen own kind start rest₀ at₀ tall₀ rest at tall = (rest < 2 ^ 64) × (fieldsFrom s w p seen own (fieldsOf kind) start 0 ≡ fieldsFrom s w p seen own (codes rest) at tall)
+Inv-loop s rows w p seen own kind start rest₀ at₀ tall₀ rest at tall = (rest < 2 ^ 64) × (fieldsFrom s w p seen own (fieldsOf kind) start 0 ≡ fieldsFrom s w p seen own (codes rest) at tall)
 
 abbrev μ-loop : tie.MeasureT-loop
-μ-loop s w p seen own kind start rest₀ at₀ tall₀ rest at tall = rest
+μ-loop s rows w p seen own kind start rest₀ at₀ tall₀ rest at tall = rest
 
+-- src/fields.rt:454:9
 row-of-requires : tie.Need-row-of-requires Inv-loop μ-loop
 row-of-requires c κs = search (laws, needs)
 
+-- src/fields.rt:457:5
 loop-holds : tie.Need-loop-holds Inv-loop μ-loop
 loop-holds c = search (laws, needs)
 
+-- src/fields.rt:458:28
 cast-sort-of : tie.Need-cast-sort-of Inv-loop μ-loop
 cast-sort-of c = search (laws, needs)
 
+-- src/fields.rt:458:13
 sort-of-requires : tie.Need-sort-of-requires Inv-loop μ-loop
 sort-of-requires c κs = search (laws, needs)
 
+-- src/fields.rt:459:13
 field-requires : tie.Need-field-requires Inv-loop μ-loop
 field-requires c κs = search (laws, needs)
 
+-- src/fields.rt:461:34
 enum-known-check : tie.Need-enum-known-check Inv-loop μ-loop
 enum-known-check c = search (laws, needs)
 
+-- src/fields.rt:464:28
 enum-known-check-2 : tie.Need-enum-known-check-2 Inv-loop μ-loop
 enum-known-check-2 c = search (laws, needs)
 
+-- src/fields.rt:465:17
 returns : tie.Need-returns Inv-loop μ-loop
 returns c = search (laws, needs)
 
+-- src/fields.rt:468:15
 width-of-requires : tie.Need-width-of-requires Inv-loop μ-loop
 width-of-requires c κs = search (laws, needs)
 
+-- src/fields.rt:468:9
 add-at : tie.Need-add-at Inv-loop μ-loop
 add-at c = search (field-fits, needs)
 
+-- src/fields.rt:457:5
 loop-less : tie.Need-loop-less Inv-loop μ-loop
 loop-less c = search (laws, needs)
 
+-- src/fields.rt:457:5
 loop-again : tie.Need-loop-again Inv-loop μ-loop
 loop-again c = (search needs, fields-more _ _ _ _ _ _ _ _ _ (c .before .before .before .before .before .before .before .loop .inv .1) (c .before .before .before .before .before .before .loop-test .taken) (c .before .before .before .before .before .before .before .loop .inv .0) _ (c .before .before .before .before .before .sort-of .ensures) _ (c .before .before .before .before .field .ensures) _ (c .before .before .check .given .1) _ (c .width-of .ensures))
 
+-- src/fields.rt:441:1
 returns-2 : tie.Need-returns-2 Inv-loop μ-loop
 returns-2 c = search (laws, needs)
 
