@@ -15,6 +15,7 @@ use Rattle.rl_spec.specs.declared.Cause.{Cause}
 use Rattle.rl_spec.specs.declared.Cause.the-variants.{BytesEnd, WrongKind, BadValue, TooHigh}
 use Rattle.rl_spec.specs.declared.Section.{Section}
 use Rattle.rl_spec.specs.declared.Target.{Target}
+use Rattle.rl_spec.specs.declared.Target.the-variants.{Text, Expression}
 use Rattle.rl_spec.specs.declared.Sort.{Sort}
 use Rattle.rl_spec.specs.declared.Sort.the-variants.{Raw, Byte, Scalar, Part, One, Maybe, Many, Range, OperandSort, Operand}
 use Rattle.rl_spec.specs.declared.Check.{Check}
@@ -22,7 +23,7 @@ use Rattle.rl_spec.specs.declared.Check.the-variants.{Holds, Fails}
 use Rattle.rl_spec.specs.declared.Step.{Step}
 use Rattle.rl_spec.specs.declared.Step.the-variants.{Next, Stop}
 use Rattle.rl_spec.specs.Bytes.{pick, u16At, u32At, past}
-use Rattle.rl_spec.specs.Schema.{sortOf, widthOf, fieldsOf, inSection, tallest}
+use Rattle.rl_spec.specs.Schema.{raw4, node, text, sortOf, widthOf, fieldsOf, inSection, tallest}
 use Rattle.rl_spec.specs.Utf8.{isScalar}
 use Rattle.rl_spec.specs.Fields.{unless, byteIn, partOf, rangeOf, operandSortOf, referTo, referOrNone, listOf, operandOf, valueOf, fieldAt, checked, fieldsFrom, heightStep, recordAt}
 use Rattle.rl_ast.specs.Codes.{codes}
@@ -94,6 +95,37 @@ module _ (s w p : List ℕ) (seen : Counts) (own : Section) (o : Sort) (at tall 
         unfolding valueOf
         field-range k g v j = value (Range k) g v (rw (← h, ← i) j)
 
+module _ (s w p : List ℕ) (seen : Counts) (own : Section) (t : Target) (at tall : ℕ) (b : Bool) (f : b ≡ past s at 2) where
+  pub one-past : b ≡ true → Fails BytesEnd ≡ fieldAt s w p seen own (One t) at tall
+  one-past q = field-past s w p seen own (One t) at tall 2 b refl f q
+
+  pub one-there : b ≡ false → (x : ℕ) → x ≡ u16At s at → (v : Check) → v ≡ referTo s w p seen own t x tall → v ≡ fieldAt s w p seen own (One t) at tall
+  one-there q x h v j = field-one s w p seen own (One t) at tall 2 b refl f q x h t refl v j
+
+module _ (s w p : List ℕ) (seen : Counts) (own : Section) (code at tall : ℕ) where
+  coded : (k : ℕ) → code ≡ k → (v : Check) → v ≡ fieldAt s w p seen own (sortOf k) at tall → v ≡ fieldAt s w p seen own (sortOf code) at tall
+  coded k e v f = rw e f
+
+  module _ (e : code ≡ raw4) (b : Bool) (f : b ≡ past s at 4) where
+    pub coded-past : b ≡ true → Fails BytesEnd ≡ fieldAt s w p seen own (sortOf code) at tall
+    unfolding sortOf
+    coded-past q = coded raw4 e (Fails BytesEnd) (field-past s w p seen own (Raw 4) at tall 4 b refl f q)
+
+    pub coded-raw : b ≡ false → Holds tall ≡ fieldAt s w p seen own (sortOf code) at tall
+    unfolding sortOf
+    coded-raw q = coded raw4 e (Holds tall) (field-raw s w p seen own (Raw 4) at tall 4 b refl f q 4 refl)
+
+  pub coded-node : code ≡ node → (v : Check) → v ≡ fieldAt s w p seen own (One Expression) at tall → v ≡ fieldAt s w p seen own (sortOf code) at tall
+  unfolding sortOf
+  coded-node e v f = coded node e v f
+
+  pub coded-text : code ≡ text → (v : Check) → v ≡ fieldAt s w p seen own (One Text) at tall → v ≡ fieldAt s w p seen own (sortOf code) at tall
+  unfolding sortOf
+  coded-text e v f = coded text e v f
+
+  pub coded-sort : (o : Sort) → o ≡ sortOf code → (v : Check) → v ≡ fieldAt s w p seen own o at tall → v ≡ fieldAt s w p seen own (sortOf code) at tall
+  coded-sort o e v f = rw (← e) f
+
 -- a field that holds is there
 pub field-there : (s w p : List ℕ) (seen : Counts) (own : Section) (o : Sort) (at tall : ℕ) (r : Check) → r ≡ fieldAt s w p seen own o at tall → (t : ℕ) → r ≡ Holds t → at + widthOf o ≤ length s
 unfolding fieldAt
@@ -103,8 +135,10 @@ field-there s w p seen own o at tall r e t f = go (past s at (widthOf o)) refl (
     go true g h = let z : _≡_ {A = ℕ} 0 1 = cc in absurd (omega arith)
     go false g h = there s at (widthOf o) false g refl
 
-pub field-fits : (s w p : List ℕ) (seen : Counts) (own : Section) (o : Sort) (at tall : ℕ) (r : Check) → r ≡ fieldAt s w p seen own o at tall → (t : ℕ) → r ≡ Holds t → (m : ℕ) → m ≡ widthOf o → Fits w64 (length s) → Fits w64 (at + m)
-field-fits s w p seen own o at tall r e t f m g l = omega (arith, field-there s w p seen own o at tall r e t f)
+pub field-fits : (s w p : List ℕ) (seen : Counts) (own : Section) (o : Sort) (at tall : ℕ) (r : Check) → r ≡ fieldAt s w p seen own o at tall → (t : ℕ) → r ≡ Holds t → (q : Sort) → q ≡ o → (m : ℕ) → m ≡ widthOf q → Fits w64 (length s) → Fits w64 (at + m)
+field-fits s w p seen own o at tall r e t f q i m g l =
+    let h : m ≡ widthOf o = g ∙ ap widthOf i in
+    omega (arith, field-there s w p seen own o at tall r e t f)
 
 pub byte-fits : (s : List ℕ) (at : ℕ) (r : Bool) → r ≡ past s at 1 → r ≡ false → Fits w64 (length s) → Fits w64 (at + 1)
 byte-fits s at r e f l = omega (arith, there s at 1 r e f)
@@ -116,14 +150,14 @@ module _ (s w p : List ℕ) (seen : Counts) (own : Section) (rest at tall : ℕ)
   unfolding fieldsFrom
   fields-end q = rw (v, codes-none rest q) refl
 
-  module _ (q : rest ≡ 0 → ⊥) (l : rest < 2 ^ 64) (o : Sort) (e : o ≡ sortOf (rest % 256)) (r : Check) (f : r ≡ fieldAt s w p seen own o at tall) where
-    pub fields-more : (t : ℕ) → r ≡ Holds t → (m : ℕ) → m ≡ widthOf o → whole ≡ fieldsFrom s w p seen own (codes (rest / 256)) (at + m) t
+  module _ (q : rest ≡ 0 → ⊥) (l : rest < 2 ^ 64) (r : Check) (f : r ≡ fieldAt s w p seen own (sortOf (rest % 256)) at tall) where
+    pub fields-more : (t : ℕ) → r ≡ Holds t → (o : Sort) → o ≡ sortOf (rest % 256) → (m : ℕ) → m ≡ widthOf o → whole ≡ fieldsFrom s w p seen own (codes (rest / 256)) (at + m) t
     unfolding fieldsFrom
-    fields-more t g m h = rw (v, codes-more rest l q, ← e, ← f, g, ← h) refl
+    fields-more t g o e m h = rw (v, codes-more rest l q, ← f, g, h, e) refl
 
     pub fields-bad : (c : Cause) → r ≡ Fails c → Stop c at ≡ whole
     unfolding fieldsFrom
-    fields-bad c g = rw (v, codes-more rest l q, ← e, ← f, g) refl
+    fields-bad c g = rw (v, codes-more rest l q, ← f, g) refl
 
 pub fields-start : (s w p : List ℕ) (seen : Counts) (own : Section) (kind rest at : ℕ) → codes rest ≡ fieldsOf kind → fieldsFrom s w p seen own (fieldsOf kind) at 0 ≡ fieldsFrom s w p seen own (codes rest) at 0
 fields-start s w p seen own kind rest at e = rw e

@@ -27,7 +27,7 @@ ghost use mathlib.Core.Bool.{false};
 ghost use Prim.Native.Nat.{_+_, _*_, _%_, _≤_};
 ghost use lib.ListN.{length, getD};
 ghost use lib.Dec.{leb, eqb};
-ghost use Rattle.rl_spec.specs.Schema.{fieldsOf};
+ghost use Rattle.rl_spec.specs.Schema.{fieldsOf, sortOf};
 ghost use Rattle.rl_spec.specs.Bytes.{pick};
 ghost use Rattle.rl_ast.specs.Codes.{table};
 ghost use Rattle.rl_spec.specs.Fields.{listsAt, unless, takes, within, kindOfStatement, allowed, childHeight, entryAt, rangeOf, partOf, byteIn, operandSortOf, zeros, referTo, referOrNone, entriesFrom, listOf, operandOf, fieldAt, fieldsFrom, recordAt, nodeHeight, statementHeight};
@@ -495,6 +495,57 @@ fn field(
     }
 }
 
+// A field of one reference.
+fn one_reference(
+    s: &[u8],
+    w: &[u16],
+    p: &[u16],
+    seen: Counts,
+    own: Section,
+    target: Target,
+    at: usize,
+    tall: u16,
+) -> Check
+    ensures { λ r. ⌜ r ≡ fieldAt (now (s .entry)) (now (w .entry)) (now (p .entry)) seen own (Sort.One target) at tall ⌝ }
+{
+    if is_past(s, at, 2) {
+        return Check::Fails {
+            cause: Cause::BytesEnd,
+        };
+    }
+    refer_to(s, w, p, seen, own, target, u16_at(s, at), tall)
+}
+
+// A field by its code; the most frequent ones first.
+fn coded_field(
+    s: &[u8],
+    w: &[u16],
+    p: &[u16],
+    seen: Counts,
+    own: Section,
+    code: u8,
+    at: usize,
+    tall: u16,
+) -> Check
+    ensures { λ r. ⌜ r ≡ fieldAt (now (s .entry)) (now (w .entry)) (now (p .entry)) seen own (sortOf code) at tall ⌝ }
+{
+    if code == 3 {
+        if is_past(s, at, 4) {
+            return Check::Fails {
+                cause: Cause::BytesEnd,
+            };
+        }
+        return Check::Holds { tall };
+    }
+    if code == 13 {
+        return one_reference(s, w, p, seen, own, Target::Expression, at, tall);
+    }
+    if code == 12 {
+        return one_reference(s, w, p, seen, own, Target::Text, at, tall);
+    }
+    field(s, w, p, seen, own, sort_of(code), at, tall)
+}
+
 // The fields of a kind, left to right.
 fn fields(
     s: &[u8],
@@ -513,8 +564,8 @@ fn fields(
     let mut at = start;
     let mut tall: u16 = 0;
     while rest != 0 {
-        let sort = sort_of((rest % 256) as u8);
-        let check = field(s, w, p, seen, own, sort, at, tall);
+        let code = (rest % 256) as u8;
+        let check = coded_field(s, w, p, seen, own, code, at, tall);
         match check {
             Check::Holds { tall: t } => {
                 tall = t;
@@ -523,7 +574,7 @@ fn fields(
                 return Step::Stop { cause, place: at };
             }
         }
-        at += width_of(sort);
+        at += width_of(sort_of(code));
         rest = rest / 256;
     }
     Step::Next { at, tall }

@@ -15,7 +15,7 @@ All f [] = Unit {0}
 All f (c ∷ cs) = (f c ≡ true) × All f cs
 
 -- ---- tests
-by-ltb : {P : Type 0} (a b : ℕ) → (a < b → P) → (b ≤ a → P) → P
+pub by-ltb : {P : Type 0} (a b : ℕ) → (a < b → P) → (b ≤ a → P) → P
 by-ltb {P} a b f g = go (ltb a b) refl
   where
     go : (t : Bool) → ltb a b ≡ t → P
@@ -55,7 +55,7 @@ scalar-high : (c : ℕ) → 0xE000 ≤ c → c ≤ 0x10FFFF → isScalar c ≡ t
 unfolding isScalar
 scalar-high c p q = rw (above-range 0 0xD7FF c (omega arith), in-range 0xE000 0x10FFFF c p q) refl
 
-scalar-cases : {P : Type 0} (c : ℕ) → isScalar c ≡ true → (c ≤ 0xD7FF → P) → (0xE000 ≤ c → c ≤ 0x10FFFF → P) → P
+pub scalar-cases : {P : Type 0} (c : ℕ) → isScalar c ≡ true → (c ≤ 0xD7FF → P) → (0xE000 ≤ c → c ≤ 0x10FFFF → P) → P
 unfolding isScalar
 scalar-cases {P} c e f g = go (within (0 to 0xD7FF) c) refl e
   where
