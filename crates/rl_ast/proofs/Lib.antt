@@ -3,3 +3,4 @@ pub mod Rows
 pub mod FieldLaws
 pub mod RecordLaws
 pub mod ReaderLaws
+pub mod ListLaws

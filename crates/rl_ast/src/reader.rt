@@ -19,6 +19,7 @@ ghost use mathlib.Core.Path.{_≡_};
 ghost use Prim.Native.Nat.{_≤_};
 ghost use lib.ListN.{length, getD};
 ghost use Rattle.rl_ast.specs.Codes.{table};
+ghost use Rattle.rl_ast.specs.Lists.{listsFrom};
 ghost use Rattle.rl_spec.specs.Schema.{limits, sections};
 ghost use Rattle.rl_spec.specs.Read.{countsOf, countsFrom, headerOf, seenBy, keep, outOf, recordsFrom, sectionsFrom, bodyOf, contentOf, answerOf, workOf, startsOf};
 
@@ -201,6 +202,59 @@ fn records(
     Step::Next { at, tall: 0 }
 }
 
+// The list entries: records of one kind whose only field may hold any number.
+fn list_records(s: &[u8], count: u16, start: usize) -> Step
+    ensures { λ r. ⌜ r ≡ listsFrom (now (s .entry)) count start ⌝ }
+{
+    let mut at = start;
+    let mut i: u16 = 0;
+    while i < count {
+        if is_past(s, at, 1) {
+            return Step::Stop {
+                cause: Cause::BytesEnd,
+                place: at,
+            };
+        }
+        let kind = s[at];
+        if kind != 3 {
+            return Step::Stop {
+                cause: Cause::WrongKind,
+                place: at,
+            };
+        }
+        if is_past(s, at + 1, 2) {
+            return Step::Stop {
+                cause: Cause::BytesEnd,
+                place: at + 1,
+            };
+        }
+        at = at + 1 + 2;
+        i += 1;
+    }
+    Step::Next { at, tall: 0 }
+}
+
+// The records of a section: list entries by their own loop.
+fn section_records(
+    s: &[u8],
+    rows: &[u64; 84],
+    c: Counts,
+    own: Section,
+    count: u16,
+    start: usize,
+    w: &mut [u16],
+    p: &mut [u16],
+) -> Step
+    requires { ⌜ length (now s) ≤ 65535 ⌝ }
+    requires { ⌜ now rows ≡ table ⌝ }
+    ensures { λ r. ⌜ outOf r (now (w .exit)) (now (p .exit)) ≡ recordsFrom (now (s .entry)) c own count 0 start (now (w .entry)) (now (p .entry)) ⌝ }
+{
+    if let Section::Lists = own {
+        return list_records(s, count, start);
+    }
+    records(s, rows, c, own, count, start, w, p)
+}
+
 // The sections, in order.
 fn all_sections(
     s: &[u8],
@@ -218,7 +272,7 @@ fn all_sections(
     let mut j = 0;
     while j < 8 {
         let own = section_at(j);
-        let step = records(s, rows, c, own, count_in(c, own), at, w, p);
+        let step = section_records(s, rows, c, own, count_in(c, own), at, w, p);
         match step {
             Step::Next { at: a, tall: _ } => {
                 at = a;
