@@ -150,6 +150,9 @@ records-start s c o n at w p =
     let a : n - 0 ≡ n = omega arith in
     rw a
 
+pub section-same : (s : List ℕ) (c : Counts) (o k : Section) (n at : ℕ) (w p : List ℕ) (x : Out) → o ≡ k → x ≡ recordsFrom s c k n 0 at w p → x ≡ recordsFrom s c o n 0 at w p
+section-same s c o k n at w p x e f = rw e f
+
 -- ---- the sections
 
 eight : length sections ≡ 8

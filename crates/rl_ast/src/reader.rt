@@ -234,7 +234,8 @@ fn list_records(s: &[u8], count: u16, start: usize) -> Step
     Step::Next { at, tall: 0 }
 }
 
-// The records of a section: list entries by their own loop.
+// The records of a section. List entries have their own loop, and the two large sections their own calls, which the compiler makes
+// loops of their own of.
 fn section_records(
     s: &[u8],
     rows: &[u64; 84],
@@ -251,6 +252,12 @@ fn section_records(
 {
     if let Section::Lists = own {
         return list_records(s, count, start);
+    }
+    if let Section::Expressions = own {
+        return records(s, rows, c, Section::Expressions, count, start, w, p);
+    }
+    if let Section::Statements = own {
+        return records(s, rows, c, Section::Statements, count, start, w, p);
     }
     records(s, rows, c, own, count, start, w, p)
 }
