@@ -1,27 +1,10 @@
 // The functions that C and Rust call. include/rl_contracts.h declares them for C.
+use rl_numbers::number_of;
 use rl_spec::Answer;
-use rl_spec::Cause;
 ghost use mathlib.Core.Path.{_≡_};
 ghost use Prim.Native.Nat.{_≤_, _^_};
 ghost use lib.ListN.{length};
-ghost use Rattle.rl_spec.specs.Read.{numberOf, placeIn, packed, answerOf, workOf};
-
-fn number_of(cause: Cause) -> u64
-    ensures { λ r. ⌜ r ≡ numberOf cause ⌝ }
-{
-    match cause {
-        Cause::ImageTooLong => 1,
-        Cause::WorkTooShort => 2,
-        Cause::BytesEnd => 3,
-        Cause::WrongKind => 4,
-        Cause::CountOverLimit => 5,
-        Cause::BadText => 6,
-        Cause::BadValue => 7,
-        Cause::BadReference => 8,
-        Cause::TooHigh => 9,
-        Cause::BytesLeft => 10,
-    }
-}
+ghost use Rattle.rl_spec.specs.Read.{placeIn, packed, answerOf, workOf};
 
 fn pack(answer: Answer) -> u64
     requires { ⌜ placeIn answer ≤ 65535 ⌝ }

@@ -23,7 +23,7 @@ use Rattle.rl_spec.specs.declared.Check.the-variants.{Holds, Fails}
 use Rattle.rl_spec.specs.declared.Step.{Step}
 use Rattle.rl_spec.specs.declared.Step.the-variants.{Next, Stop}
 use Rattle.rl_spec.specs.Bytes.{pick, u16At, u32At, past}
-use Rattle.rl_spec.specs.Schema.{raw4, node, text, sortOf, widthOf, fieldsOf, inSection, tallest}
+use Rattle.rl_spec.specs.Schema.{raw4, raw8, node, text, sortOf, widthOf, fieldsOf, inSection, tallest}
 use Rattle.rl_spec.specs.Utf8.{isScalar}
 use Rattle.rl_spec.specs.Fields.{unless, byteIn, partOf, rangeOf, operandSortOf, referTo, referOrNone, listOf, operandOf, valueOf, fieldAt, checked, fieldsFrom, heightStep, recordAt}
 use Rattle.rl_ast.specs.Codes.{codes}
@@ -95,6 +95,13 @@ module _ (s w p : List ℕ) (seen : Counts) (own : Section) (o : Sort) (at tall 
         unfolding valueOf
         field-range k g v j = value (Range k) g v (rw (← h, ← i) j)
 
+module _ (s : List ℕ) (n at tall : ℕ) (b : Bool) (f : b ≡ past s at n) where
+  pub raw-past : b ≡ true → Fails BytesEnd ≡ pick (past s at n) (Fails BytesEnd) (Holds tall)
+  raw-past q = rw (← f, q) refl
+
+  pub raw-there : b ≡ false → Holds tall ≡ pick (past s at n) (Fails BytesEnd) (Holds tall)
+  raw-there q = rw (← f, q) refl
+
 module _ (s w p : List ℕ) (seen : Counts) (own : Section) (t : Target) (at tall : ℕ) (b : Bool) (f : b ≡ past s at 2) where
   pub one-past : b ≡ true → Fails BytesEnd ≡ fieldAt s w p seen own (One t) at tall
   one-past q = field-past s w p seen own (One t) at tall 2 b refl f q
@@ -106,14 +113,13 @@ module _ (s w p : List ℕ) (seen : Counts) (own : Section) (code at tall : ℕ)
   coded : (k : ℕ) → code ≡ k → (v : Check) → v ≡ fieldAt s w p seen own (sortOf k) at tall → v ≡ fieldAt s w p seen own (sortOf code) at tall
   coded k e v f = rw e f
 
-  module _ (e : code ≡ raw4) (b : Bool) (f : b ≡ past s at 4) where
-    pub coded-past : b ≡ true → Fails BytesEnd ≡ fieldAt s w p seen own (sortOf code) at tall
-    unfolding sortOf
-    coded-past q = coded raw4 e (Fails BytesEnd) (field-past s w p seen own (Raw 4) at tall 4 b refl f q)
+  pub coded-raw4 : code ≡ raw4 → (v : Check) → v ≡ pick (past s at 4) (Fails BytesEnd) (Holds tall) → v ≡ fieldAt s w p seen own (sortOf code) at tall
+  unfolding sortOf fieldAt valueOf
+  coded-raw4 e v f = rw e f
 
-    pub coded-raw : b ≡ false → Holds tall ≡ fieldAt s w p seen own (sortOf code) at tall
-    unfolding sortOf
-    coded-raw q = coded raw4 e (Holds tall) (field-raw s w p seen own (Raw 4) at tall 4 b refl f q 4 refl)
+  pub coded-raw8 : code ≡ raw8 → (v : Check) → v ≡ pick (past s at 8) (Fails BytesEnd) (Holds tall) → v ≡ fieldAt s w p seen own (sortOf code) at tall
+  unfolding sortOf fieldAt valueOf
+  coded-raw8 e v f = rw e f
 
   pub coded-node : code ≡ node → (v : Check) → v ≡ fieldAt s w p seen own (One Expression) at tall → v ≡ fieldAt s w p seen own (sortOf code) at tall
   unfolding sortOf

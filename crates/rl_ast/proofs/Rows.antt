@@ -77,15 +77,14 @@ row-none k h = codes-none 0 refl ∙ sym (fields-above k schema tt h)
 
 -- ---- sections
 
-pub section-is : (o k : Section) (kind : ℕ) (r : Bool) → o ≡ k → r ≡ pick (ltb kind (lowest k)) false (leb kind (highest k)) → r ≡ inSection o kind
-unfolding inSection
-section-is o k kind r e f = rw e f
+module _ (o : Section) (k low : ℕ) (e : low ≡ lowest o) where
+  pub section-below : k < low → false ≡ inSection o k
+  unfolding inSection
+  section-below h = rw (← e, lt-ltb k low h) refl
 
-pub from-below : (k low high : ℕ) → k < low → false ≡ pick (ltb k low) false (leb k high)
-from-below k low high h = simp (lt-ltb k low h)
-
-pub from-not : (k low high : ℕ) → low ≤ k → leb k high ≡ pick (ltb k low) false (leb k high)
-from-not k low high h = simp (le-ltb k low h)
+  pub section-from : low ≤ k → (high : ℕ) → high ≡ highest o → leb k high ≡ inSection o k
+  unfolding inSection
+  section-from h high f = rw (← e, ← f, le-ltb k low h) refl
 
 pub section-last : (j : ℕ) → (j ≡ 0 → ⊥) → (j ≡ 1 → ⊥) → (j ≡ 2 → ⊥) → (j ≡ 3 → ⊥) → (j ≡ 4 → ⊥) → (j ≡ 5 → ⊥) → (j ≡ 6 → ⊥) → Calls ≡ getD sections j Calls
 unfolding sections

@@ -28,7 +28,7 @@ ghost use Prim.Native.Nat.{_+_, _*_, _%_, _≤_};
 ghost use lib.ListN.{length, getD};
 ghost use lib.Dec.{leb, eqb};
 ghost use Rattle.rl_spec.specs.Schema.{fieldsOf, sortOf};
-ghost use Rattle.rl_spec.specs.Bytes.{pick};
+ghost use Rattle.rl_spec.specs.Bytes.{pick, past};
 ghost use Rattle.rl_ast.specs.Codes.{table};
 ghost use Rattle.rl_spec.specs.Fields.{listsAt, unless, takes, within, kindOfStatement, allowed, childHeight, entryAt, rangeOf, partOf, byteIn, operandSortOf, zeros, referTo, referOrNone, entriesFrom, listOf, operandOf, fieldAt, fieldsFrom, recordAt, nodeHeight, statementHeight};
 
@@ -516,6 +516,18 @@ fn one_reference(
     refer_to(s, w, p, seen, own, target, u16_at(s, at), tall)
 }
 
+// A field of n bytes of any value.
+fn raw_field(s: &[u8], n: u8, at: usize, tall: u16) -> Check
+    ensures { λ r. ⌜ r ≡ pick (past (now (s .entry)) at n) (Check.Fails Cause.BytesEnd) (Check.Holds tall) ⌝ }
+{
+    if is_past(s, at, n as usize) {
+        return Check::Fails {
+            cause: Cause::BytesEnd,
+        };
+    }
+    Check::Holds { tall }
+}
+
 // A field by its code; the most frequent ones first.
 fn coded_field(
     s: &[u8],
@@ -530,12 +542,10 @@ fn coded_field(
     ensures { λ r. ⌜ r ≡ fieldAt (now (s .entry)) (now (w .entry)) (now (p .entry)) seen own (sortOf code) at tall ⌝ }
 {
     if code == 3 {
-        if is_past(s, at, 4) {
-            return Check::Fails {
-                cause: Cause::BytesEnd,
-            };
-        }
-        return Check::Holds { tall };
+        return raw_field(s, 4, at, tall);
+    }
+    if code == 4 {
+        return raw_field(s, 8, at, tall);
     }
     if code == 13 {
         return one_reference(s, w, p, seen, own, Target::Expression, at, tall);

@@ -4,11 +4,8 @@ use rl_spec::Section;
 use rl_spec::Sort;
 use rl_spec::Target;
 ghost use mathlib.Core.Path.{_≡_};
-ghost use mathlib.Core.Bool.{false};
-ghost use lib.Dec.{ltb, leb};
-ghost use Rattle.rl_spec.specs.Bytes.{pick};
 ghost use lib.ListN.{getD};
-ghost use Rattle.rl_spec.specs.Schema.{fieldsOf, sortOf, widthOf, inSection, tallest, sections, countOf};
+ghost use Rattle.rl_spec.specs.Schema.{fieldsOf, sortOf, widthOf, lowest, highest, inSection, tallest, sections, countOf};
 ghost use Rattle.rl_ast.specs.Codes.{codes, table};
 
 // The schema: for each kind its fields' codes, one byte each, the first lowest; 0 where it is no kind.
@@ -270,29 +267,44 @@ pub fn width_of(sort: Sort) -> usize
     }
 }
 
+fn lowest_in(section: Section) -> u8
+    ensures { λ r. ⌜ r ≡ lowest section ⌝ }
+{
+    match section {
+        Section::Texts => 2,
+        Section::Lists => 3,
+        Section::Expressions => 16,
+        Section::Statements => 64,
+        Section::Parameters => 80,
+        Section::Clauses => 81,
+        Section::Functions => 82,
+        Section::Calls => 83,
+    }
+}
+
+fn highest_in(section: Section) -> u8
+    ensures { λ r. ⌜ r ≡ highest section ⌝ }
+{
+    match section {
+        Section::Texts => 2,
+        Section::Lists => 3,
+        Section::Expressions => 57,
+        Section::Statements => 79,
+        Section::Parameters => 80,
+        Section::Clauses => 81,
+        Section::Functions => 82,
+        Section::Calls => 83,
+    }
+}
+
 // Whether a kind is one of a section's.
 pub fn in_section(section: Section, kind: u8) -> bool
     ensures { λ r. ⌜ r ≡ inSection section kind ⌝ }
 {
-    match section {
-        Section::Texts => from_to(kind, 2, 2),
-        Section::Lists => from_to(kind, 3, 3),
-        Section::Expressions => from_to(kind, 16, 57),
-        Section::Statements => from_to(kind, 64, 79),
-        Section::Parameters => from_to(kind, 80, 80),
-        Section::Clauses => from_to(kind, 81, 81),
-        Section::Functions => from_to(kind, 82, 82),
-        Section::Calls => from_to(kind, 83, 83),
-    }
-}
-
-fn from_to(kind: u8, low: u8, high: u8) -> bool
-    ensures { λ r. ⌜ r ≡ pick (ltb kind low) false (leb kind high) ⌝ }
-{
-    if kind < low {
+    if kind < lowest_in(section) {
         return false;
     }
-    kind <= high
+    kind <= highest_in(section)
 }
 
 pub fn tallest_in(section: Section) -> u16

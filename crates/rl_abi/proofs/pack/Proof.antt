@@ -1,38 +1,28 @@
 use borrow.Author.Needs.{needs}
 use Rattle.rl_abi.proofs.pack.Statement.{statement}
 use Rattle.rl_abi.proofs.pack.Tie as tie
-use Rattle.rl_abi.proofs.pack.Reads as reads
-use Rattle.rl_abi.proofs.pack.Lts as lts
-use Rattle.rl_abi.proofs.number_of.Reads as number-of-reads
 use Rattle.rl_abi.proofs.Laws.{high-fits, both-fit, packed-is, packed-none}
 
 ruleset laws = (high-fits, both-fit, packed-is, packed-none)
 
--- src/lib.rt:34:14
 enum-told : tie.Need-enum-told
 enum-told c = search needs
 
--- src/lib.rt:35:27
 enum-known-answer : tie.Need-enum-known-answer
 enum-known-answer c = search needs
 
--- src/lib.rt:35:45
 number-of-requires : tie.Need-number-of-requires
 number-of-requires c κs = search needs
 
--- src/lib.rt:35:45
 mul-result : tie.Need-mul-result
 mul-result c = search (laws, needs)
 
--- src/lib.rt:35:45
 add-result : tie.Need-add-result
 add-result c = search (laws, needs)
 
--- src/lib.rt:26:1
 returns : tie.Need-returns
 returns c = search (laws, needs)
 
--- src/lib.rt:26:1
 returns-2 : tie.Need-returns-2
 returns-2 c = search (laws, needs)
 

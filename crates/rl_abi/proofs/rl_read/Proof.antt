@@ -1,27 +1,19 @@
 use borrow.Author.Needs.{needs}
 use Rattle.rl_abi.proofs.rl_read.Statement.{statement}
 use Rattle.rl_abi.proofs.rl_read.Tie as tie
-use Rattle.rl_abi.proofs.rl_read.Reads as reads
-use Rattle.rl_abi.proofs.rl_read.Lts as lts
-use Rattle.rl_abi.proofs.pack.Reads as pack-reads
-use Rattle.rl_ast.proofs.read.Reads as read-reads
 use Rattle.rl_abi.proofs.Laws.{answer-place, answer-packed}
 
 ruleset laws = (answer-place, answer-packed)
 
--- src/lib.rt:45:10
 read-requires : tie.Need-read-requires
 read-requires c κs = search needs
 
--- src/lib.rt:45:5
 pack-requires : tie.Need-pack-requires
 pack-requires c κs = search (laws, needs)
 
--- src/lib.rt:40:1
 same-length : tie.Need-same-length
 same-length c = search needs
 
--- src/lib.rt:40:1
 returns : tie.Need-returns
 returns c = search (laws, needs)
 

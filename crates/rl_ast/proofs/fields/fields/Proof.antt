@@ -6,12 +6,6 @@ use Prim.Native.Nat.{_^_, _<_}
 use borrow.Author.Needs.{needs}
 use Rattle.rl_ast.proofs.fields.fields.Statement.{statement}
 use Rattle.rl_ast.proofs.fields.fields.Tie as tie
-use Rattle.rl_ast.proofs.fields.fields.Reads as reads
-use Rattle.rl_ast.proofs.fields.fields.Lts as lts
-use Rattle.rl_ast.proofs.fields.coded_field.Reads as coded-field-reads
-use Rattle.rl_ast.proofs.schema.row_of.Reads as row-of-reads
-use Rattle.rl_ast.proofs.schema.sort_of.Reads as sort-of-reads
-use Rattle.rl_ast.proofs.schema.width_of.Reads as width-of-reads
 use Rattle.rl_ast.proofs.RecordLaws.{fields-start, fields-end, fields-more, fields-bad, field-fits}
 
 ruleset laws = (fields-start, fields-end, fields-more, fields-bad, field-fits)
@@ -22,55 +16,42 @@ Inv-loop s rows w p seen own kind start rest₀ at₀ tall₀ rest at tall = (re
 abbrev μ-loop : tie.MeasureT-loop
 μ-loop s rows w p seen own kind start rest₀ at₀ tall₀ rest at tall = rest
 
--- src/fields.rt:563:9
 row-of-requires : tie.Need-row-of-requires Inv-loop μ-loop
 row-of-requires c κs = search (laws, needs)
 
--- src/fields.rt:566:5
 loop-holds : tie.Need-loop-holds Inv-loop μ-loop
 loop-holds c = search (laws, needs)
 
--- src/fields.rt:567:20
 cast-code : tie.Need-cast-code Inv-loop μ-loop
 cast-code c = search (laws, needs)
 
--- src/fields.rt:568:13
 coded-field-requires : tie.Need-coded-field-requires Inv-loop μ-loop
 coded-field-requires c κs = search (laws, needs)
 
--- src/fields.rt:570:34
 enum-known-check : tie.Need-enum-known-check Inv-loop μ-loop
 enum-known-check c = search (laws, needs)
 
--- src/fields.rt:573:28
 enum-known-check-2 : tie.Need-enum-known-check-2 Inv-loop μ-loop
 enum-known-check-2 c = search (laws, needs)
 
--- src/fields.rt:574:17
 returns : tie.Need-returns Inv-loop μ-loop
 returns c = search (laws, needs)
 
--- src/fields.rt:577:24
 sort-of-requires : tie.Need-sort-of-requires Inv-loop μ-loop
 sort-of-requires c κs = search (laws, needs)
 
--- src/fields.rt:577:15
 width-of-requires : tie.Need-width-of-requires Inv-loop μ-loop
 width-of-requires c κs = search (laws, needs)
 
--- src/fields.rt:577:9
 add-at : tie.Need-add-at Inv-loop μ-loop
 add-at c = search (laws, needs)
 
--- src/fields.rt:566:5
 loop-less : tie.Need-loop-less Inv-loop μ-loop
 loop-less c = search (laws, needs)
 
--- src/fields.rt:566:5
 loop-again : tie.Need-loop-again Inv-loop μ-loop
 loop-again c = search (laws, needs)
 
--- src/fields.rt:550:1
 returns-2 : tie.Need-returns-2 Inv-loop μ-loop
 returns-2 c = search (laws, needs)
 

@@ -6,10 +6,6 @@ use Prim.Native.Nat.{_-_, _+_, _*_, _≤_}
 use borrow.Author.Needs.{needs}
 use Rattle.rl_ast.proofs.fields.node_entries.Statement.{statement}
 use Rattle.rl_ast.proofs.fields.node_entries.Tie as tie
-use Rattle.rl_ast.proofs.fields.node_entries.Reads as reads
-use Rattle.rl_ast.proofs.fields.node_entries.Lts as lts
-use Rattle.rl_bytes.proofs.join16.Reads as join16-reads
-use Rattle.rl_bytes.proofs.larger.Reads as larger-reads
 use Rattle.rl_ast.proofs.FieldLaws.{entries-start, entries-end, nodes-more, nodes-bad}
 
 ruleset laws = (entries-start, entries-end, nodes-more, nodes-bad)
@@ -20,103 +16,78 @@ Inv-loop s w p seen first count tall from start t₀ i₀ t i = (i ≤ count) ×
 abbrev μ-loop : tie.MeasureT-loop
 μ-loop s w p seen first count tall from start t₀ i₀ t i = count - i
 
--- src/fields.rt:224:22
 cast-from : tie.Need-cast-from Inv-loop μ-loop
 cast-from c = search (laws, needs)
 
--- src/fields.rt:224:16
 add-from : tie.Need-add-from Inv-loop μ-loop
 add-from c = search (laws, needs)
 
--- src/fields.rt:224:46
 cast-from-2 : tie.Need-cast-from-2 Inv-loop μ-loop
 cast-from-2 c = search (laws, needs)
 
--- src/fields.rt:224:45
 mul-from : tie.Need-mul-from Inv-loop μ-loop
 mul-from c = search (laws, needs)
 
--- src/fields.rt:224:16
 add-from-2 : tie.Need-add-from-2 Inv-loop μ-loop
 add-from-2 c = search (laws, needs)
 
--- src/fields.rt:225:24
 mul-start : tie.Need-mul-start Inv-loop μ-loop
 mul-start c = search (laws, needs)
 
--- src/fields.rt:225:17
 add-start : tie.Need-add-start Inv-loop μ-loop
 add-start c = search (laws, needs)
 
--- src/fields.rt:225:17
 add-start-2 : tie.Need-add-start-2 Inv-loop μ-loop
 add-start-2 c = search (laws, needs)
 
--- src/fields.rt:228:5
 loop-holds : tie.Need-loop-holds Inv-loop μ-loop
 loop-holds c = search (laws, needs)
 
--- src/fields.rt:229:27
 cast-at : tie.Need-cast-at Inv-loop μ-loop
 cast-at c = search (laws, needs)
 
--- src/fields.rt:229:26
 mul-at : tie.Need-mul-at Inv-loop μ-loop
 mul-at c = search (laws, needs)
 
--- src/fields.rt:229:18
 add-at : tie.Need-add-at Inv-loop μ-loop
 add-at c = search (laws, needs)
 
--- src/fields.rt:230:24
 shared-slice-read-join16 : tie.Need-shared-slice-read-join16 Inv-loop μ-loop
 shared-slice-read-join16 c = search (laws, needs)
 
--- src/fields.rt:230:33
 add-join16 : tie.Need-add-join16 Inv-loop μ-loop
 add-join16 c = search (laws, needs)
 
--- src/fields.rt:230:31
 shared-slice-read-join16-2 : tie.Need-shared-slice-read-join16-2 Inv-loop μ-loop
 shared-slice-read-join16-2 c = search (laws, needs)
 
--- src/fields.rt:230:13
 join16-requires : tie.Need-join16-requires Inv-loop μ-loop
 join16-requires c κs = search (laws, needs)
 
--- src/fields.rt:232:29
 cast-larger : tie.Need-cast-larger Inv-loop μ-loop
 cast-larger c = search (laws, needs)
 
--- src/fields.rt:232:27
 mul-larger : tie.Need-mul-larger Inv-loop μ-loop
 mul-larger c = search (laws, needs)
 
--- src/fields.rt:232:27
 shared-slice-read-larger : tie.Need-shared-slice-read-larger Inv-loop μ-loop
 shared-slice-read-larger c = search (laws, needs)
 
--- src/fields.rt:232:13
 larger-requires : tie.Need-larger-requires Inv-loop μ-loop
 larger-requires c κs = search (laws, needs)
 
--- src/fields.rt:234:13
 returns : tie.Need-returns Inv-loop μ-loop
 returns c = search (laws, needs)
 
--- src/fields.rt:238:9
 add-i : tie.Need-add-i Inv-loop μ-loop
 add-i c = search (laws, needs)
 
--- src/fields.rt:228:5
 loop-less : tie.Need-loop-less Inv-loop μ-loop
 loop-less c = search (laws, needs)
 
--- src/fields.rt:228:5
 loop-again : tie.Need-loop-again Inv-loop μ-loop
 loop-again c = (search needs, (c .before .before .before .before .before .before .before .before .loop .inv .1 .0, nodes-more _ _ _ _ (c .before .before .before .before .before .before .before .before .loop .inv .1 .0) _ _ _ _ _ _ (c .before .before .before .before .before .before .before .before .loop .inv .1 .1) (c .before .before .before .before .before .before .before .loop-test .taken) _ (c .before .before .before .before .join16 .ensures) (c .before .before .if1 .taken) _ (c .larger .ensures)))
 
--- src/fields.rt:211:1
 returns-2 : tie.Need-returns-2 Inv-loop μ-loop
 returns-2 c = search (laws, needs)
 

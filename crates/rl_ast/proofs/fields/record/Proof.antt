@@ -1,69 +1,49 @@
 use borrow.Author.Needs.{needs}
 use Rattle.rl_ast.proofs.fields.record.Statement.{statement}
 use Rattle.rl_ast.proofs.fields.record.Tie as tie
-use Rattle.rl_ast.proofs.fields.record.Reads as reads
-use Rattle.rl_ast.proofs.fields.record.Lts as lts
-use Rattle.rl_ast.proofs.fields.fields.Reads as fields-reads
-use Rattle.rl_ast.proofs.schema.in_section.Reads as in-section-reads
-use Rattle.rl_ast.proofs.schema.tallest_in.Reads as tallest-in-reads
-use Rattle.rl_bytes.proofs.is_past.Reads as is-past-reads
 use Rattle.rl_ast.proofs.RecordLaws.{record-past, record-kind, record-stop, record-next, record-tall, byte-there, byte-fits}
 
 ruleset laws = (record-past, record-kind, record-stop, record-next, record-tall, byte-there, byte-fits)
 
--- src/fields.rt:546:8
 is-past-requires : tie.Need-is-past-requires
 is-past-requires c κs = search needs
 
--- src/fields.rt:547:9
 returns : tie.Need-returns
 returns c = search (laws, needs)
 
--- src/fields.rt:552:16
 shared-slice-read-kind : tie.Need-shared-slice-read-kind
 shared-slice-read-kind c = search (laws, needs)
 
--- src/fields.rt:553:8
 in-section-requires : tie.Need-in-section-requires
 in-section-requires c κs = search needs
 
--- src/fields.rt:554:59
 add-fields : tie.Need-add-fields
 add-fields c = search (laws, needs)
 
--- src/fields.rt:554:13
 fields-requires : tie.Need-fields-requires
 fields-requires c κs = search needs
 
--- src/fields.rt:556:30
 enum-known-step : tie.Need-enum-known-step
 enum-known-step c = search needs
 
--- src/fields.rt:557:27
 tallest-in-requires : tie.Need-tallest-in-requires
 tallest-in-requires c κs = search needs
 
--- src/fields.rt:560:31
 add-t24 : tie.Need-add-t24
 add-t24 c = search needs
 
--- src/fields.rt:558:21
 returns-2 : tie.Need-returns-2
 returns-2 c = search (laws, needs)
 
--- src/fields.rt:568:26
 enum-known-step-2 : tie.Need-enum-known-step-2
 enum-known-step-2 c = search needs
 
--- src/fields.rt:534:1
 returns-3 : tie.Need-returns-3
 returns-3 c = search (laws, needs)
 
--- src/fields.rt:534:1
 returns-4 : tie.Need-returns-4
 returns-4 c = search (laws, needs)
 
--- src/fields.rt:534:1
 returns-5 : tie.Need-returns-5
 returns-5 c = search (laws, needs)
 

@@ -1,75 +1,55 @@
 use borrow.Author.Needs.{needs}
 use Rattle.rl_ast.proofs.reader.after_header.Statement.{statement}
 use Rattle.rl_ast.proofs.reader.after_header.Tie as tie
-use Rattle.rl_ast.proofs.reader.after_header.Reads as reads
-use Rattle.rl_ast.proofs.reader.after_header.Lts as lts
-use Rattle.rl_ast.proofs.reader.all_sections.Reads as all-sections-reads
-use Rattle.rl_bytes.proofs.is_past.Reads as is-past-reads
 use Rattle.rl_ast.proofs.ReaderLaws.{body-past, body-left, body-end, body-stop}
 
 ruleset laws = (body-past, body-left, body-end, body-stop)
 
--- src/reader.rt:241:16
 cast-size : tie.Need-cast-size
 cast-size c = search needs
 
--- src/reader.rt:242:8
 is-past-requires : tie.Need-is-past-requires
 is-past-requires c κs = search needs
 
--- src/reader.rt:243:9
 returns : tie.Need-returns
 returns c = search (laws, needs)
 
--- src/reader.rt:248:40
 add-all-sections : tie.Need-add-all-sections
 add-all-sections c = search needs
 
--- src/reader.rt:248:9
 all-sections-requires : tie.Need-all-sections-requires
 all-sections-requires c κs = search needs
 
--- src/reader.rt:250:22
 enum-known-all : tie.Need-enum-known-all
 enum-known-all c = search needs
 
--- src/reader.rt:252:17
 same-length : tie.Need-same-length
 same-length c = search needs
 
--- src/reader.rt:252:17
 same-length-2 : tie.Need-same-length-2
 same-length-2 c = search needs
 
--- src/reader.rt:252:17
 returns-2 : tie.Need-returns-2
 returns-2 c = search (laws, needs)
 
--- src/reader.rt:259:22
 enum-known-all-2 : tie.Need-enum-known-all-2
 enum-known-all-2 c = search needs
 
--- src/reader.rt:236:1
 same-length-3 : tie.Need-same-length-3
 same-length-3 c = search needs
 
--- src/reader.rt:236:1
 same-length-4 : tie.Need-same-length-4
 same-length-4 c = search needs
 
--- src/reader.rt:236:1
 returns-3 : tie.Need-returns-3
 returns-3 c = search (laws, needs)
 
--- src/reader.rt:236:1
 same-length-5 : tie.Need-same-length-5
 same-length-5 c = search needs
 
--- src/reader.rt:236:1
 same-length-6 : tie.Need-same-length-6
 same-length-6 c = search needs
 
--- src/reader.rt:236:1
 returns-4 : tie.Need-returns-4
 returns-4 c = search (laws, needs)
 

@@ -6,11 +6,6 @@ use Prim.Native.Nat.{_-_, _≤_}
 use borrow.Author.Needs.{needs}
 use Rattle.rl_ast.proofs.reader.all_sections.Statement.{statement}
 use Rattle.rl_ast.proofs.reader.all_sections.Tie as tie
-use Rattle.rl_ast.proofs.reader.all_sections.Reads as reads
-use Rattle.rl_ast.proofs.reader.all_sections.Lts as lts
-use Rattle.rl_ast.proofs.reader.section_records.Reads as section-records-reads
-use Rattle.rl_ast.proofs.schema.count_in.Reads as count-in-reads
-use Rattle.rl_ast.proofs.schema.section_at.Reads as section-at-reads
 use Rattle.rl_ast.proofs.ReaderLaws.{sections-end, sections-more, sections-stop, at-most}
 
 ruleset laws = (sections-end, sections-more, sections-stop, at-most)
@@ -21,63 +16,48 @@ Inv-loop s rows c start w₀ p₀ at₀ j₀ w p at j = (j ≤ 8) × ((length w 
 abbrev μ-loop : tie.MeasureT-loop
 μ-loop s rows c start w₀ p₀ at₀ j₀ w p at j = 8 - j
 
--- src/reader.rt:272:5
 loop-holds : tie.Need-loop-holds Inv-loop μ-loop
 loop-holds c = search (laws, needs)
 
--- src/reader.rt:273:13
 section-at-requires : tie.Need-section-at-requires Inv-loop μ-loop
 section-at-requires c κs = search (laws, needs)
 
--- src/reader.rt:274:53
 count-in-requires : tie.Need-count-in-requires Inv-loop μ-loop
 count-in-requires c κs = search (laws, needs)
 
--- src/reader.rt:274:13
 section-records-requires : tie.Need-section-records-requires Inv-loop μ-loop
 section-records-requires c κs = search (laws, needs)
 
--- src/reader.rt:276:30
 enum-known-step : tie.Need-enum-known-step Inv-loop μ-loop
 enum-known-step c = search (laws, needs)
 
--- src/reader.rt:279:26
 enum-known-step-2 : tie.Need-enum-known-step-2 Inv-loop μ-loop
 enum-known-step-2 c = search (laws, needs)
 
--- src/reader.rt:280:17
 same-length : tie.Need-same-length Inv-loop μ-loop
 same-length c = search (laws, needs)
 
--- src/reader.rt:280:17
 same-length-2 : tie.Need-same-length-2 Inv-loop μ-loop
 same-length-2 c = search (laws, needs)
 
--- src/reader.rt:280:17
 returns : tie.Need-returns Inv-loop μ-loop
 returns c = search (laws, needs)
 
--- src/reader.rt:283:9
 add-j : tie.Need-add-j Inv-loop μ-loop
 add-j c = search (laws, needs)
 
--- src/reader.rt:272:5
 loop-less : tie.Need-loop-less Inv-loop μ-loop
 loop-less c = search (laws, needs)
 
--- src/reader.rt:272:5
 loop-again : tie.Need-loop-again Inv-loop μ-loop
 loop-again c = (at-most _ _ (c .before .before .before .before .before .before .before .before .before .before .before .before .loop-test .taken), (c .before .before .before .before .before .before .before .section-records .kept .1 .1 .1 .1 .1 .1 .0 ∙ c .before .before .before .before .before .before .before .before .before .before .before .before .before .loop .inv .1 .0, (c .before .before .before .before .before .before .before .section-records .kept .1 .1 .1 .1 .1 .1 .1 .0 ∙ c .before .before .before .before .before .before .before .before .before .before .before .before .before .loop .inv .1 .1 .0, sections-more _ _ _ _ _ _ _ (c .before .before .before .before .before .before .before .before .before .before .before .before .before .loop .inv .1 .1 .1) (c .before .before .before .before .before .before .before .before .before .before .before .before .loop-test .taken) _ (c .before .before .before .before .before .before .before .before .before .before .before .section-at .ensures) _ (c .before .before .before .before .before .before .before .before .before .before .count-in .ensures) _ _ _ (c .before .before .before .before .before .before .before .section-records .ensures) _ _ (c .before .step .given .1))))
 
--- src/reader.rt:258:1
 same-length-3 : tie.Need-same-length-3 Inv-loop μ-loop
 same-length-3 c = search (laws, needs)
 
--- src/reader.rt:258:1
 same-length-4 : tie.Need-same-length-4 Inv-loop μ-loop
 same-length-4 c = search (laws, needs)
 
--- src/reader.rt:258:1
 returns-2 : tie.Need-returns-2 Inv-loop μ-loop
 returns-2 c = search (laws, needs)
 

@@ -1,48 +1,34 @@
 use borrow.Author.Needs.{needs}
 use Rattle.rl_ast.proofs.reader.content.Statement.{statement}
 use Rattle.rl_ast.proofs.reader.content.Tie as tie
-use Rattle.rl_ast.proofs.reader.content.Reads as reads
-use Rattle.rl_ast.proofs.reader.content.Lts as lts
-use Rattle.rl_ast.proofs.reader.after_header.Reads as after-header-reads
-use Rattle.rl_ast.proofs.reader.header.Reads as header-reads
-use Rattle.rl_ast.proofs.reader.header_counts.Reads as header-counts-reads
 use Rattle.rl_ast.proofs.ReaderLaws.{content-stop, content-more}
 
 ruleset laws = (content-stop, content-more)
 
--- src/reader.rt:269:9
 header-requires : tie.Need-header-requires
 header-requires c κs = search needs
 
--- src/reader.rt:271:64
 enum-told : tie.Need-enum-told
 enum-told c = search needs
 
--- src/reader.rt:271:64
 header-counts-requires : tie.Need-header-counts-requires
 header-counts-requires c κs = search needs
 
--- src/reader.rt:271:42
 after-header-requires : tie.Need-after-header-requires
 after-header-requires c κs = search needs
 
--- src/reader.rt:272:22
 enum-known-head : tie.Need-enum-known-head
 enum-known-head c = search needs
 
--- src/reader.rt:264:1
 same-length : tie.Need-same-length
 same-length c = search needs
 
--- src/reader.rt:264:1
 same-length-2 : tie.Need-same-length-2
 same-length-2 c = search needs
 
--- src/reader.rt:264:1
 returns : tie.Need-returns
 returns c = search (laws, needs)
 
--- src/reader.rt:264:1
 returns-2 : tie.Need-returns-2
 returns-2 c = search (laws, needs)
 

@@ -4,9 +4,6 @@ use Prim.Native.Nat.{_-_, _≤_}
 use borrow.Author.Needs.{needs}
 use Rattle.rl_ast.proofs.reader.list_records.Statement.{statement}
 use Rattle.rl_ast.proofs.reader.list_records.Tie as tie
-use Rattle.rl_ast.proofs.reader.list_records.Reads as reads
-use Rattle.rl_ast.proofs.reader.list_records.Lts as lts
-use Rattle.rl_bytes.proofs.is_past.Reads as is-past-reads
 use Rattle.rl_ast.proofs.ListLaws.{lists-start, lists-end, lists-past, lists-kind, lists-short, lists-more, three-fit}
 use Rattle.rl_ast.proofs.RecordLaws.{byte-there, byte-fits}
 
@@ -18,63 +15,48 @@ Inv-loop s count start at₀ i₀ at i = (i ≤ count) × (listsFrom s count sta
 abbrev μ-loop : tie.MeasureT-loop
 μ-loop s count start at₀ i₀ at i = count - i
 
--- src/reader.rt:211:5
 loop-holds : tie.Need-loop-holds Inv-loop μ-loop
 loop-holds c = search (laws, needs)
 
--- src/reader.rt:212:12
 is-past-requires : tie.Need-is-past-requires Inv-loop μ-loop
 is-past-requires c κs = search (laws, needs)
 
--- src/reader.rt:213:13
 returns : tie.Need-returns Inv-loop μ-loop
 returns c = search (laws, needs)
 
--- src/reader.rt:218:20
 shared-slice-read-kind : tie.Need-shared-slice-read-kind Inv-loop μ-loop
 shared-slice-read-kind c = search (laws, needs)
 
--- src/reader.rt:220:13
 returns-2 : tie.Need-returns-2 Inv-loop μ-loop
 returns-2 c = search (laws, needs)
 
--- src/reader.rt:225:23
 add-is-past : tie.Need-add-is-past Inv-loop μ-loop
 add-is-past c = search (laws, needs)
 
--- src/reader.rt:225:12
 is-past-requires-2 : tie.Need-is-past-requires-2 Inv-loop μ-loop
 is-past-requires-2 c κs = search (laws, needs)
 
--- src/reader.rt:228:24
 add-t16 : tie.Need-add-t16 Inv-loop μ-loop
 add-t16 c = search (laws, needs)
 
--- src/reader.rt:226:13
 returns-3 : tie.Need-returns-3 Inv-loop μ-loop
 returns-3 c = search (lists-short)
 
--- src/reader.rt:231:14
 add-at : tie.Need-add-at Inv-loop μ-loop
 add-at c = search (laws, needs)
 
--- src/reader.rt:231:14
 add-at-2 : tie.Need-add-at-2 Inv-loop μ-loop
 add-at-2 c = search (laws, needs)
 
--- src/reader.rt:232:9
 add-i : tie.Need-add-i Inv-loop μ-loop
 add-i c = search (laws, needs)
 
--- src/reader.rt:211:5
 loop-less : tie.Need-loop-less Inv-loop μ-loop
 loop-less c = search (laws, needs)
 
--- src/reader.rt:211:5
 loop-again : tie.Need-loop-again Inv-loop μ-loop
 loop-again c = search (laws, needs)
 
--- src/reader.rt:206:1
 returns-4 : tie.Need-returns-4 Inv-loop μ-loop
 returns-4 c = search (laws, needs)
 

@@ -6,91 +6,66 @@ use Rattle.rl_ast.proofs.ReaderLaws.{cleared, read-long, read-short, re
 use borrow.Author.Needs.{needs}
 use Rattle.rl_ast.proofs.reader.read_starts.Statement.{statement}
 use Rattle.rl_ast.proofs.reader.read_starts.Tie as tie
-use Rattle.rl_ast.proofs.reader.read_starts.Reads as reads
-use Rattle.rl_ast.proofs.reader.read_starts.Lts as lts
-use Rattle.rl_ast.proofs.reader.content.Reads as content-reads
-use Rattle.rl_ast.proofs.reader.header_counts.Reads as header-counts-reads
-use Rattle.rl_ast.proofs.schema.schema_table.Reads as schema-table-reads
-use Rattle.rl_bytes.proofs.clear.Reads as clear-reads
-use Rattle.rl_bytes.proofs.u32_at.Reads as u32-at-reads
 
--- src/reader.rt:283:5
 clear-requires : tie.Need-clear-requires
 clear-requires c κs = search needs
 
--- src/reader.rt:284:5
 clear-requires-2 : tie.Need-clear-requires-2
 clear-requires-2 c κs = search needs
 
--- src/reader.rt:286:9
 same-length : tie.Need-same-length
 same-length c = search needs
 
--- src/reader.rt:286:9
 returns : tie.Need-returns
 returns c =
     let z : length (c .before .before .before .before .before .before .before .before .before .args .starts .now) ≡ 6144 = search needs in
     read-long _ _ (c .if1 .taken) _ _ (c .before .before .before .before .before .clear .ensures) (cleared (c .before .before .before .before .before .before .before .before .before .args .starts .now) _ _ (c .before .clear2 .ensures) z)
 
--- src/reader.rt:292:9
 same-length-2 : tie.Need-same-length-2
 same-length-2 c = search needs
 
--- src/reader.rt:292:9
 returns-2 : tie.Need-returns-2
 returns-2 c =
     let z : length (c .before .before .before .before .before .before .before .before .before .before .args .starts .now) ≡ 6144 = search needs in
     read-short _ _ (c .before .if1 .left) (omega (arith, c .before .before .before .before .before .before .clear .kept .0, c .if2 .taken)) _ _ (c .before .before .before .before .before .before .clear .ensures)
     (cleared (c .before .before .before .before .before .before .before .before .before .before .args .starts .now) _ _ (c .before .before .clear2 .ensures) z)
 
--- src/reader.rt:297:16
 schema-table-requires : tie.Need-schema-table-requires
 schema-table-requires c κs = search needs
 
--- src/reader.rt:298:9
 content-requires : tie.Need-content-requires
 content-requires c κs = search needs
 
--- src/reader.rt:300:22
 enum-known-all : tie.Need-enum-known-all
 enum-known-all c = search needs
 
--- src/reader.rt:301:28
 u32-at-requires : tie.Need-u32-at-requires
 u32-at-requires c κs = search needs
 
--- src/reader.rt:302:21
 header-counts-requires : tie.Need-header-counts-requires
 header-counts-requires c κs = search needs
 
--- src/reader.rt:304:22
 enum-known-all-2 : tie.Need-enum-known-all-2
 enum-known-all-2 c = search needs
 
--- src/reader.rt:305:13
 clear-requires-3 : tie.Need-clear-requires-3
 clear-requires-3 c κs = search needs
 
--- src/reader.rt:306:13
 clear-requires-4 : tie.Need-clear-requires-4
 clear-requires-4 c κs = search needs
 
--- src/reader.rt:278:1
 same-length-3 : tie.Need-same-length-3
 same-length-3 c = search needs
 
--- src/reader.rt:278:1
 returns-3 : tie.Need-returns-3
 returns-3 c =
     let z : length (c .before .before .before .before .before .before .before .before .before .before .before .before .before .before .before .before .before .before .before .before .before .before .args .starts .now) ≡ 6144 = search needs in
     read-good _ _ (c .before .before .before .before .before .before .before .before .before .before .before .before .before .if1 .left) (omega (arith, c .before .before .before .before .before .before .before .before .before .before .before .before .before .before .before .before .before .before .clear .kept .0, c .before .before .before .before .before .before .before .before .before .before .before .before .if2 .left)) _ _ _ _ _ (c .before .before .before .before .before .before .before .before .before .before .before .before .before .before .before .before .before .before .clear .ensures)
     (cleared (c .before .before .before .before .before .before .before .before .before .before .before .before .before .before .before .before .before .before .before .before .before .before .args .starts .now) _ _ (c .before .before .before .before .before .before .before .before .before .before .before .before .before .before .clear2 .ensures) z) (c .before .before .before .before .before .before .before .content .ensures) _ _ (c .before .before .before .all .given .1) _ (c .before .u32-at .ensures) _ (c .header-counts .ensures)
 
--- src/reader.rt:278:1
 same-length-4 : tie.Need-same-length-4
 same-length-4 c = search needs
 
--- src/reader.rt:278:1
 returns-4 : tie.Need-returns-4
 returns-4 c =
     let z : length (c .before .before .before .before .before .before .before .before .before .before .before .before .before .before .before .before .before .before .before .before .before .before .before .before .before .before .args .starts .now) ≡ 6144 = search needs in

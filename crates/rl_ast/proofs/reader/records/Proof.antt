@@ -5,11 +5,6 @@ use Prim.Native.Nat.{_-_, _+_, _*_, _≤_}
 use borrow.Author.Needs.{needs}
 use Rattle.rl_ast.proofs.reader.records.Statement.{statement}
 use Rattle.rl_ast.proofs.reader.records.Tie as tie
-use Rattle.rl_ast.proofs.reader.records.Reads as reads
-use Rattle.rl_ast.proofs.reader.records.Lts as lts
-use Rattle.rl_ast.proofs.fields.record.Reads as record-reads
-use Rattle.rl_ast.proofs.reader.keep_number.Reads as keep-number-reads
-use Rattle.rl_ast.proofs.reader.seen_by.Reads as seen-by-reads
 use Rattle.rl_ast.proofs.ReaderLaws.{records-start, records-end, records-more, records-stop, start-fits, length-keep, next-fits, at-most}
 
 ruleset laws = (records-start, records-end, records-more, records-stop, start-fits, length-keep, next-fits, at-most)
@@ -20,71 +15,54 @@ Inv-loop s rows c own count start w₀ p₀ at₀ i₀ w p at i = (i ≤ count) 
 abbrev μ-loop : tie.MeasureT-loop
 μ-loop s rows c own count start w₀ p₀ at₀ i₀ w p at i = count - i
 
--- src/reader.rt:187:5
 loop-holds : tie.Need-loop-holds Inv-loop μ-loop
 loop-holds c = search (laws, needs)
 
--- src/reader.rt:188:42
 seen-by-requires : tie.Need-seen-by-requires Inv-loop μ-loop
 seen-by-requires c κs = search (laws, needs)
 
--- src/reader.rt:188:13
 record-requires : tie.Need-record-requires Inv-loop μ-loop
 record-requires c κs = search (laws, needs)
 
--- src/reader.rt:190:30
 enum-known-step : tie.Need-enum-known-step Inv-loop μ-loop
 enum-known-step c = search (laws, needs)
 
--- src/reader.rt:191:17
 keep-number-requires : tie.Need-keep-number-requires Inv-loop μ-loop
 keep-number-requires c κs = search (laws, needs)
 
--- src/reader.rt:192:40
 cast-keep-number : tie.Need-cast-keep-number Inv-loop μ-loop
 cast-keep-number c = search (laws, needs)
 
--- src/reader.rt:192:17
 keep-number-requires-2 : tie.Need-keep-number-requires-2 Inv-loop μ-loop
 keep-number-requires-2 c κs = search (laws, needs)
 
--- src/reader.rt:195:26
 enum-known-step-2 : tie.Need-enum-known-step-2 Inv-loop μ-loop
 enum-known-step-2 c = search (laws, needs)
 
--- src/reader.rt:196:17
 same-length : tie.Need-same-length Inv-loop μ-loop
 same-length c = search (laws, needs)
 
--- src/reader.rt:196:17
 same-length-2 : tie.Need-same-length-2 Inv-loop μ-loop
 same-length-2 c = search (laws, needs)
 
--- src/reader.rt:196:17
 returns : tie.Need-returns Inv-loop μ-loop
 returns c = search (laws, needs)
 
--- src/reader.rt:199:9
 add-i : tie.Need-add-i Inv-loop μ-loop
 add-i c = next-fits _ _ (c .before .before .before .before .before .before .before .before .before .before .before .before .before .before .before .loop-test .taken) (c .before .before .before .before .before .before .before .before .before .before .before .before .before .before .before .before .before .before .before .before .fits .count)
 
--- src/reader.rt:187:5
 loop-less : tie.Need-loop-less Inv-loop μ-loop
 loop-less c = search (laws, needs)
 
--- src/reader.rt:187:5
 loop-again : tie.Need-loop-again Inv-loop μ-loop
 loop-again c = (at-most _ _ (c .before .before .before .before .before .before .before .before .before .before .before .before .before .before .before .loop-test .taken), (c .before .before .before .before .before .before .keep-number .kept .1 .1 .1 .1 .0 ∙ c .before .before .before .before .before .before .before .before .before .before .before .before .before .before .before .before .loop .inv .1 .0, (c .before .before .keep-number2 .kept .1 .1 .1 .1 .0 ∙ c .before .before .before .before .before .before .before .before .before .before .before .before .before .before .before .before .loop .inv .1 .1 .0, records-more _ _ _ _ _ _ _ _ _ (c .before .before .before .before .before .before .before .before .before .before .before .before .before .before .before .before .loop .inv .1 .1 .1) (c .before .before .before .before .before .before .before .before .before .before .before .before .before .before .before .loop-test .taken) _ (c .before .before .before .before .before .before .before .before .before .before .before .before .seen-by .ensures) _ (c .before .before .before .before .before .before .before .before .before .before .before .«record» .ensures) _ _ (c .before .before .before .before .before .before .before .before .before .step .given .1) _ _ (c .before .before .before .before .before .before .keep-number .ensures) (c .before .before .keep-number2 .ensures))))
 
--- src/reader.rt:171:1
 same-length-3 : tie.Need-same-length-3 Inv-loop μ-loop
 same-length-3 c = search (laws, needs)
 
--- src/reader.rt:171:1
 same-length-4 : tie.Need-same-length-4 Inv-loop μ-loop
 same-length-4 c = search (laws, needs)
 
--- src/reader.rt:171:1
 returns-2 : tie.Need-returns-2 Inv-loop μ-loop
 returns-2 c = search (laws, needs)
 

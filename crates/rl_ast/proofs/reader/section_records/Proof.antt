@@ -1,80 +1,59 @@
 use borrow.Author.Needs.{needs}
 use Rattle.rl_ast.proofs.reader.section_records.Statement.{statement}
 use Rattle.rl_ast.proofs.reader.section_records.Tie as tie
-use Rattle.rl_ast.proofs.reader.section_records.Reads as reads
-use Rattle.rl_ast.proofs.reader.section_records.Lts as lts
-use Rattle.rl_ast.proofs.reader.list_records.Reads as list-records-reads
-use Rattle.rl_ast.proofs.reader.records.Reads as records-reads
 use Rattle.rl_ast.proofs.ListLaws.{lists-section}
 use Rattle.rl_ast.proofs.ReaderLaws.{section-same}
 
 ruleset laws = (lists-section, section-same)
 
--- src/reader.rt:254:9
 enum-told : tie.Need-enum-told
 enum-told c = search needs
 
--- src/reader.rt:254:9
 list-records-requires : tie.Need-list-records-requires
 list-records-requires c κs = search needs
 
--- src/reader.rt:254:9
 returns : tie.Need-returns
 returns c = search (laws, needs)
 
--- src/reader.rt:257:36
 enum-told-2 : tie.Need-enum-told-2
 enum-told-2 c = search needs
 
--- src/reader.rt:257:9
 records-requires : tie.Need-records-requires
 records-requires c κs = search needs
 
--- src/reader.rt:257:9
 same-length : tie.Need-same-length
 same-length c = search needs
 
--- src/reader.rt:257:9
 same-length-2 : tie.Need-same-length-2
 same-length-2 c = search needs
 
--- src/reader.rt:257:9
 returns-2 : tie.Need-returns-2
 returns-2 c = search (laws, needs)
 
--- src/reader.rt:260:36
 enum-told-3 : tie.Need-enum-told-3
 enum-told-3 c = search needs
 
--- src/reader.rt:260:9
 records-requires-2 : tie.Need-records-requires-2
 records-requires-2 c κs = search needs
 
--- src/reader.rt:260:9
 same-length-3 : tie.Need-same-length-3
 same-length-3 c = search needs
 
--- src/reader.rt:260:9
 same-length-4 : tie.Need-same-length-4
 same-length-4 c = search needs
 
--- src/reader.rt:260:9
 returns-3 : tie.Need-returns-3
 returns-3 c = search (laws, needs)
 
--- src/reader.rt:262:5
 records-requires-3 : tie.Need-records-requires-3
 records-requires-3 c κs = search needs
 
--- src/reader.rt:239:1
 same-length-5 : tie.Need-same-length-5
 same-length-5 c = search needs
 
--- src/reader.rt:239:1
 same-length-6 : tie.Need-same-length-6
 same-length-6 c = search needs
 
--- src/reader.rt:239:1
 returns-4 : tie.Need-returns-4
 returns-4 c = search needs
 

@@ -1,0 +1,35 @@
+use borrow.Author.Needs.{needs}
+use Rattle.rl_text_out.proofs.put_number.Statement.{statement}
+use Rattle.rl_text_out.proofs.put_number.Tie as tie
+use Rattle.rl_text_out.proofs.Laws.{after-number, with-number}
+
+ruleset laws = (after-number, with-number)
+
+decimal-requires : tie.Need-decimal-requires
+decimal-requires c κs = search needs
+
+array-share-prefix-text : tie.Need-array-share-prefix-text
+array-share-prefix-text c = search needs
+
+slice-aggregate-put-text : tie.Need-slice-aggregate-put-text
+slice-aggregate-put-text c = search needs
+
+put-text-requires : tie.Need-put-text-requires
+put-text-requires c κs = search needs
+
+same-length : tie.Need-same-length
+same-length c = search needs
+
+returns : tie.Need-returns
+returns c = search (laws, needs)
+
+pub put-number-spec : {M : Type 1} → statement M
+put-number-spec =
+    tie.close
+    (tie.spec
+    decimal-requires
+    array-share-prefix-text
+    slice-aggregate-put-text
+    put-text-requires
+    same-length
+    returns)

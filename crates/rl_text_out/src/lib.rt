@@ -1,0 +1,48 @@
+// Text and numbers into a lent buffer, at a place; each function answers the place after what it put. What has no room is
+// left out.
+ghost use mathlib.Core.Path.{_≡_};
+ghost use Prim.Native.Nat.{ℕ, _+_, _≤_, min};
+ghost use lib.ListN.{length};
+ghost use lib.Seq.{paste};
+ghost use Rattle.io.specs.Digits.{digits, Fewest};
+ghost use Rattle.rl_text_out.specs.Put.{withText, afterText};
+
+fn copy(out: &mut [u8], at: usize, text: &[u8], n: usize)
+    requires { ⌜ at + n ≤ length (now out) ⌝ }
+    requires { ⌜ n ≤ length (now text) ⌝ }
+    ensures { λ _. ⌜ now (out .exit) ≡ paste (now (out .entry)) at (now (text .entry)) n ⌝ }
+{
+    let mut i = 0;
+    while i < n {
+        out[at + i] = text[i];
+        i += 1;
+    }
+}
+
+fn least(a: usize, b: usize) -> usize
+    ensures { λ r. ⌜ r ≡ min a b ⌝ }
+{
+    if a < b { a } else { b }
+}
+
+pub fn put_text(out: &mut [u8], at: usize, text: &[u8]) -> usize
+    ensures { λ r. ⌜ r ≡ afterText (now (out .entry)) at (now (text .entry)) ⌝ }
+    ensures { λ r. ⌜ now (out .exit) ≡ withText (now (out .entry)) at (now (text .entry)) ⌝ }
+{
+    if out.len() <= at {
+        return at;
+    }
+    let n = least(text.len(), out.len() - at);
+    copy(out, at, text, n);
+    at + n
+}
+
+// A number in decimal digits, as few as hold it.
+pub fn put_number(out: &mut [u8], at: usize, n: u64) -> usize
+    ensures { λ r. ⌜ ((k : ℕ) → Fewest 10 1 n k → r ≡ afterText (now (out .entry)) at (digits 10 k n)) ⌝ }
+    ensures { λ r. ⌜ ((k : ℕ) → Fewest 10 1 n k → now (out .exit) ≡ withText (now (out .entry)) at (digits 10 k n)) ⌝ }
+{
+    let mut text = [0u8; 20];
+    let k = io::decimal(n, &mut text);
+    put_text(out, at, &text[..k])
+}
