@@ -1,5 +1,3 @@
-pub mod Table
-pub mod Rows
 pub mod FieldLaws
 pub mod RecordLaws
 pub mod ReaderLaws

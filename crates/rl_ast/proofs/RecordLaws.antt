@@ -26,8 +26,8 @@ use Rattle.rl_spec.specs.Bytes.{pick, u16At, u32At, past}
 use Rattle.rl_spec.specs.Schema.{raw4, raw8, node, text, sortOf, widthOf, fieldsOf, inSection, tallest}
 use Rattle.rl_spec.specs.Utf8.{isScalar}
 use Rattle.rl_spec.specs.Fields.{unless, byteIn, partOf, rangeOf, operandSortOf, referTo, referOrNone, listOf, operandOf, valueOf, fieldAt, checked, fieldsFrom, heightStep, recordAt}
-use Rattle.rl_ast.specs.Codes.{codes}
-use Rattle.rl_ast.proofs.Rows.{codes-none, codes-more}
+use Rattle.rl_schema.specs.Codes.{codes, table}
+use Rattle.rl_schema.proofs.Rows.{codes-none, codes-more, row-codes}
 
 -- ---- bytes that are there
 
@@ -165,8 +165,8 @@ module _ (s w p : List ℕ) (seen : Counts) (own : Section) (rest at tall : ℕ)
     unfolding fieldsFrom
     fields-bad c g = rw (v, codes-more rest l q, ← f, g) refl
 
-pub fields-start : (s w p : List ℕ) (seen : Counts) (own : Section) (kind rest at : ℕ) → codes rest ≡ fieldsOf kind → fieldsFrom s w p seen own (fieldsOf kind) at 0 ≡ fieldsFrom s w p seen own (codes rest) at 0
-fields-start s w p seen own kind rest at e = rw e
+pub fields-start : (s w p : List ℕ) (seen : Counts) (own : Section) (kind rest at : ℕ) (rows : List ℕ) → rows ≡ table → rest ≡ getD rows kind 0 → fieldsFrom s w p seen own (fieldsOf kind) at 0 ≡ fieldsFrom s w p seen own (codes rest) at 0
+fields-start s w p seen own kind rest at rows e f = rw (row-codes rows kind rest e f)
 
 -- ---- a record
 

@@ -1,10 +1,4 @@
 // What is checked of one record.
-use crate::schema::count_in;
-use crate::schema::in_section;
-use crate::schema::row_of;
-use crate::schema::sort_of;
-use crate::schema::tallest_in;
-use crate::schema::width_of;
 use rl_bytes::byte_at;
 use rl_bytes::byte_before;
 use rl_bytes::is_past;
@@ -15,6 +9,12 @@ use rl_bytes::second_u16;
 use rl_bytes::u16_at;
 use rl_bytes::u32_at;
 use rl_bytes::word_at;
+use rl_schema::count_in;
+use rl_schema::in_section;
+use rl_schema::row_of;
+use rl_schema::sort_of;
+use rl_schema::tallest_in;
+use rl_schema::width_of;
 use rl_spec::Cause;
 use rl_spec::Check;
 use rl_spec::Counts;
@@ -29,7 +29,7 @@ ghost use lib.ListN.{length, getD};
 ghost use lib.Dec.{leb, eqb};
 ghost use Rattle.rl_spec.specs.Schema.{fieldsOf, sortOf};
 ghost use Rattle.rl_spec.specs.Bytes.{pick, past};
-ghost use Rattle.rl_ast.specs.Codes.{table};
+ghost use Rattle.rl_schema.specs.Codes.{table};
 ghost use Rattle.rl_spec.specs.Fields.{listsAt, unless, takes, within, kindOfStatement, allowed, childHeight, entryAt, rangeOf, partOf, byteIn, operandSortOf, zeros, referTo, referOrNone, entriesFrom, listOf, operandOf, fieldAt, fieldsFrom, recordAt, nodeHeight, statementHeight};
 
 // Whether a reference may find a statement of this kind.
@@ -559,7 +559,7 @@ fn coded_field(
 // The fields of a kind, left to right.
 fn fields(
     s: &[u8],
-    rows: &[u64; 84],
+    rows: &[u64],
     w: &[u16],
     p: &[u16],
     seen: Counts,
@@ -593,7 +593,7 @@ fn fields(
 // One record: its kind, its fields, its height.
 pub fn record(
     s: &[u8],
-    rows: &[u64; 84],
+    rows: &[u64],
     w: &[u16],
     p: &[u16],
     seen: Counts,

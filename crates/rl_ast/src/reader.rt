@@ -1,14 +1,14 @@
 // The reader: the header, the sections, the whole.
 use crate::fields::record;
-use crate::schema::count_in;
-use crate::schema::schema_table;
-use crate::schema::section_at;
 use rl_bytes::byte_at;
 use rl_bytes::clear;
 use rl_bytes::is_past;
 use rl_bytes::put;
 use rl_bytes::u16_at;
 use rl_bytes::u32_at;
+use rl_schema::count_in;
+use rl_schema::schema_table;
+use rl_schema::section_at;
 use rl_spec::Answer;
 use rl_spec::ArenaNo;
 use rl_spec::Cause;
@@ -18,7 +18,7 @@ use rl_spec::Step;
 ghost use mathlib.Core.Path.{_≡_};
 ghost use Prim.Native.Nat.{_≤_};
 ghost use lib.ListN.{length, getD};
-ghost use Rattle.rl_ast.specs.Codes.{table};
+ghost use Rattle.rl_schema.specs.Codes.{table};
 ghost use Rattle.rl_ast.specs.Lists.{listsFrom};
 ghost use Rattle.rl_spec.specs.Schema.{limits, sections};
 ghost use Rattle.rl_spec.specs.Read.{countsOf, countsFrom, headerOf, seenBy, keep, outOf, recordsFrom, sectionsFrom, bodyOf, contentOf, answerOf, workOf, startsOf};
@@ -171,7 +171,7 @@ fn keep_number(c: Counts, own: Section, i: u16, x: u16, w: &mut [u16])
 // The records of a section.
 fn records(
     s: &[u8],
-    rows: &[u64; 84],
+    rows: &[u64],
     c: Counts,
     own: Section,
     count: u16,
@@ -238,7 +238,7 @@ fn list_records(s: &[u8], count: u16, start: usize) -> Step
 // loops of their own of.
 fn section_records(
     s: &[u8],
-    rows: &[u64; 84],
+    rows: &[u64],
     c: Counts,
     own: Section,
     count: u16,
@@ -265,7 +265,7 @@ fn section_records(
 // The sections, in order.
 fn all_sections(
     s: &[u8],
-    rows: &[u64; 84],
+    rows: &[u64],
     c: Counts,
     start: usize,
     w: &mut [u16],
@@ -294,7 +294,7 @@ fn all_sections(
 }
 
 // After the header: the text bytes, the sections, the end.
-fn after_header(s: &[u8], rows: &[u64; 84], c: Counts, w: &mut [u16], p: &mut [u16]) -> Step
+fn after_header(s: &[u8], rows: &[u64], c: Counts, w: &mut [u16], p: &mut [u16]) -> Step
     requires { ⌜ length (now s) ≤ 65535 ⌝ }
     requires { ⌜ now rows ≡ table ⌝ }
     ensures { λ r. ⌜ outOf r (now (w .exit)) (now (p .exit)) ≡ bodyOf (now (s .entry)) c (now (w .entry)) (now (p .entry)) ⌝ }
@@ -322,7 +322,7 @@ fn after_header(s: &[u8], rows: &[u64; 84], c: Counts, w: &mut [u16], p: &mut [u
 }
 
 // The image's content, where its length is within the limit.
-fn content(s: &[u8], rows: &[u64; 84], w: &mut [u16], p: &mut [u16]) -> Step
+fn content(s: &[u8], rows: &[u64], w: &mut [u16], p: &mut [u16]) -> Step
     requires { ⌜ length (now s) ≤ 65535 ⌝ }
     requires { ⌜ now rows ≡ table ⌝ }
     ensures { λ r. ⌜ outOf r (now (w .exit)) (now (p .exit)) ≡ contentOf (now (s .entry)) (now (w .entry)) (now (p .entry)) ⌝ }

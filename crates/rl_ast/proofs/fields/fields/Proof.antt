@@ -1,4 +1,4 @@
-use Rattle.rl_ast.specs.Codes.{codes}
+use Rattle.rl_schema.specs.Codes.{codes}
 use Rattle.rl_spec.specs.Schema.{fieldsOf}
 use Rattle.rl_spec.specs.Fields.{fieldsFrom}
 use mathlib.Core.Path.{_≡_}

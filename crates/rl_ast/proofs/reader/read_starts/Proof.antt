@@ -33,6 +33,9 @@ returns-2 c =
 schema-table-requires : tie.Need-schema-table-requires
 schema-table-requires c κs = search needs
 
+slice-aggregate-content : tie.Need-slice-aggregate-content
+slice-aggregate-content c = search needs
+
 content-requires : tie.Need-content-requires
 content-requires c κs = search needs
 
@@ -85,6 +88,7 @@ read-starts-spec =
     same-length-2
     returns-2
     schema-table-requires
+    slice-aggregate-content
     content-requires
     enum-known-all
     u32-at-requires

@@ -7,14 +7,15 @@ use mathlib.Core.List.{List, [], _∷_}
 use native.Mathlib.Omega.{arith}
 use native.Mathlib.Nat.{pow-zero, pow-suc}
 use lib.Dec.{T, ltb, leb, eqb}
-use lib.ListN.{getD}
+use lib.ListN.{length, getD}
 use borrow.Author.Tests.{lt-ltb, le-ltb, eq-eqb, ne-eqb, eqb-true}
 use Rattle.rl_spec.specs.declared.Section.{Section}
 use Rattle.rl_spec.specs.declared.Section.the-variants.{Calls}
 use Rattle.rl_spec.specs.Bytes.{pick}
 use Rattle.rl_spec.specs.Schema.{Row, schema, fieldsIn, fieldsOf, inSection, lowest, highest, sections}
-use Rattle.rl_bytes.proofs.Laws.{by-ltb}
-use Rattle.rl_ast.specs.Codes.{codesIn, codes}
+use Rattle.rl_bytes.proofs.Laws.{by-ltb, getD-past}
+use Rattle.rl_schema.specs.Codes.{codesIn, codes, table}
+use Rattle.rl_schema.proofs.Table.{at}
 
 -- ---- the codes of a row
 
@@ -71,9 +72,27 @@ fields-above k (r ∷ rs) t h =
     (λ p. simp (ne-eqb k (r .kind) (λ e. omega arith)) (fields-above k rs (rw (lt-ltb (r .kind) 84 p) at t) h))
     (λ p. absurd (rw (le-ltb (r .kind) 84 p) at t))
 
-pub row-none : (k : ℕ) → 84 ≤ k → codes 0 ≡ fieldsOf k
+row-none : (k : ℕ) → 84 ≤ k → codes 0 ≡ fieldsOf k
 unfolding fieldsOf schema
 row-none k h = codes-none 0 refl ∙ sym (fields-above k schema tt h)
+
+-- ---- THE TABLE AGREES WITH THE SCHEMA: one test of its rows, which antt computes
+
+right : ℕ → ℕ → Bool
+right k x = same (codes x) (fieldsOf k)
+
+row-below : (k : ℕ) → k < 84 → codes (getD table k 0) ≡ fieldsOf k
+unfolding right codes codesIn schema fieldsIn fieldsOf table
+row-below k h = same-eq (codes (getD table k 0)) (fieldsOf k) (at right table tt k h)
+
+table-rows : length table ≡ 84
+unfolding table
+table-rows = refl
+
+pub row-codes : (rows : List ℕ) (k r : ℕ) → rows ≡ table → r ≡ getD rows k 0 → codes r ≡ fieldsOf k
+row-codes rows k r e f =
+    ap codes (f ∙ ap (λ (l : List ℕ). getD l k 0) e)
+    ∙ by-ltb k 84 (λ h. row-below k h) (λ h. ap codes (sym (getD-past table k (omega (arith, table-rows)))) ∙ row-none k h)
 
 -- ---- sections
 

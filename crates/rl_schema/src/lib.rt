@@ -4,9 +4,9 @@ use rl_spec::Section;
 use rl_spec::Sort;
 use rl_spec::Target;
 ghost use mathlib.Core.Path.{_≡_};
-ghost use lib.ListN.{getD};
-ghost use Rattle.rl_spec.specs.Schema.{fieldsOf, sortOf, widthOf, lowest, highest, inSection, tallest, sections, countOf};
-ghost use Rattle.rl_ast.specs.Codes.{codes, table};
+ghost use lib.ListN.{length, getD};
+ghost use Rattle.rl_spec.specs.Schema.{sortOf, widthOf, lowest, highest, inSection, tallest, sections, countOf};
+ghost use Rattle.rl_schema.specs.Codes.{table};
 
 // The schema: for each kind its fields' codes, one byte each, the first lowest; 0 where it is no kind.
 const SCHEMA: [u64; 84] = [
@@ -163,15 +163,16 @@ const SCHEMA: [u64; 84] = [
 // The table. It is made once for an image and lent on, since each use of the constant makes it anew.
 pub fn schema_table() -> [u64; 84]
     ensures { λ r. ⌜ r ≡ table ⌝ }
+    ensures { λ r. ⌜ 84 ≡ length r ⌝ }
 {
     SCHEMA
 }
 
-pub fn row_of(rows: &[u64; 84], kind: u8) -> u64
-    requires { ⌜ now rows ≡ table ⌝ }
-    ensures { λ r. ⌜ codes r ≡ fieldsOf kind ⌝ }
+pub fn row_of(rows: &[u64], kind: u8) -> u64
+    ensures { λ r. ⌜ r ≡ getD (now (rows .entry)) kind 0 ⌝ }
 {
-    if kind < 84 { rows[kind as usize] } else { 0 }
+    let k = kind as usize;
+    if k < rows.len() { rows[k] } else { 0 }
 }
 
 pub fn sort_of(code: u8) -> Sort

@@ -1,7 +1,7 @@
 use borrow.Author.Needs.{needs}
-use Rattle.rl_ast.proofs.schema.in_section.Statement.{statement}
-use Rattle.rl_ast.proofs.schema.in_section.Tie as tie
-use Rattle.rl_ast.proofs.Rows.{section-below, section-from}
+use Rattle.rl_schema.proofs.in_section.Statement.{statement}
+use Rattle.rl_schema.proofs.in_section.Tie as tie
+use Rattle.rl_schema.proofs.Rows.{section-below, section-from}
 
 ruleset laws = (section-below, section-from)
 

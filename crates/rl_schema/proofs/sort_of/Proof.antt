@@ -1,7 +1,7 @@
 use borrow.Author.Tests.{ne-eqb}
 use Rattle.rl_spec.specs.Schema.{sortOf}
-use Rattle.rl_ast.proofs.schema.sort_of.Statement.{statement}
-use Rattle.rl_ast.proofs.schema.sort_of.Tie as tie
+use Rattle.rl_schema.proofs.sort_of.Statement.{statement}
+use Rattle.rl_schema.proofs.sort_of.Tie as tie
 
 returns : tie.Need-returns
 unfolding sortOf

@@ -1,7 +1,7 @@
 use Rattle.rl_spec.specs.Schema.{sections}
-use Rattle.rl_ast.proofs.Rows.{section-last}
-use Rattle.rl_ast.proofs.schema.section_at.Statement.{statement}
-use Rattle.rl_ast.proofs.schema.section_at.Tie as tie
+use Rattle.rl_schema.proofs.Rows.{section-last}
+use Rattle.rl_schema.proofs.section_at.Statement.{statement}
+use Rattle.rl_schema.proofs.section_at.Tie as tie
 
 returns : tie.Need-returns
 unfolding sections
