@@ -1,4 +1,2 @@
-pub mod FieldLaws
-pub mod RecordLaws
 pub mod ReaderLaws
 pub mod ListLaws

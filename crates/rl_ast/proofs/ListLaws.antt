@@ -23,8 +23,8 @@ use Rattle.rl_spec.specs.Fields.{heightStep, recordAt, fieldsFrom, fieldAt, val
 use Rattle.rl_spec.specs.Read.{after, bad, outOf, recordsFrom}
 use Rattle.rl_bytes.proofs.Laws.{by-ltb}
 use Rattle.rl_ast.specs.Lists.{listsFrom}
-use Rattle.rl_ast.proofs.FieldLaws.{turn, ended}
-use Rattle.rl_ast.proofs.RecordLaws.{there}
+use Rattle.rl_fields.proofs.FieldLaws.{turn, ended}
+use Rattle.rl_fields.proofs.RecordLaws.{there}
 
 -- ---- the loop
 

@@ -25,8 +25,10 @@ use Rattle.rl_spec.specs.Bytes.{pick, u16At, u32At, past}
 use Rattle.rl_spec.specs.Schema.{limits, sections, countOf, inSection, fieldsOf}
 use Rattle.rl_spec.specs.Fields.{recordAt, heightStep, fieldsFrom}
 use Rattle.rl_spec.specs.Read.{after, countsOf, countsFrom, headerOf, Out, good, bad, outOf, seenBy, keep, recordsFrom, andThen, sectionsFrom, endOf, bodyOf, contentOf, mostStarts, readOf, answerOf, workOf, startsOf}
-use Rattle.rl_ast.proofs.FieldLaws.{turn, ended}
-use Rattle.rl_ast.proofs.RecordLaws.{byte-there}
+use Rattle.rl_fields.proofs.FieldLaws.{turn, ended}
+use Rattle.rl_fields.proofs.RecordLaws.{byte-there, record-by-table}
+use Rattle.rl_fields.specs.Checked.{recordBy}
+use Rattle.rl_schema.specs.Codes.{table}
 
 -- ---- the header
 
@@ -122,8 +124,9 @@ record-there s w p seen own at r e a t f = go (past s at 1) refl (sym e ∙ f)
     go true g h = let z : _≡_ {A = ℕ} 0 1 = cc in absurd (omega arith)
     go false g h = byte-there s at false g refl
 
-pub start-fits : (s w p : List ℕ) (seen : Counts) (own : Section) (at : ℕ) (r : Step) → r ≡ recordAt s w p seen own at → (a t : ℕ) → r ≡ Next a t → length s ≤ 65535 → Fits w16 at
-start-fits s w p seen own at r e a t f l = omega (arith, record-there s w p seen own at r e a t f)
+pub start-fits : (rows s w p : List ℕ) (seen : Counts) (own : Section) (at : ℕ) → rows ≡ table → (r : Step) → r ≡ recordBy rows s w p seen own at → (a t : ℕ) → r ≡ Next a t → length s ≤ 65535 → Fits w16 at
+start-fits rows s w p seen own at z r e a t f l =
+    omega (arith, record-there s w p seen own at r (e ∙ record-by-table rows s w p seen own at z) a t f)
 
 pub at-most : (i n : ℕ) → i < n → i + 1 ≤ n
 at-most i n q = omega arith
@@ -136,14 +139,17 @@ module _ (s : List ℕ) (c : Counts) (o : Section) (n i at : ℕ) (w p : List �
   unfolding recordsFrom
   records-end q = rw (v, ended n i q) refl
 
-  module _ (q : i < n) (seen : Counts) (e : seen ≡ seenBy c o i) (r : Step) (f : r ≡ recordAt s w p seen o at) where
+  module _ (q : i < n) (seen : Counts) (e : seen ≡ seenBy c o i) (rows : List ℕ) (z : rows ≡ table) (r : Step) (h : r ≡ recordBy rows s w p seen o at) where
+    f : r ≡ recordAt s w p seen o at
+    f = h ∙ record-by-table rows s w p seen o at z
+
     pub records-more : (a t : ℕ) → r ≡ Next a t → (w' p' : List ℕ) → w' ≡ keep c o i t w → p' ≡ keep c o i at p → whole ≡ recordsFrom s c o (n - (i + 1)) (i + 1) a w' p'
     unfolding recordsFrom
-    records-more a t g w' p' h k = rw (v, turn n i q, ← e, ← f, g, h, k) refl
+    records-more a t g w' p' x y = rw (v, turn n i q, ← e, ← f, g, x, y) refl
 
-    pub records-stop : (d : Cause) (z : ℕ) → r ≡ Stop d z → bad d z ≡ whole
+    pub records-stop : (d : Cause) (y : ℕ) → r ≡ Stop d y → bad d y ≡ whole
     unfolding recordsFrom
-    records-stop d z g = rw (v, turn n i q, ← e, ← f, g) refl
+    records-stop d y g = rw (v, turn n i q, ← e, ← f, g) refl
 
 pub records-start : (s : List ℕ) (c : Counts) (o : Section) (n at : ℕ) (w p : List ℕ) → recordsFrom s c o n 0 at w p ≡ recordsFrom s c o (n - 0) 0 at w p
 records-start s c o n at w p =

@@ -1,5 +1,4 @@
 // The image: its schema, and the reader.
-mod fields;
 mod reader;
 
 pub use reader::read;

@@ -1,11 +1,11 @@
 // The reader: the header, the sections, the whole.
-use crate::fields::record;
 use rl_bytes::byte_at;
 use rl_bytes::clear;
 use rl_bytes::is_past;
 use rl_bytes::put;
 use rl_bytes::u16_at;
 use rl_bytes::u32_at;
+use rl_fields::record;
 use rl_schema::count_in;
 use rl_schema::schema_table;
 use rl_schema::section_at;
