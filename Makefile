@@ -1,0 +1,41 @@
+# make run [IMAGE=path]   the printer on an image (default: the sample)
+# make test               the gate, the comparisons, formatting
+# make compare [CASES=n] [SEED=n]   the reader against the independent one, on more cases
+# make bench              times of this and of plain Rust, in one run
+# make fmt                lay all files out
+IMAGE ?= samples/flow.img
+CASES ?= 3000000
+SEED ?= 7
+CARGO = cargo --quiet
+CARGO_RELEASE = cd tools && $(CARGO) build --release
+
+.PHONY: run test compare bench fmt vectors staticlib
+
+run:
+	@mkdir -p target
+	@rt check rl_printer >target/run.log 2>&1 || { cat target/run.log; rm -f target/run.log; exit 1; }
+	@rm -f target/run.log
+	@target/bin/rl_printer < $(IMAGE)
+
+test:
+	@sh tools/test.sh
+
+staticlib:
+	rt staticlib rl_abi
+
+compare: staticlib
+	$(CARGO_RELEASE)
+	tools/target/release/compare_read $(CASES) $(SEED)
+
+bench: staticlib
+	$(CARGO_RELEASE)
+	tools/target/release/bench_read
+
+# writes the stored cases anew
+vectors:
+	$(CARGO_RELEASE) --bin vectors
+	tools/target/release/vectors crates/vectors_read
+
+fmt:
+	rt fmt
+	cd tools && cargo fmt
