@@ -17,3 +17,4 @@ pub mod Sections
 pub mod Encoded
 pub mod EncodedBytes
 pub mod EncodedExample
+pub mod Theorems

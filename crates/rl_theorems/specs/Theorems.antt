@@ -1,0 +1,112 @@
+-- WHAT IS PROVED of the definitions in rl_spec, stated in one place. The proofs stand in the files that are named at each part.
+-- Assumes nothing.
+use Prim.Native.Nat.{ℕ, _+_, _-_, _≤_, _<_}
+use mathlib.Core.Path.{_≡_}
+use mathlib.Core.Bool.{true, false}
+use mathlib.Core.List.{List, _++_}
+use mathlib.Core.Logic.{_⊎_}
+use lib.ListN.{length, getD, take, drop, replicate}
+use Rattle.rl_spec.specs.declared.ArenaNo.{ArenaNo}
+use Rattle.rl_spec.specs.declared.Counts.{Counts}
+use Rattle.rl_spec.specs.declared.Cause.{Cause}
+use Rattle.rl_spec.specs.declared.Cause.the-variants.{BytesEnd, BadText, BadReference, TooHigh}
+use Rattle.rl_spec.specs.declared.Answer.the-variants.{Accepted, Refused}
+use Rattle.rl_spec.specs.declared.Section.{Section}
+use Rattle.rl_spec.specs.declared.Section.the-variants.{Texts, Lists, Expressions, Statements, Parameters, Clauses, Functions, Calls}
+use Rattle.rl_spec.specs.declared.Sort.the-variants.{Part}
+use Rattle.rl_spec.specs.declared.Step.the-variants.{Next, Stop}
+use Rattle.rl_spec.specs.Bytes.{u16At}
+use Rattle.rl_spec.specs.Schema.{textBytesAt, countOf, tallest, widthOf, fieldsOf}
+use Rattle.rl_spec.specs.Utf8.{utf8, isScalar, encodeText}
+use Rattle.rl_spec.specs.Fields.{fieldsFrom, recordAt}
+use Rattle.rl_spec.specs.Read.{answerOf, workOf, startsOf}
+use Rattle.rl_spec.specs.Image.{Image, encode, imageOf, recordOf, sizeOf, heights, AllBytes, WellFormed}
+use Rattle.rl_theorems.specs.Utf8 as Utf8
+use Rattle.rl_theorems.specs.Decode as Decode
+use Rattle.rl_theorems.specs.Encoded as Encoded
+use Rattle.rl_theorems.specs.EncodedBytes as EncodedBytes
+use Rattle.rl_theorems.specs.Starts as Starts
+use Rattle.rl_theorems.specs.Places as Places
+use Rattle.rl_theorems.specs.Outcome as Outcome
+use Rattle.rl_theorems.specs.Causes as Causes
+
+-- ---- text (Utf8): the syntax of RFC 3629 admits the encodings of scalars and nothing else
+
+pub encoded-is-utf8 : (cs : List ℕ) → Utf8.All isScalar cs → utf8 (encodeText cs) ≡ true
+encoded-is-utf8 = Utf8.encoded-is-utf8
+
+pub utf8-is-encoded : (s : List ℕ) → utf8 s ≡ true → (cs : List ℕ) × (Utf8.All isScalar cs × (encodeText cs ≡ s))
+utf8-is-encoded = Utf8.utf8-is-encoded
+
+-- ---- an accepted byte list is the encoding of the image that it stands for (Decode)
+
+pub accepted-encodes : (s : List ℕ) (k : ℕ) (a : ArenaNo) (c : Counts) → AllBytes s → answerOf s k ≡ Accepted a c → encode (imageOf s) ≡ s
+accepted-encodes = Decode.accepted-encodes
+
+-- ---- the encoding of a well-formed image is accepted and stands for that image (Encoded; EncodedExample has one)
+
+abbrev pub countsIn : Image → Counts
+countsIn im =
+    record {
+      bytes = length (im .bytes);
+      texts = sizeOf im Texts;
+      lists = sizeOf im Lists;
+      expressions = sizeOf im Expressions;
+      statements = sizeOf im Statements;
+      parameters = sizeOf im Parameters;
+      clauses = sizeOf im Clauses;
+      functions = sizeOf im Functions;
+      calls = sizeOf im Calls;
+    }
+
+pub encoded-accepted : (im : Image) (k : ℕ) → WellFormed im → 8192 ≤ k → answerOf (encode im) k ≡ Accepted (record { 0 = im .arena }) (countsIn im)
+encoded-accepted = Encoded.encoded-accepted
+
+pub encoded-image : (im : Image) → WellFormed im → imageOf (encode im) ≡ im
+encoded-image = Encoded.encoded-image
+
+-- its work slice: the heights of the expressions, then of the statements, then zeros
+pub encoded-work : (im : Image) (k : ℕ) → WellFormed im → 8192 ≤ k → workOf (encode im) k ≡ heights im Expressions ++ heights im Statements ++ replicate (k - (sizeOf im Expressions + sizeOf im Statements)) 0
+encoded-work = Encoded.encoded-work
+
+pub encoded-bytes : (im : Image) → WellFormed im → AllBytes (encode im)
+encoded-bytes = EncodedBytes.encoded-bytes
+
+-- ---- where the records stand (Starts)
+
+module _ (s : List ℕ) (k : ℕ) (a : ArenaNo) (c : Counts) (e : answerOf s k ≡ Accepted a c) where
+  pub sizes-are-counts : (o : Section) → sizeOf (imageOf s) o ≡ countOf c o
+  sizes-are-counts = Starts.sizes-are-counts s k a c e
+
+  pub starts-expression : (i : ℕ) → i < c .expressions → Starts.Stands s Expressions i (getD (startsOf s k) i 0)
+  starts-expression = Starts.starts-expression s k a c e
+
+  pub starts-statement : (i : ℕ) → i < c .statements → Starts.Stands s Statements i (getD (startsOf s k) (c .expressions + i) 0)
+  starts-statement = Starts.starts-statement s k a c e
+
+-- ---- a refusal names a place in the image and a cause that holds (Places, Outcome, Causes)
+
+pub place-within : (s : List ℕ) (k : ℕ) (q : Cause) (n : ℕ) → answerOf s k ≡ Refused q n → n ≤ length s
+place-within = Places.place-within
+
+-- the whole answer: which check refuses, and what stands before it
+pub refused-for : (s : List ℕ) (k : ℕ) (q : Cause) (n : ℕ) → answerOf s k ≡ Refused q n → Outcome.Refusal s k q n
+refused-for = Outcome.refused-for
+
+-- what a number means for one record, which starts at `at`: 3, 6, 8, 9
+module _ (s w p : List ℕ) (seen : Counts) (own : Section) (at : ℕ) where
+  -- 3: the kind is past the end, or the j-th field runs past it
+  pub bytes-end : (n : ℕ) → recordAt s w p seen own at ≡ Stop BytesEnd n → ((n ≡ at) × (length s ≤ at)) ⊎ ((j : ℕ) × Causes.FieldAt s at n j × (length s < n + widthOf (Causes.sortAt s at j)))
+  bytes-end = Causes.bytes-end s w p seen own at
+
+  -- 6: the j-th field is a text outside the text bytes, or not UTF-8
+  pub bad-text : (n : ℕ) → recordAt s w p seen own at ≡ Stop BadText n → (j : ℕ) × Causes.FieldAt s at n j × (Causes.sortAt s at j ≡ Part) × ((seen .bytes < u16At s n + u16At s (n + 2)) ⊎ (utf8 (take (u16At s (n + 2)) (drop (textBytesAt + u16At s n) s)) ≡ false))
+  bad-text = Causes.bad-text s w p seen own at
+
+  -- 8: the j-th field has a reference or a list that is not allowed
+  pub bad-reference : (n : ℕ) → recordAt s w p seen own at ≡ Stop BadReference n → (j : ℕ) × Causes.FieldAt s at n j × Causes.Wrong s p seen BadReference (Causes.sortAt s at j) n
+  bad-reference = Causes.bad-reference s w p seen own at
+
+  -- 9: all fields hold, and the height is over the limit
+  pub height-over : (n : ℕ) → recordAt s w p seen own at ≡ Stop TooHigh n → (n ≡ at) × (a : ℕ) × (tall : ℕ) × (fieldsFrom s w p seen own (fieldsOf (getD s at 0)) (at + 1) 0 ≡ Next a tall) × (tallest own ≤ tall)
+  height-over = Causes.height-over s w p seen own at
