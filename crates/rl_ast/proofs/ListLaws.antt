@@ -21,7 +21,7 @@ use Rattle.rl_spec.specs.Bytes.{pick, past}
 use Rattle.rl_spec.specs.Schema.{inSection, fieldsOf, fieldsIn, schema, sortOf}
 use Rattle.rl_spec.specs.Fields.{heightStep, recordAt, fieldsFrom, fieldAt, valueOf}
 use Rattle.rl_spec.specs.Read.{after, bad, outOf, recordsFrom}
-use Rattle.rl_bytes.proofs.Laws.{by-ltb}
+use Rattle.rl_laws.specs.Tests.{by-ltb}
 use Rattle.rl_ast.specs.Lists.{listsFrom}
 use Rattle.rl_fields.proofs.FieldLaws.{turn, ended}
 use Rattle.rl_fields.proofs.RecordLaws.{there}

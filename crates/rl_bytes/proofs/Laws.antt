@@ -9,15 +9,8 @@ use lib.ListN.{length, getD, take, drop, set, replicate, length-drop, drop-of-le
 use lib.Seq.{drop-length, set-out, take-nil, take-all}
 use lib.Dec.{ltb}
 use borrow.Author.Tests.{ltb-true, ltb-false, lt-ltb, le-ltb}
+use Rattle.rl_laws.specs.Tests.{by-ltb}
 use Rattle.rl_spec.specs.Bytes.{u16At, u32At, past}
-
--- by cases on an order
-pub by-ltb : {P : Type 0} (a b : ℕ) → (a < b → P) → (b ≤ a → P) → P
-by-ltb {P} a b f g = go (ltb a b) refl
-  where
-    go : (t : Bool) → ltb a b ≡ t → P
-    go true e = f (ltb-true a b e)
-    go false e = g (ltb-false a b e)
 
 pub getD-past : (s : List ℕ) (at : ℕ) → length s ≤ at → 0 ≡ getD s at 0
 getD-past s at h = sym (List·getD-eq-default s 0 h)

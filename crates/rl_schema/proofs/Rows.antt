@@ -13,7 +13,8 @@ use Rattle.rl_spec.specs.declared.Section.{Section}
 use Rattle.rl_spec.specs.declared.Section.the-variants.{Calls}
 use Rattle.rl_spec.specs.Bytes.{pick}
 use Rattle.rl_spec.specs.Schema.{Row, schema, fieldsIn, fieldsOf, inSection, lowest, highest, sections}
-use Rattle.rl_bytes.proofs.Laws.{by-ltb, getD-past}
+use Rattle.rl_laws.specs.Tests.{by-ltb}
+use Rattle.rl_bytes.proofs.Laws.{getD-past}
 use Rattle.rl_schema.specs.Codes.{codesIn, codes, table}
 use Rattle.rl_schema.proofs.Table.{at}
 

@@ -224,7 +224,8 @@ heights im o = heightsFrom im o (recordsOf im o) []
 
 -- ---- well-formed
 
--- a reference of the i-th record of a section: to an earlier section or an earlier record of its own, of a kind that is taken
+-- a reference of the i-th record of a section: to an earlier record of its own section, or to another section (in the schema always
+-- an earlier one); and of a kind that is taken
 pub record Refers (im : Image) (o : Section) (i : ℕ) (t : Target) (n : ℕ) : Type 0 where
   pub earlier : n < pick (sameSection o (sectionOf t)) i (sizeOf im (sectionOf t))
   pub taken : takes t (recordOf im Statements n .kind) ≡ true

@@ -12,36 +12,14 @@ use lib.Dec.{T, ltb, leb}
 use borrow.Author.Tests.{ltb-true, ltb-false, le-leb, lt-leb, ne-eqb}
 use mir.Val.{Fits}
 use mir.Syntax.{w64}
+use Rattle.rl_laws.specs.Tests.{by-ltb, and-false}
+use Rattle.rl_laws.specs.Ranges.{within-yes, within-low, within-high}
 use Rattle.rl_spec.specs.Utf8.{Range, _to_, within, utf8Tail, utf8Char, begins, widthBy, charWidth, octets, utf8, isScalar}
 
--- ---- ranges
-and-false : (a : Bool) → a && false ≡ false
-and-false true = refl
-and-false false = refl
-
+-- ---- tests
 and-true : (a : Bool) → a && true ≡ a
 and-true true = refl
 and-true false = refl
-
-by-ltb : {P : Type 0} (a b : ℕ) → (a < b → P) → (b ≤ a → P) → P
-by-ltb {P} a b f g = go (ltb a b) refl
-  where
-    go : (t : Bool) → ltb a b ≡ t → P
-    go true e = f (ltb-true a b e)
-    go false e = g (ltb-false a b e)
-
-module _ (l h n : ℕ) where
-  within-yes : l ≤ n → n ≤ h → within (l to h) n ≡ true
-  unfolding within
-  within-yes p q = rw (le-leb l n p, le-leb n h q) refl
-
-  within-low : n < l → within (l to h) n ≡ false
-  unfolding within
-  within-low p = rw (lt-leb l n p) refl
-
-  within-high : h < n → within (l to h) n ≡ false
-  unfolding within
-  within-high p = rw (lt-leb n h p) (and-false (leb l n))
 
 -- ---- one octet
 module _ (r : Range) (rs : List Range) (s : List ℕ) (at : ℕ) where

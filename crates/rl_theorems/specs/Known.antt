@@ -25,6 +25,7 @@ use Rattle.rl_theorems.specs.Suits.{refers}
 use Rattle.rl_theorems.specs.Values.{Ready}
 use Rattle.rl_theorems.specs.Loop.{AlwaysReady}
 
+-- the sizes of an image's sections
 abbrev pub counts : Image → Counts
 counts im =
     record {

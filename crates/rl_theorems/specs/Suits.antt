@@ -15,7 +15,7 @@ use Rattle.rl_spec.specs.declared.Sort.the-variants.{Raw, Byte, Scalar, Part, O
 use Rattle.rl_spec.specs.Bytes.{pick}
 use Rattle.rl_spec.specs.Schema.{lowest, highest, inSection, sortOf, widthOf, fieldsOf, fieldsIn, schema}
 use Rattle.rl_spec.specs.Image.{orderOf, sectionOf}
-use Rattle.rl_theorems.specs.Utf8.{by-ltb}
+use Rattle.rl_laws.specs.Tests.{by-ltb}
 
 -- a record of the section may refer to the target: from the expressions on, to its own section and the earlier ones
 abbrev pub refers : Section → Target → Bool

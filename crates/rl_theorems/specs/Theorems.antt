@@ -12,7 +12,7 @@ use Rattle.rl_spec.specs.declared.Cause.{Cause}
 use Rattle.rl_spec.specs.declared.Cause.the-variants.{BytesEnd, BadText, BadReference, TooHigh}
 use Rattle.rl_spec.specs.declared.Answer.the-variants.{Accepted, Refused}
 use Rattle.rl_spec.specs.declared.Section.{Section}
-use Rattle.rl_spec.specs.declared.Section.the-variants.{Texts, Lists, Expressions, Statements, Parameters, Clauses, Functions, Calls}
+use Rattle.rl_spec.specs.declared.Section.the-variants.{Expressions, Statements}
 use Rattle.rl_spec.specs.declared.Sort.the-variants.{Part}
 use Rattle.rl_spec.specs.declared.Step.the-variants.{Next, Stop}
 use Rattle.rl_spec.specs.Bytes.{u16At}
@@ -25,6 +25,7 @@ use Rattle.rl_theorems.specs.Utf8 as Utf8
 use Rattle.rl_theorems.specs.Decode as Decode
 use Rattle.rl_theorems.specs.Encoded as Encoded
 use Rattle.rl_theorems.specs.EncodedBytes as EncodedBytes
+use Rattle.rl_theorems.specs.Known.{counts}
 use Rattle.rl_theorems.specs.Starts as Starts
 use Rattle.rl_theorems.specs.Places as Places
 use Rattle.rl_theorems.specs.Outcome as Outcome
@@ -43,23 +44,10 @@ utf8-is-encoded = Utf8.utf8-is-encoded
 pub accepted-encodes : (s : List ℕ) (k : ℕ) (a : ArenaNo) (c : Counts) → AllBytes s → answerOf s k ≡ Accepted a c → encode (imageOf s) ≡ s
 accepted-encodes = Decode.accepted-encodes
 
--- ---- the encoding of a well-formed image is accepted and stands for that image (Encoded; EncodedExample has one)
+-- ---- the encoding of a well-formed image is accepted and stands for that image (Encoded; EncodedExample has one). `counts im` are the
+-- sizes of its sections
 
-abbrev pub countsIn : Image → Counts
-countsIn im =
-    record {
-      bytes = length (im .bytes);
-      texts = sizeOf im Texts;
-      lists = sizeOf im Lists;
-      expressions = sizeOf im Expressions;
-      statements = sizeOf im Statements;
-      parameters = sizeOf im Parameters;
-      clauses = sizeOf im Clauses;
-      functions = sizeOf im Functions;
-      calls = sizeOf im Calls;
-    }
-
-pub encoded-accepted : (im : Image) (k : ℕ) → WellFormed im → 8192 ≤ k → answerOf (encode im) k ≡ Accepted (record { 0 = im .arena }) (countsIn im)
+pub encoded-accepted : (im : Image) (k : ℕ) → WellFormed im → 8192 ≤ k → answerOf (encode im) k ≡ Accepted (record { 0 = im .arena }) (counts im)
 encoded-accepted = Encoded.encoded-accepted
 
 pub encoded-image : (im : Image) → WellFormed im → imageOf (encode im) ≡ im

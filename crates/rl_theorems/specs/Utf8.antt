@@ -8,6 +8,8 @@ use native.Mathlib.Omega.{arith}
 use lib.ListN.{length, take, drop}
 use lib.Dec.{T, ltb, leb}
 use borrow.Author.Tests.{ltb-true, ltb-false, leb-true, le-leb, lt-leb}
+use Rattle.rl_laws.specs.Tests.{by-ltb}
+use Rattle.rl_laws.specs.Ranges.{within-yes, within-high}
 use Rattle.rl_spec.specs.Utf8.{Range, _to_, within, utf8Tail, utf8Char, begins, widthBy, charWidth, octets, utf8, isScalar, encodeScalar, encodeText}
 
 abbrev pub All : (ℕ → Bool) → List ℕ → Type 0
@@ -15,45 +17,26 @@ All f [] = Unit {0}
 All f (c ∷ cs) = (f c ≡ true) × All f cs
 
 -- ---- tests
-pub by-ltb : {P : Type 0} (a b : ℕ) → (a < b → P) → (b ≤ a → P) → P
-by-ltb {P} a b f g = go (ltb a b) refl
-  where
-    go : (t : Bool) → ltb a b ≡ t → P
-    go true e = f (ltb-true a b e)
-    go false e = g (ltb-false a b e)
-
 both : {P : Type 0} (a b : Bool) → a && b ≡ true → (a ≡ true → b ≡ true → P) → P
 both true b e f = f refl e
 both false b e f = absurd (false≢true e)
 
-and-false : (a : Bool) → a && false ≡ false
-and-false true = refl
-and-false false = refl
-
 module _ (l h n : ℕ) where
-  in-range : l ≤ n → n ≤ h → within (l to h) n ≡ true
-  unfolding within
-  in-range p q = rw (le-leb l n p, le-leb n h q) refl
-
-  above-range : h < n → within (l to h) n ≡ false
-  unfolding within
-  above-range p = rw (lt-leb n h p) (and-false (leb l n))
-
   bounds : {P : Type 0} → within (l to h) n ≡ true → (l ≤ n → n ≤ h → P) → P
   unfolding within
   bounds e f = both (leb l n) (leb n h) e (λ p q. f (leb-true l n p) (leb-true n h q))
 
 tail-in : (b : ℕ) → b < 0x40 → within utf8Tail (0x80 + b) ≡ true
-tail-in b p = in-range 0x80 0xBF (0x80 + b) (omega arith) (omega arith)
+tail-in b p = within-yes 0x80 0xBF (0x80 + b) (omega arith) (omega arith)
 
 -- ---- scalars
 scalar-low : (c : ℕ) → c ≤ 0xD7FF → isScalar c ≡ true
 unfolding isScalar
-scalar-low c p = rw (in-range 0 0xD7FF c (omega arith) p) refl
+scalar-low c p = rw (within-yes 0 0xD7FF c (omega arith) p) refl
 
 scalar-high : (c : ℕ) → 0xE000 ≤ c → c ≤ 0x10FFFF → isScalar c ≡ true
 unfolding isScalar
-scalar-high c p q = rw (above-range 0 0xD7FF c (omega arith), in-range 0xE000 0x10FFFF c p q) refl
+scalar-high c p q = rw (within-high 0 0xD7FF c (omega arith), within-yes 0xE000 0x10FFFF c p q) refl
 
 pub scalar-cases : {P : Type 0} (c : ℕ) → isScalar c ≡ true → (c ≤ 0xD7FF → P) → (0xE000 ≤ c → c ≤ 0x10FFFF → P) → P
 unfolding isScalar
@@ -118,11 +101,11 @@ under false b t f = absurd t
 module _ (l h : ℕ) (rs : List Range) (gs : List (List Range)) (b : ℕ) (t : List ℕ) (p : l ≤ b) (q : b ≤ h) (e : begins rs t ≡ true) where
   row : (fs : List (List Range)) → T (below l fs) → widthBy (fs ++ (l to h ∷ rs) ∷ gs) (b ∷ t) ≡ suc (length rs)
   unfolding widthBy begins
-  row [] v = rw (in-range l h b p q, e) refl
+  row [] v = rw (within-yes l h b p q, e) refl
   row ([] ∷ fs) v = absurd v
   row (((m to n) ∷ xs) ∷ fs) v =
       under (ltb n l) (below l fs) v
-      (λ x y. rw (above-range m n b (omega (arith, ltb-true n l x))) (row fs y))
+      (λ x y. rw (within-high m n b (omega (arith, ltb-true n l x))) (row fs y))
 
 -- the alternative at k is f
 abbrev At : ℕ → List Range → Type 0
@@ -158,7 +141,7 @@ module _ (k l h : ℕ) (v : T (below l (take k utf8Char))) where
           let y : c / 0x40 % 0x40 < 0x40 = omega arith in
           let z : c % 0x40 < 0x40 = omega arith in
           let u : List ℕ = (0x80 + c / 0x40 % 0x40) ∷ (0x80 + c % 0x40) ∷ t in
-          let x : begins (m to n ∷ utf8Tail ∷ []) u ≡ true = rw (in-range m n (0x80 + c / 0x40 % 0x40) i j, tail-in (c % 0x40) z) refl in
+          let x : begins (m to n ∷ utf8Tail ∷ []) u ≡ true = rw (within-yes m n (0x80 + c / 0x40 % 0x40) i j, tail-in (c % 0x40) z) refl in
           rw (
             encode-three c (c / 0x1000) (c / 0x40 % 0x40) y (c % 0x40) z (omega arith) a b,
             width-row (m to n ∷ utf8Tail ∷ []) e (0xE0 + c / 0x1000) u p q x,
@@ -171,7 +154,7 @@ module _ (k l h : ℕ) (v : T (below l (take k utf8Char))) where
           let z : c / 0x40 % 0x40 < 0x40 = omega arith in
           let w : c % 0x40 < 0x40 = omega arith in
           let u : List ℕ = (0x80 + c / 0x1000 % 0x40) ∷ (0x80 + c / 0x40 % 0x40) ∷ (0x80 + c % 0x40) ∷ t in
-          let x : begins (m to n ∷ utf8Tail ∷ utf8Tail ∷ []) u ≡ true = rw (in-range m n (0x80 + c / 0x1000 % 0x40) i j, tail-in (c / 0x40 % 0x40) z, tail-in (c % 0x40) w) refl in
+          let x : begins (m to n ∷ utf8Tail ∷ utf8Tail ∷ []) u ≡ true = rw (within-yes m n (0x80 + c / 0x1000 % 0x40) i j, tail-in (c / 0x40 % 0x40) z, tail-in (c % 0x40) w) refl in
           rw (
             encode-four c (c / 0x40000) (c / 0x1000 % 0x40) y (c / 0x40 % 0x40) z (c % 0x40) w (omega arith) a,
             width-row (m to n ∷ utf8Tail ∷ utf8Tail ∷ []) e (0xF0 + c / 0x40000) u p q x,
