@@ -17,4 +17,5 @@ pub mod Sections
 pub mod Encoded
 pub mod EncodedBytes
 pub mod EncodedExample
+pub mod Access
 pub mod Theorems

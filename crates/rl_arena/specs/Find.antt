@@ -1,0 +1,41 @@
+-- Where a field of a record stands, a number of some bytes, a text's bytes, and what an id finds.
+use Prim.Native.Nat.{ℕ, zero, suc, _+_, _*_}
+use mathlib.Core.Bool.{Bool, true}
+use mathlib.Core.List.{List, [], _∷_}
+use lib.ListN.{take, drop}
+use lib.Dec.{eqb, ltb}
+use Rattle.rl_spec.specs.declared.ArenaNo.{ArenaNo}
+use Rattle.rl_spec.specs.declared.Counts.{Counts}
+use Rattle.rl_spec.specs.declared.Id.{Id}
+use Rattle.rl_spec.specs.Bytes.{pick, numAt, u16At}
+use Rattle.rl_spec.specs.Schema.{textBytesAt, sortOf, widthOf}
+use Rattle.rl_arena.specs.declared.Spot.{Spot}
+use Rattle.rl_arena.specs.declared.Spot.the-variants.{Field, Nothing}
+use Rattle.rl_arena.specs.declared.Lookup.{Lookup}
+use Rattle.rl_arena.specs.declared.Lookup.the-variants.{Node, OtherArena, NoSuchNode}
+
+-- the widths that fields have
+abbrev pub isWidth : ℕ → Bool
+isWidth n = pick (eqb n 1) true (pick (eqb n 2) true (pick (eqb n 4) true (eqb n 8)))
+
+-- the number in 1, 2, 4 or 8 bytes; 0 for any other width
+unfoldable pub numberIn : List ℕ → ℕ → ℕ → ℕ
+numberIn s at n = pick (isWidth n) (numAt s at n) 0
+
+-- the j-th of the fields with these codes, the first of which stands at a place
+unfoldable pub spotOf : List ℕ → ℕ → ℕ → Spot
+spotOf [] at j = Nothing
+spotOf (c ∷ cs) at zero = Field c at
+spotOf (c ∷ cs) at (suc j) = spotOf cs (at + widthOf (sortOf c)) j
+
+-- where the offset and the length of the t-th text stand
+abbrev pub textAt : Counts → ℕ → ℕ
+textAt c t = textBytesAt + c .bytes + t * 5 + 1
+
+unfoldable pub textIn : List ℕ → Counts → ℕ → List ℕ
+textIn s c t = take (u16At s (textAt c t + 2)) (drop (textBytesAt + u16At s (textAt c t)) s)
+
+-- a foreign id is told before a missing node
+unfoldable pub lookup : ArenaNo → Counts → Id → Lookup
+lookup arena c id =
+    pick (eqb (id .arena .0) (arena .0)) (pick (ltb (id .node .0) (c .expressions)) (Node (id .node .0)) NoSuchNode) OtherArena
