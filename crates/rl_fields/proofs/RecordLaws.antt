@@ -147,8 +147,8 @@ field-fits s w p seen own o at tall r e t f q i m g l =
     let h : m ≡ widthOf o = g ∙ ap widthOf i in
     omega (arith, field-there s w p seen own o at tall r e t f)
 
-pub byte-fits : (s : List ℕ) (at : ℕ) (r : Bool) → r ≡ past s at 1 → r ≡ false → Fits w64 (length s) → Fits w64 (at + 1)
-byte-fits s at r e f l = omega (arith, there s at 1 r e f)
+pub past-fits : (s : List ℕ) (at n : ℕ) (r : Bool) → r ≡ past s at n → r ≡ false → Fits w64 (length s) → Fits w64 (at + n)
+past-fits s at n r e f l = omega (arith, there s at n r e f)
 
 -- ---- the fields
 
@@ -168,6 +168,35 @@ module _ (s w p : List ℕ) (seen : Counts) (own : Section) (rest at tall : ℕ)
 
 pub fields-start : (s w p : List ℕ) (seen : Counts) (own : Section) (row rest at : ℕ) → rest ≡ row → fieldsFrom s w p seen own (codes row) at 0 ≡ fieldsFrom s w p seen own (codes rest) at 0
 fields-start s w p seen own row rest at e = rw e
+
+pub fields-as : (s w p : List ℕ) (seen : Counts) (own : Section) (row r rest at a : ℕ) → r ≡ row → rest ≡ r → a ≡ at → fieldsFrom s w p seen own (codes row) at 0 ≡ fieldsFrom s w p seen own (codes rest) a 0
+fields-as s w p seen own row r rest at a e f g = rw (f, g, e) refl
+
+-- a span first
+module _ (s w p : List ℕ) (seen : Counts) (own : Section) (at row r : ℕ) (e : r ≡ row) (l : r < 2 ^ 64) (t : r % 256 ≡ 3) (b : Bool) (f : b ≡ past s at 4) where
+  some-row : r ≡ 0 → ⊥
+  some-row z = omega arith
+
+  field-is : (v : Check) → v ≡ pick (past s at 4) (Fails BytesEnd) (Holds 0) → v ≡ fieldAt s w p seen own (sortOf (r % 256)) at 0
+  field-is v g = coded-raw4 s w p seen own (r % 256) at 0 t v g
+
+  row-is : fieldsFrom s w p seen own (codes row) at 0 ≡ fieldsFrom s w p seen own (codes r) at 0
+  row-is = fields-start s w p seen own row r at e
+
+  pub span-past : b ≡ true → Stop BytesEnd at ≡ fieldsFrom s w p seen own (codes row) at 0
+  span-past q =
+      fields-bad s w p seen own r at 0 (fieldsFrom s w p seen own (codes row) at 0) row-is some-row l (Fails BytesEnd)
+      (field-is (Fails BytesEnd) (raw-past s 4 at 0 b f q)) BytesEnd refl
+
+  pub span-next : b ≡ false → (rest a : ℕ) → rest ≡ r / 256 → a ≡ at + 4 → fieldsFrom s w p seen own (codes row) at 0 ≡ fieldsFrom s w p seen own (codes rest) a 0
+  unfolding sortOf
+  span-next q rest a g h =
+      rw (g, h)
+      (fields-more s w p seen own r at 0 (fieldsFrom s w p seen own (codes row) at 0) row-is some-row l (Holds 0)
+      (field-is (Holds 0) (raw-there s 4 at 0 b f q)) 0 refl (sortOf (r % 256)) refl 4 four)
+    where
+      four : 4 ≡ widthOf (sortOf (r % 256))
+      four = rw t refl
 
 -- ---- a record
 

@@ -573,6 +573,17 @@ fn fields(
     let mut rest = row_of(rows, kind);
     let mut at = start;
     let mut tall: u16 = 0;
+    // a span comes first in most records
+    if rest % 256 == 3 {
+        if is_past(s, at, 4) {
+            return Step::Stop {
+                cause: Cause::BytesEnd,
+                place: at,
+            };
+        }
+        at += 4;
+        rest = rest / 256;
+    }
     while rest != 0 {
         let code = (rest % 256) as u8;
         let check = coded_field(s, w, p, seen, own, code, at, tall);

@@ -1,9 +1,9 @@
 use borrow.Author.Needs.{needs}
 use Rattle.rl_fields.proofs.record.Statement.{statement}
 use Rattle.rl_fields.proofs.record.Tie as tie
-use Rattle.rl_fields.proofs.RecordLaws.{record-past, record-kind, record-stop, record-next, record-tall, byte-there, byte-fits}
+use Rattle.rl_fields.proofs.RecordLaws.{record-past, record-kind, record-stop, record-next, record-tall, byte-there, past-fits}
 
-ruleset laws = (record-past, record-kind, record-stop, record-next, record-tall, byte-there, byte-fits)
+ruleset laws = (record-past, record-kind, record-stop, record-next, record-tall, byte-there, past-fits)
 
 is-past-requires : tie.Need-is-past-requires
 is-past-requires c κs = search needs

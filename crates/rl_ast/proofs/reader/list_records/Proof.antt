@@ -5,9 +5,9 @@ use borrow.Author.Needs.{needs}
 use Rattle.rl_ast.proofs.reader.list_records.Statement.{statement}
 use Rattle.rl_ast.proofs.reader.list_records.Tie as tie
 use Rattle.rl_ast.proofs.ListLaws.{lists-start, lists-end, lists-past, lists-kind, lists-short, lists-more, three-fit}
-use Rattle.rl_fields.proofs.RecordLaws.{byte-there, byte-fits}
+use Rattle.rl_fields.proofs.RecordLaws.{byte-there, past-fits}
 
-ruleset laws = (lists-start, lists-end, lists-past, lists-kind, lists-short, lists-more, three-fit, byte-there, byte-fits)
+ruleset laws = (lists-start, lists-end, lists-past, lists-kind, lists-short, lists-more, three-fit, byte-there, past-fits)
 
 abbrev Inv-loop : tie.InvT-loop
 Inv-loop s count start at₀ i₀ at i = (i ≤ count) × (listsFrom s count start ≡ listsFrom s (count - i) at)
