@@ -10,6 +10,7 @@ pub mod Suits
 pub mod Sized
 pub mod Values
 pub mod Records
+pub mod Fits
 pub mod Loop
 pub mod Known
 pub mod Header
@@ -17,3 +18,5 @@ pub mod Sections
 pub mod Encoded
 pub mod EncodedBytes
 pub mod EncodedExample
+pub mod AcceptedParts
+pub mod Accepted
