@@ -40,7 +40,7 @@ records-length s (suc n) at = ap suc (records-length s n (nextAt s at))
 
 -- ---- numbers
 
-byte-below : (s : List ℕ) → AllBytes s → (at : ℕ) → getD s at 0 < 256
+pub byte-below : (s : List ℕ) → AllBytes s → (at : ℕ) → getD s at 0 < 256
 byte-below [] h at = omega arith
 byte-below (b ∷ s) h zero = h .0
 byte-below (b ∷ s) h (suc at) = byte-below s (h .1) at
@@ -56,7 +56,7 @@ u32-is s at =
     rw e (omega arith)
 
 -- a field of two numbers has four bytes
-pair-width : (o : Sort) → isPair o ≡ true → widthOf o ≡ 4
+pub pair-width : (o : Sort) → isPair o ≡ true → widthOf o ≡ 4
 pair-width (Raw n) e = absurd (false≢true e)
 pair-width (Byte low high) e = absurd (false≢true e)
 pair-width Scalar e = refl
@@ -69,11 +69,11 @@ pair-width OperandSort e = absurd (false≢true e)
 pair-width Operand e = absurd (false≢true e)
 
 -- the counts of sections stand one after another, from a place on
-abbrev CountsAt : List ℕ → Counts → List Section → ℕ → Type 0
+abbrev pub CountsAt : List ℕ → Counts → List Section → ℕ → Type 0
 CountsAt s c [] x = Unit {0}
 CountsAt s c (o ∷ os) x = (countOf c o ≡ u16At s x) × CountsAt s c os (x + 2)
 
-header-counts : (s : List ℕ) → CountsAt s (countsOf s) sections 7
+pub header-counts : (s : List ℕ) → CountsAt s (countsOf s) sections 7
 unfolding countsOf sections
 header-counts s = (refl, (refl, (refl, (refl, (refl, (refl, (refl, (refl, tt))))))))
 
@@ -118,7 +118,7 @@ module _ (s : List ℕ) (bytes : AllBytes s) where
       rw (drop-cons s at 0 l, ← add-one at)
       (ap (λ (t : List ℕ). getD s at 0 ∷ t) (fields-bytes (fieldsOf (getD s at 0)) (at + 1) h))
 
-  records-bytes : (n at : ℕ) → endAt s n at ≤ length s → encodeRecords (recordsIn s n at) ++ drop (endAt s n at) s ≡ drop at s
+  pub records-bytes : (n at : ℕ) → endAt s n at ≤ length s → encodeRecords (recordsIn s n at) ++ drop (endAt s n at) s ≡ drop at s
   unfolding encodeRecords recordsIn endAt
   records-bytes zero at h = refl
   records-bytes (suc n) at h =
@@ -146,10 +146,10 @@ module _ (s : List ℕ) (bytes : AllBytes s) where
       (u16-bytes x (omega arith))
 
   -- the text bytes
-  text-bytes : (n : ℕ) → take n (drop textBytesAt s) ++ drop (textBytesAt + n) s ≡ drop textBytesAt s
+  pub text-bytes : (n : ℕ) → take n (drop textBytesAt s) ++ drop (textBytesAt + n) s ≡ drop textBytesAt s
   text-bytes n = rw (← drop-drop n textBytesAt s) (take-append-drop n (drop textBytesAt s))
 
-  text-length : sectionsAt s ≤ length s → length (take (countsOf s .bytes) (drop textBytesAt s)) ≡ u16At s 5
+  pub text-length : sectionsAt s ≤ length s → length (take (countsOf s .bytes) (drop textBytesAt s)) ≡ u16At s 5
   unfolding countsOf
   text-length h = rw (length-take, length-drop) (omega arith)
 

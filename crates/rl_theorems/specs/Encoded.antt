@@ -12,20 +12,15 @@ use Rattle.rl_spec.specs.declared.Counts.{Counts}
 use Rattle.rl_spec.specs.declared.Answer.the-variants.{Accepted}
 use Rattle.rl_spec.specs.declared.Section.{Section}
 use Rattle.rl_spec.specs.declared.Section.the-variants.{Texts, Lists, Expressions, Statements, Parameters, Clauses, Functions, Calls}
-use Rattle.rl_spec.specs.Schema.{limits, textBytesAt, sections}
+use Rattle.rl_spec.specs.Schema.{textBytesAt, sections}
 use Rattle.rl_spec.specs.Read.{good, countsOf, endOf, bodyOf, mostStarts, readOf, answerOf, workOf}
 use Rattle.rl_spec.specs.Image.{Image, recordsOf, sizeOf, encode, imageOf, sectionsIn, heights, WellFormed}
 use Rattle.rl_theorems.specs.Standing.{there, piece}
 use Rattle.rl_theorems.specs.Loop.{length-heights}
-use Rattle.rl_theorems.specs.Header.{size-within, text-stands, arena-is, header-good, counts-are}
+use Rattle.rl_theorems.specs.Header.{starts-fit, text-stands, arena-is, header-good, counts-are}
 use Rattle.rl_theorems.specs.Sections.{kept, startsIn, sections-good, records-back}
 
 module _ (im : Image) (wf : WellFormed im) where
-  -- the expressions and the statements have places for their starts
-  starts-fit : sizeOf im Expressions + sizeOf im Statements ≤ mostStarts
-  unfolding limits
-  starts-fit = omega (arith, size-within im wf Expressions, size-within im wf Statements)
-
   body-good : (w p : List ℕ) → sizeOf im Expressions + sizeOf im Statements ≤ length w → sizeOf im Expressions + sizeOf im Statements ≤ length p → bodyOf (encode im) (countsOf (encode im)) w p ≡ good (length (encode im)) (kept im (heights im) w) (kept im (startsIn im) p)
   unfolding bodyOf endOf
   body-good w p room roomy =
@@ -40,7 +35,7 @@ module _ (im : Image) (wf : WellFormed im) where
   unfolding readOf
   read-good k l =
       rw (le-ltb 65535 (length (encode im)) (wf .size), le-ltb k 8192 l, header-good im wf)
-      (body-good (replicate k 0) (replicate mostStarts 0) (rw length-replicate (omega (arith, starts-fit))) (rw length-replicate starts-fit))
+      (body-good (replicate k 0) (replicate mostStarts 0) (rw length-replicate (omega (arith, starts-fit im (wf .counts)))) (rw length-replicate (starts-fit im (wf .counts))))
 
 -- ---- the work slice
 
@@ -94,5 +89,5 @@ unfolding workOf
 encoded-work im k wf l =
     let e : ℕ = sizeOf im Expressions in
     let d : ℕ = sizeOf im Statements in
-    let t = two-sets (replicate k 0) (heights im Expressions) (heights im Statements) e d (heights-all im Expressions) (heights-all im Statements) (rw length-replicate (omega (arith, starts-fit im wf))) in
+    let t = two-sets (replicate k 0) (heights im Expressions) (heights im Statements) e d (heights-all im Expressions) (heights-all im Statements) (rw length-replicate (omega (arith, starts-fit im (wf .counts)))) in
     rw (read-good im wf k l) (t ∙ ap (λ (r : List ℕ). heights im Expressions ++ heights im Statements ++ r) (drop-replicate (e + d) k 0))

@@ -13,7 +13,7 @@ use Rattle.rl_spec.specs.declared.Section.the-variants.{Texts, Lists, Expressio
 use Rattle.rl_spec.specs.declared.Step.the-variants.{Next}
 use Rattle.rl_spec.specs.Bytes.{u16At, u32At}
 use Rattle.rl_spec.specs.Schema.{limits, textBytesAt, sections}
-use Rattle.rl_spec.specs.Read.{countsOf, countsFrom, headerOf}
+use Rattle.rl_spec.specs.Read.{countsOf, countsFrom, headerOf, mostStarts}
 use Rattle.rl_spec.specs.Image.{Rec, Image, orderOf, recordsOf, sizeOf, bytesOf, encodeCounts, encodeSections, encode, AllWithin, WellFormed}
 use Rattle.rl_theorems.specs.Standing.{Stands, left, right, head, tail, there, length-bytes, number, u32-number}
 use Rattle.rl_theorems.specs.Suits.{and-left, and-right}
@@ -59,23 +59,28 @@ listed (suc n) (x ∷ xs) d e = ap (λ (r : List _). x ∷ r) (listed n xs d (om
 abbrev numbers : Image → List ℕ
 numbers im = length (im .bytes) ∷ map length (im .records)
 
-module _ (im : Image) (wf : WellFormed im) where
-  pub size-within : (o : Section) → sizeOf im o ≤ getD limits (suc (orderOf o)) 0
+module _ (im : Image) (limited : AllWithin (numbers im) limits) where
+  size-within : (o : Section) → sizeOf im o ≤ getD limits (suc (orderOf o)) 0
   size-within o =
       rw (List·getD-map length (im .records) (orderOf o) [])
-      at (within-at (numbers im) limits (wf .counts) (suc (orderOf o)))
+      at (within-at (numbers im) limits limited (suc (orderOf o)))
 
   pub bounded : Bounded im
   unfolding limits
   bounded =
       record {
-        bytes = within-at (numbers im) limits (wf .counts) 0;
+        bytes = within-at (numbers im) limits limited 0;
         sizes = λ o. omega (arith, size-within o, under-at 4096 (drop 1 limits) refl (orderOf o));
       }
 
-  pub records-are : im .records ≡ map (recordsOf im) sections
-  unfolding sections limits
-  records-are = listed 8 (im .records) [] (omega (arith, length-map (im .records) length, within-length (numbers im) limits (wf .counts)))
+  -- the expressions and the statements have places for their starts
+  pub starts-fit : sizeOf im Expressions + sizeOf im Statements ≤ mostStarts
+  unfolding limits
+  starts-fit = omega (arith, size-within Expressions, size-within Statements)
+
+pub records-are : (im : Image) → WellFormed im → im .records ≡ map (recordsOf im) sections
+unfolding sections limits
+records-are im wf = listed 8 (im .records) [] (omega (arith, length-map (im .records) length, within-length (numbers im) limits (wf .counts)))
 
 -- ---- the counts, two bytes each
 

@@ -1,29 +1,29 @@
 -- At each record of each section the reader knows what it needs of the image before it.
 -- Assumes nothing.
 use Prim.Native.Nat.{ℕ, _+_, _*_, _≤_, _<_}
-use mathlib.Core.Path.{_≡_, refl}
-use mathlib.Core.Bool.{true, false, false≢true}
+use mathlib.Core.Path.{_≡_, refl, sym}
+use mathlib.Core.Bool.{Bool, true, false, false≢true}
 use mathlib.Core.List.{List, _++_, append-assoc}
 use native.Mathlib.Omega.{arith}
 use native.Mathlib.Nat.{zero-add}
-use lib.Dec.{lit<}
+use lib.Dec.{ltb, lit<}
 use lib.ListN.{length, getD, take, drop, List·getD-append}
 use lib.Seq.{sets, sets-eq, drop-at, getD-drop, length-take-le}
-use borrow.Author.Tests.{lt-ltb, ne-eqb}
+use borrow.Author.Tests.{ltb-true, lt-ltb, ne-eqb}
 use Rattle.rl_spec.specs.declared.Counts.{Counts}
 use Rattle.rl_spec.specs.declared.Section.{Section}
 use Rattle.rl_spec.specs.declared.Section.the-variants.{Texts, Lists, Expressions, Statements, Parameters, Clauses, Functions, Calls}
 use Rattle.rl_spec.specs.declared.Target.{Target}
 use Rattle.rl_spec.specs.declared.Target.the-variants.{Text, Expression, Statement, Branch, ElseBranch, Arm}
-use Rattle.rl_spec.specs.Bytes.{u16At}
+use Rattle.rl_spec.specs.Bytes.{pick, u16At}
 use Rattle.rl_spec.specs.Schema.{textBytesAt, countOf}
 use Rattle.rl_spec.specs.Fields.{takes, within, listsAt, kindOfStatement, allowed, childHeight, entryAt}
 use Rattle.rl_spec.specs.Read.{seenBy}
-use Rattle.rl_spec.specs.Image.{Image, orderOf, sizeOf, recordOf, entryOf, sectionOf, sameSection, heightOf, Refers}
+use Rattle.rl_spec.specs.Image.{Image, orderOf, recordsOf, sizeOf, recordOf, encodeRecords, entryOf, sectionOf, sameSection, heightOf, Refers}
 use Rattle.rl_theorems.specs.Standing.{Stands}
 use Rattle.rl_theorems.specs.Suits.{refers}
 use Rattle.rl_theorems.specs.Values.{Ready}
-use Rattle.rl_theorems.specs.Loop.{AlwaysReady}
+use Rattle.rl_theorems.specs.Loop.{starts, length-starts, starts-kind, AlwaysReady}
 
 -- the sizes of an image's sections
 abbrev pub counts : Image → Counts
@@ -61,20 +61,49 @@ Told im s p =
     (n : ℕ) → n < sizeOf im Statements → getD s (getD p (sizeOf im Expressions + n) 0) 0 ≡ recordOf im Statements n .kind
 
 -- what is kept is found again
-pub getD-sets : (w : List ℕ) (a : ℕ) (xs : List ℕ) (n : ℕ) → a + length xs ≤ length w → n < length xs → getD (sets w a xs) (a + n) 0 ≡ getD xs n 0
+getD-sets : (w : List ℕ) (a : ℕ) (xs : List ℕ) (n : ℕ) → a + length xs ≤ length w → n < length xs → getD (sets w a xs) (a + n) 0 ≡ getD xs n 0
 getD-sets w a xs n p q =
     let d = drop-at (take a w) (xs ++ drop (a + length xs) w) a (length-take-le a w (omega arith)) in
     rw (sets-eq xs w a p, ← getD-drop, append-assoc, d) (List·getD-append xs (drop (a + length xs) w) 0 n q)
 
--- a reference below the count finds its record; only a statement's kind matters
-found-below : (im : Image) (s p : List ℕ) (seen : Counts) (t : Target) (n : ℕ) → n < within seen t → (orderOf (sectionOf t) ≡ 3 → kindOfStatement s p seen n ≡ recordOf im Statements n .kind) → takes t (recordOf im Statements n .kind) ≡ true → allowed s p seen t n ≡ true
-unfolding allowed
-found-below im s p seen Text n q e f = rw (lt-ltb n (seen .texts) q)
-found-below im s p seen Expression n q e f = rw (lt-ltb n (seen .expressions) q)
-found-below im s p seen Statement n q e f = rw (lt-ltb n (seen .statements) q, e refl) f
-found-below im s p seen Branch n q e f = rw (lt-ltb n (seen .statements) q, e refl) f
-found-below im s p seen ElseBranch n q e f = rw (lt-ltb n (seen .statements) q, e refl) f
-found-below im s p seen Arm n q e f = rw (lt-ltb n (seen .statements) q, e refl) f
+pub told : (im : Image) (s p : List ℕ) → sizeOf im Expressions + sizeOf im Statements ≤ length p → (at : ℕ) → Stands s at (encodeRecords (recordsOf im Statements)) → Told im s (sets p (sizeOf im Expressions) (starts at (recordsOf im Statements)))
+told im s p roomy at st n l =
+    let e : length (starts at (recordsOf im Statements)) ≡ sizeOf im Statements = length-starts at (recordsOf im Statements) in
+    rw (getD-sets p (sizeOf im Expressions) (starts at (recordsOf im Statements)) n (omega arith) (omega arith))
+    (starts-kind (recordsOf im Statements) st n l)
+
+-- ---- a reference below the count, and only that, finds its record; only a statement's kind matters
+
+takes-by : (t : Target) (a b : ℕ) → (orderOf (sectionOf t) ≡ 3 → a ≡ b) → takes t a ≡ true → takes t b ≡ true
+takes-by Text a b e f = refl
+takes-by Expression a b e f = refl
+takes-by Statement a b e f = rw (e refl) at f
+takes-by Branch a b e f = rw (e refl) at f
+takes-by ElseBranch a b e f = rw (e refl) at f
+takes-by Arm a b e f = rw (e refl) at f
+
+module _ (im : Image) (s p : List ℕ) (seen : Counts) (t : Target) (n : ℕ) (kinds : orderOf (sectionOf t) ≡ 3 → n < within seen t → kindOfStatement s p seen n ≡ recordOf im Statements n .kind) where
+  found-below : n < within seen t → takes t (recordOf im Statements n .kind) ≡ true → allowed s p seen t n ≡ true
+  unfolding allowed
+  found-below q f = rw (lt-ltb n (within seen t) q) (takes-by t (recordOf im Statements n .kind) (kindOfStatement s p seen n) (λ e. sym (kinds e q)) f)
+
+  below-found : allowed s p seen t n ≡ true → (n < within seen t) × (takes t (recordOf im Statements n .kind) ≡ true)
+  unfolding allowed
+  below-found f = go (ltb n (within seen t)) refl f
+    where
+      go : (b : Bool) → ltb n (within seen t) ≡ b → pick b (takes t (kindOfStatement s p seen n)) false ≡ true → (n < within seen t) × (takes t (recordOf im Statements n .kind) ≡ true)
+      go true d f =
+          let q : n < within seen t = ltb-true n (within seen t) d in
+          (q, takes-by t (kindOfStatement s p seen n) (recordOf im Statements n .kind) (λ e. kinds e q) f)
+      go false d f = absurd (false≢true f)
+
+  -- what the i-th record of the section o may refer to
+  module _ (o : Section) (i : ℕ) (limit : within seen t ≡ pick (sameSection o (sectionOf t)) i (sizeOf im (sectionOf t))) where
+    refers-found : Refers im o i t n → allowed s p seen t n ≡ true
+    refers-found r = found-below (rw limit (r .earlier)) (r .taken)
+
+    found-refers : allowed s p seen t n ≡ true → Refers im o i t n
+    found-refers f = record { earlier = rw limit at (below-found f .0); taken = below-found f .1 }
 
 within-is : (im : Image) (t : Target) → within (counts im) t ≡ sizeOf im (sectionOf t)
 within-is im Text = refl
@@ -95,9 +124,9 @@ target-order Arm = omega arith
 module _ (im : Image) (s : List ℕ) (placed : Placed im s) (w p : List ℕ) where
   -- a section that sees all counts
   module _ (o : Section) (i : ℕ) (h : List ℕ) where
-    plain : ((t : Target) (n : ℕ) → refers o t ≡ true → Refers im o i t n → allowed s p (counts im) t n ≡ true) → ((t : Target) (n : ℕ) → refers o t ≡ true → childHeight w (counts im) o t n ≡ heightOf im o h t n) → Ready im s w p (counts im) o i h
+    plain : ((t : Target) (n : ℕ) → refers o t ≡ true → Refers im o i t n → allowed s p (counts im) t n ≡ true) → ((t : Target) (n : ℕ) → refers o t ≡ true → allowed s p (counts im) t n ≡ true → Refers im o i t n) → ((t : Target) (n : ℕ) → refers o t ≡ true → childHeight w (counts im) o t n ≡ heightOf im o h t n) → Ready im s w p (counts im) o i h
     unfolding entryAt
-    plain found child =
+    plain found refer child =
         record {
           bytes = refl;
           texts = refl;
@@ -106,6 +135,7 @@ module _ (im : Image) (s : List ℕ) (placed : Placed im s) (w p : List ℕ) whe
           text = placed .text;
           entry = placed .entry;
           found = found;
+          refer = refer;
           child = λ t n u r. child t n u;
         }
 
@@ -114,17 +144,19 @@ module _ (im : Image) (s : List ℕ) (placed : Placed im s) (w p : List ℕ) whe
     unfolding kindOfStatement
     late above flat told =
         let other : (t : Target) → sameSection o (sectionOf t) ≡ false = λ t. ne-eqb (orderOf o) (orderOf (sectionOf t)) (λ e. omega (arith, target-order t)) in
-        plain
-        (λ t n u r.
-        let q : n < sizeOf im (sectionOf t) = rw (other t) at (r .earlier) in
-        found-below im s p (counts im) t n (rw within-is q) (λ e. told n (rw e at q)) (r .taken))
+        let limit : (t : Target) → within (counts im) t ≡ pick (sameSection o (sectionOf t)) i (sizeOf im (sectionOf t)) = λ t. rw (other t) (within-is im t) in
+        let kinds : (t : Target) (n : ℕ) → orderOf (sectionOf t) ≡ 3 → n < within (counts im) t → kindOfStatement s p (counts im) n ≡ recordOf im Statements n .kind = λ t n e q. told n (rw (within-is, e) at q) in
+        plain (λ t n u r. refers-found im s p (counts im) t n (kinds t n) o i (limit t) r)
+        (λ t n u f. found-refers im s p (counts im) t n (kinds t n) o i (limit t) f)
         (λ t n u. rw (flat t n, other t))
 
   pub texts-ready : AlwaysReady im s (counts im) Texts w p
-  texts-ready i h q l x y k = plain Texts i h (λ t n u r. absurd (false≢true u)) (λ t n u. absurd (false≢true u))
+  texts-ready i h q l x y k =
+      plain Texts i h (λ t n u r. absurd (false≢true u)) (λ t n u f. absurd (false≢true u)) (λ t n u. absurd (false≢true u))
 
   pub lists-ready : AlwaysReady im s (counts im) Lists w p
-  lists-ready i h q l x y k = plain Lists i h (λ t n u r. absurd (false≢true u)) (λ t n u. absurd (false≢true u))
+  lists-ready i h q l x y k =
+      plain Lists i h (λ t n u r. absurd (false≢true u)) (λ t n u f. absurd (false≢true u)) (λ t n u. absurd (false≢true u))
 
   module _ (told : Told im s p) where
     pub parameters-ready : AlwaysReady im s (counts im) Parameters w p
@@ -145,13 +177,16 @@ module _ (im : Image) (s : List ℕ) (placed : Placed im s) (w p : List ℕ) whe
 
   -- the expressions, whose children are earlier ones
   module _ (room : sizeOf im Expressions ≤ length w) (i : ℕ) (h q : List ℕ) (l : i < sizeOf im Expressions) (x : length h ≡ i) where
-    found-expression : (t : Target) (n : ℕ) → refers Expressions t ≡ true → Refers im Expressions i t n → allowed s (sets p 0 q) (seenBy (counts im) Expressions i) t n ≡ true
-    found-expression Text n u r = found-below im s (sets p 0 q) (seenBy (counts im) Expressions i) Text n (r .earlier) (λ e. absurd (omega arith)) (r .taken)
-    found-expression Expression n u r = found-below im s (sets p 0 q) (seenBy (counts im) Expressions i) Expression n (r .earlier) (λ e. absurd (omega arith)) (r .taken)
-    found-expression Statement n u r = absurd (false≢true u)
-    found-expression Branch n u r = absurd (false≢true u)
-    found-expression ElseBranch n u r = absurd (false≢true u)
-    found-expression Arm n u r = absurd (false≢true u)
+    limit-expression : (t : Target) → refers Expressions t ≡ true → within (seenBy (counts im) Expressions i) t ≡ pick (sameSection Expressions (sectionOf t)) i (sizeOf im (sectionOf t))
+    limit-expression Text u = refl
+    limit-expression Expression u = refl
+    limit-expression Statement u = absurd (false≢true u)
+    limit-expression Branch u = absurd (false≢true u)
+    limit-expression ElseBranch u = absurd (false≢true u)
+    limit-expression Arm u = absurd (false≢true u)
+
+    no-statement : (t : Target) (n : ℕ) → refers Expressions t ≡ true → orderOf (sectionOf t) ≡ 3 → n < within (seenBy (counts im) Expressions i) t → kindOfStatement s (sets p 0 q) (seenBy (counts im) Expressions i) n ≡ recordOf im Statements n .kind
+    no-statement t n u e d = absurd (false≢true (rw e at u))
 
     expression-child : (t : Target) (n : ℕ) → refers Expressions t ≡ true → Refers im Expressions i t n → childHeight (sets w 0 h) (seenBy (counts im) Expressions i) Expressions t n ≡ heightOf im Expressions h t n
     unfolding childHeight
@@ -172,26 +207,26 @@ module _ (im : Image) (s : List ℕ) (placed : Placed im s) (w p : List ℕ) whe
           ranges = λ q u. absurd (false≢true u);
           text = placed .text;
           entry = placed .entry;
-          found = found-expression;
+          found = λ t n u r. refers-found im s (sets p 0 q) (seenBy (counts im) Expressions i) t n (no-statement t n u) Expressions i (limit-expression t u) r;
+          refer = λ t n u f. found-refers im s (sets p 0 q) (seenBy (counts im) Expressions i) t n (no-statement t n u) Expressions i (limit-expression t u) f;
           child = expression-child;
         }
 
   -- the statements, of which the earlier ones' starts are kept
   module _ (room : sizeOf im Expressions + sizeOf im Statements ≤ length w) (roomy : sizeOf im Expressions + sizeOf im Statements ≤ length p) (i : ℕ) (h q : List ℕ) (l : i < sizeOf im Statements) (x : length h ≡ i) (y : length q ≡ i) (kinds : (n : ℕ) → n < i → getD s (getD q n 0) 0 ≡ recordOf im Statements n .kind) where
-    starts-found : (n : ℕ) → n < i → kindOfStatement s (sets p (sizeOf im Expressions) q) (seenBy (counts im) Statements i) n ≡ recordOf im Statements n .kind
+    limit-statement : (t : Target) → within (seenBy (counts im) Statements i) t ≡ pick (sameSection Statements (sectionOf t)) i (sizeOf im (sectionOf t))
+    limit-statement Text = refl
+    limit-statement Expression = refl
+    limit-statement Statement = refl
+    limit-statement Branch = refl
+    limit-statement ElseBranch = refl
+    limit-statement Arm = refl
+
+    starts-found : (t : Target) (n : ℕ) → orderOf (sectionOf t) ≡ 3 → n < within (seenBy (counts im) Statements i) t → kindOfStatement s (sets p (sizeOf im Expressions) q) (seenBy (counts im) Statements i) n ≡ recordOf im Statements n .kind
     unfolding kindOfStatement
-    starts-found n d = rw (getD-sets p (sizeOf im Expressions) q n (omega arith) (omega arith)) (kinds n d)
-
-    found-by : (t : Target) (n : ℕ) → n < within (seenBy (counts im) Statements i) t → (orderOf (sectionOf t) ≡ 3 → n < i) → takes t (recordOf im Statements n .kind) ≡ true → allowed s (sets p (sizeOf im Expressions) q) (seenBy (counts im) Statements i) t n ≡ true
-    found-by t n d e f = found-below im s (sets p (sizeOf im Expressions) q) (seenBy (counts im) Statements i) t n d (λ g. starts-found n (e g)) f
-
-    found-statement : (t : Target) (n : ℕ) → refers Statements t ≡ true → Refers im Statements i t n → allowed s (sets p (sizeOf im Expressions) q) (seenBy (counts im) Statements i) t n ≡ true
-    found-statement Text n u r = found-by Text n (r .earlier) (λ e. absurd (omega arith)) (r .taken)
-    found-statement Expression n u r = found-by Expression n (r .earlier) (λ e. absurd (omega arith)) (r .taken)
-    found-statement Statement n u r = found-by Statement n (r .earlier) (λ e. r .earlier) (r .taken)
-    found-statement Branch n u r = found-by Branch n (r .earlier) (λ e. r .earlier) (r .taken)
-    found-statement ElseBranch n u r = found-by ElseBranch n (r .earlier) (λ e. r .earlier) (r .taken)
-    found-statement Arm n u r = found-by Arm n (r .earlier) (λ e. r .earlier) (r .taken)
+    starts-found t n e d =
+        let g : n < i = rw (limit-statement t, e) at d in
+        rw (getD-sets p (sizeOf im Expressions) q n (omega arith) (omega arith)) (kinds n g)
 
     height-found : (n : ℕ) → n < i → getD (sets w (sizeOf im Expressions) h) (sizeOf im Expressions + n) 0 ≡ getD h n 0
     height-found n d = getD-sets w (sizeOf im Expressions) h n (omega arith) (omega arith)
@@ -215,6 +250,7 @@ module _ (im : Image) (s : List ℕ) (placed : Placed im s) (w p : List ℕ) whe
           ranges = λ q u. absurd (false≢true u);
           text = placed .text;
           entry = placed .entry;
-          found = found-statement;
+          found = λ t n u r. refers-found im s (sets p (sizeOf im Expressions) q) (seenBy (counts im) Statements i) t n (starts-found t n) Statements i (limit-statement t) r;
+          refer = λ t n u f. found-refers im s (sets p (sizeOf im Expressions) q) (seenBy (counts im) Statements i) t n (starts-found t n) Statements i (limit-statement t) f;
           child = statement-child;
         }

@@ -10,6 +10,7 @@ pub mod Suits
 pub mod Sized
 pub mod Values
 pub mod Records
+pub mod Fits
 pub mod Loop
 pub mod Known
 pub mod Header
@@ -18,4 +19,6 @@ pub mod Encoded
 pub mod EncodedBytes
 pub mod EncodedExample
 pub mod Access
+pub mod AcceptedParts
+pub mod Accepted
 pub mod Theorems

@@ -31,7 +31,7 @@ next : {a b x y : ℕ} → a ≡ b → x ≡ y → Next a x ≡ Next b y
 next d e = cc
 
 module _ (im : Image) (bounded : Bounded im) (s w p : List ℕ) (seen : Counts) (o : Section) (i : ℕ) (h : List ℕ) (short : i ≤ 4096) (ready : Ready im s w p seen o i h) where
-  fields-good : (narrow : Bool) (before at tall : ℕ) (cs : List ℕ) (fs : List Field) → allSuit o narrow cs ≡ true → (narrow ≡ true → getD s (at - 1) 0 ≡ before) → FieldsFit im o i before cs fs → AllSized cs fs → Stands s at (encodeFields cs fs) → fieldsFrom s w p seen o cs at tall ≡ Next (at + widthsOf cs) (max tall (tallestChild im o h cs fs))
+  pub fields-good : (narrow : Bool) (before at tall : ℕ) (cs : List ℕ) (fs : List Field) → allSuit o narrow cs ≡ true → (narrow ≡ true → getD s (at - 1) 0 ≡ before) → FieldsFit im o i before cs fs → AllSized cs fs → Stands s at (encodeFields cs fs) → fieldsFrom s w p seen o cs at tall ≡ Next (at + widthsOf cs) (max tall (tallestChild im o h cs fs))
   unfolding fieldsFrom fieldAt encodeFields widthsOf tallestChild
   fields-good narrow before at tall [] [] u b d z st = next (omega arith) (omega arith)
   fields-good narrow before at tall [] (f ∷ fs) u b d z st = absurd d

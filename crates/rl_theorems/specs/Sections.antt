@@ -16,8 +16,8 @@ use Rattle.rl_spec.specs.Image.{Field, Rec, Image, orderOf, recordsOf, sizeOf, 
 use Rattle.rl_theorems.specs.Standing.{Stands, left, right, moved, u16-number}
 use Rattle.rl_theorems.specs.Suits.{kind-range}
 use Rattle.rl_theorems.specs.Sized.{SizedRecord, AllSizedRecords, record-sized, length-record, fields-in, fields-stand, records-in, end-at, length-records, nth-stands}
-use Rattle.rl_theorems.specs.Loop.{keepAll, starts, length-starts, starts-kind, AlwaysReady, records-good}
-use Rattle.rl_theorems.specs.Known.{counts, count-is, Placed, Told, getD-sets, texts-ready, lists-ready, expressions-ready, statements-ready, parameters-ready, clauses-ready, functions-ready, calls-ready}
+use Rattle.rl_theorems.specs.Loop.{keepAll, starts, AlwaysReady, records-good}
+use Rattle.rl_theorems.specs.Known.{counts, count-is, Placed, Told, told, texts-ready, lists-ready, expressions-ready, statements-ready, parameters-ready, clauses-ready, functions-ready, calls-ready}
 use Rattle.rl_theorems.specs.Header.{bounded, records-are, text-stands, sections-stand, length-encode}
 
 all-sized : (rs : List Rec) → ((n : ℕ) → n < length rs → SizedRecord (getD rs n noRecord)) → AllSizedRecords rs
@@ -48,7 +48,7 @@ startsIn im o = starts (placeOf im o) (recordsOf im o)
 
 module _ (im : Image) (wf : WellFormed im) where
   sized-at : (o : Section) (i : ℕ) → i < sizeOf im o → SizedRecord (recordOf im o i)
-  sized-at o i l = record-sized im (bounded im wf) o i (omega (arith, bounded im wf .sizes o)) (recordOf im o i) (wf .fits o i l)
+  sized-at o i l = record-sized im (bounded im (wf .counts)) o i (omega (arith, bounded im (wf .counts) .sizes o)) (recordOf im o i) (wf .fits o i l)
 
   section-sized : (o : Section) → AllSizedRecords (recordsOf im o)
   section-sized o = all-sized (recordsOf im o) (sized-at o)
@@ -102,13 +102,7 @@ module _ (im : Image) (wf : WellFormed im) where
   section-good : (o : Section) (os : List Section) (at : ℕ) (w p : List ℕ) → Stands (encode im) at (encodeSections (map (recordsOf im) (o ∷ os))) → AlwaysReady im (encode im) (counts im) o w p → sectionsFrom (encode im) (counts im) (o ∷ os) at w p ≡ sectionsFrom (encode im) (counts im) os (at + length (encodeRecords (recordsOf im o))) (keepAll (counts im) o (heights im o) w) (keepAll (counts im) o (starts at (recordsOf im o)) p)
   unfolding sectionsFrom
   section-good o os at w p st ready =
-      rw (count-is im o, records-good im (bounded im wf) (encode im) (counts im) o at w p (wf .fits o) ready (rest-stands o os at st))
-
-  told : (p : List ℕ) → sizeOf im Expressions + sizeOf im Statements ≤ length p → (at : ℕ) → Stands (encode im) at (encodeRecords (recordsOf im Statements)) → Told im (encode im) (sets p (sizeOf im Expressions) (starts at (recordsOf im Statements)))
-  told p roomy at st n l =
-      let e : length (starts at (recordsOf im Statements)) ≡ sizeOf im Statements = length-starts at (recordsOf im Statements) in
-      rw (getD-sets p (sizeOf im Expressions) (starts at (recordsOf im Statements)) n (omega arith) (omega arith))
-      (starts-kind (recordsOf im Statements) st n l)
+      rw (count-is im o, records-good im (encode im) (counts im) o at w p (bounded im (wf .counts)) ready (rest-stands o os at st) (wf .fits o))
 
   all-end : endFrom im (textBytesAt + length (im .bytes)) sections ≡ length (encode im)
   all-end =
@@ -141,7 +135,7 @@ module _ (im : Image) (wf : WellFormed im) where
         let st5 = next-stands Parameters os5 _ st4 in
         let st6 = next-stands Clauses os6 _ st5 in
         let st7 = next-stands Functions os7 _ st6 in
-        let known : Told im s p2 = told p1 roomy1 (placeOf im Statements) (rest-stands Statements os4 (placeOf im Statements) st3) in
+        let known : Told im s p2 = told im s p1 roomy1 (placeOf im Statements) (rest-stands Statements os4 (placeOf im Statements) st3) in
         section-good Texts os1 _ w p all-stand (texts-ready im s placed w p)
         ∙ section-good Lists os2 _ w p st1 (lists-ready im s placed w p)
         ∙ section-good Expressions os3 _ w p st2 (λ i h q l x y k. expressions-ready im s placed w p (omega arith) i h q l x)

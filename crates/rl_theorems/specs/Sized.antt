@@ -126,7 +126,7 @@ fields-in (c ∷ cs) (f ∷ fs) z st =
     rw (e, fields-in cs fs (z .1) (next-field c cs f fs (z .0) st))
 
 module _ (im : Image) (bounded : Bounded im) (o : Section) (i : ℕ) (short : i ≤ 4096) where
-  all-sized : (before : ℕ) (narrow : Bool) (cs : List ℕ) (fs : List Field) → allSuit o narrow cs ≡ true → FieldsFit im o i before cs fs → AllSized cs fs
+  pub all-sized : (before : ℕ) (narrow : Bool) (cs : List ℕ) (fs : List Field) → allSuit o narrow cs ≡ true → FieldsFit im o i before cs fs → AllSized cs fs
   all-sized b narrow [] [] u h = tt
   all-sized b narrow [] (f ∷ fs) u h = absurd h
   all-sized b narrow (c ∷ cs) [] u h = absurd h
@@ -162,7 +162,7 @@ module _ {s : List ℕ} {at : ℕ} (r : Rec) (st : Stands s at (encodeRecord r))
   unfolding recordIn
   record-in z = rw (kind-stands, fields-in (fieldsOf (r .kind)) (r .fields) z fields-stand)
 
-  next-at : SizedRecord r → nextAt s at ≡ at + length (encodeRecord r)
+  pub next-at : SizedRecord r → nextAt s at ≡ at + length (encodeRecord r)
   unfolding nextAt
   next-at z = rw (kind-stands, length-record r z) (omega arith)
 

@@ -3,24 +3,22 @@
 -- Assumes nothing.
 use Prim.Native.Nat.{ℕ, zero, suc, _+_, _-_, _*_, _≤_, _<_}
 use mathlib.Core.Path.{_≡_, refl, sym, ap, _∙_}
-use mathlib.Core.Bool.{Bool, true, false}
+use mathlib.Core.Bool.{true}
 use mathlib.Core.List.{List, [], _∷_, _++_, append-assoc}
 use native.Mathlib.Omega.{arith}
 use native.Mathlib.Nat.{zero-add, suc-mul, suc-sub-suc, sub-zero, zero-sub}
-use lib.Dec.{ltb, leb}
 use lib.ListN.{length, getD, take, drop, set, replicate, length-append, length-replicate, List·getD-append}
 use lib.Seq.{sets, sets-eq, take-append-seam, drop-append-add, drop-drop, getD-append-add}
-use borrow.Author.Tests.{ltb-false, leb-true}
 use Rattle.rl_spec.specs.declared.ArenaNo.{ArenaNo}
 use Rattle.rl_spec.specs.declared.Counts.{Counts}
 use Rattle.rl_spec.specs.declared.Answer.the-variants.{Accepted}
 use Rattle.rl_spec.specs.declared.Section.{Section}
 use Rattle.rl_spec.specs.declared.Section.the-variants.{Texts, Lists, Expressions, Statements, Parameters, Clauses, Functions, Calls}
-use Rattle.rl_spec.specs.Bytes.{pick}
 use Rattle.rl_spec.specs.Schema.{limits, textBytesAt, sections, countOf, lowest, highest, inSection, sortOf, schema, fieldsIn, fieldsOf}
 use Rattle.rl_spec.specs.Fields.{listsAt}
 use Rattle.rl_spec.specs.Read.{countsOf, keep, mostStarts, answerOf, startsOf}
 use Rattle.rl_spec.specs.Image.{orderOf, recordsOf, sizeOf, noRecord, recordOf, widthsOf, recordIn, nextAt, recordsIn, endAt, sectionsIn, imageOf}
+use Rattle.rl_theorems.specs.Suits.{kind-range}
 use Rattle.rl_theorems.specs.Causes.{Whole}
 use Rattle.rl_theorems.specs.Outcome.{Records, Sections, lastAt, startsFrom, startsIn, sectionsAt, Reads, accepted-reads, accepted-header}
 use Rattle.rl_theorems.specs.Decode.{records-length}
@@ -31,7 +29,7 @@ use Rattle.rl_theorems.specs.Decode.{records-length}
 unfoldable pub sectionAt : List ℕ → Section → ℕ
 sectionAt s o = lastAt s (countsOf s) (take (orderOf o) sections) (sectionsAt s)
 
-section-records : (s : List ℕ) (o : Section) → recordsOf (imageOf s) o ≡ recordsIn s (countOf (countsOf s) o) (sectionAt s o)
+pub section-records : (s : List ℕ) (o : Section) → recordsOf (imageOf s) o ≡ recordsIn s (countOf (countsOf s) o) (sectionAt s o)
 unfolding imageOf sectionsIn sections lastAt sectionAt
 section-records s Texts = refl
 section-records s Lists = refl
@@ -53,7 +51,7 @@ section-whole s Clauses h = h .1 .1 .1 .1 .1 .0
 section-whole s Functions h = h .1 .1 .1 .1 .1 .1 .0
 section-whole s Calls h = h .1 .1 .1 .1 .1 .1 .1 .0
 
-section-size : (s : List ℕ) (o : Section) → sizeOf (imageOf s) o ≡ countOf (countsOf s) o
+pub section-size : (s : List ℕ) (o : Section) → sizeOf (imageOf s) o ≡ countOf (countsOf s) o
 section-size s o = rw section-records (records-length s (countOf (countsOf s) o) (sectionAt s o))
 
 record-get : (s : List ℕ) (n at i : ℕ) → i < n → getD (recordsIn s n at) i noRecord ≡ recordIn s (endAt s i at)
@@ -198,18 +196,10 @@ module _ (s : List ℕ) {p : List ℕ} (r : Reads s p) where
 unfoldable pub widthIn : Section → ℕ
 widthIn o = 1 + widthsOf (fieldsOf (lowest o))
 
-in-section : (o : Section) (k : ℕ) → inSection o k ≡ true → (lowest o ≤ k) × (k ≤ highest o)
-unfolding inSection
-in-section o k e = go (ltb k (lowest o)) refl e
-  where
-    go : (b : Bool) → ltb k (lowest o) ≡ b → pick b false (leb k (highest o)) ≡ true → (lowest o ≤ k) × (k ≤ highest o)
-    go true f g = let z : _≡_ {A = ℕ} 0 1 = cc in absurd (omega arith)
-    go false f g = (ltb-false k (lowest o) f, leb-true k (highest o) g)
-
 kind-width : (o : Section) → lowest o ≡ highest o → (k : ℕ) → inSection o k ≡ true → 1 + widthsOf (fieldsOf k) ≡ widthIn o
 unfolding widthIn
 kind-width o e k h =
-    let q = in-section o k h in
+    let q = kind-range o k h in
     let f : k ≡ lowest o = omega arith in
     rw f refl
 

@@ -2,7 +2,7 @@
 -- Assumes nothing.
 use Prim.Native.Nat.{ℕ, zero, suc, _+_, _≤_, _<_}
 use mathlib.Core.Path.{_≡_, refl}
-use mathlib.Core.Bool.{Bool, true, false, _&&_, false≢true}
+use mathlib.Core.Bool.{Bool, true, false, _&&_, _||_, false≢true}
 use mathlib.Core.List.{List, [], _∷_}
 use native.Mathlib.Omega.{arith}
 use lib.Dec.{ltb, leb, eqb}
@@ -13,7 +13,7 @@ use Rattle.rl_spec.specs.declared.Target.{Target}
 use Rattle.rl_spec.specs.declared.Sort.{Sort}
 use Rattle.rl_spec.specs.declared.Sort.the-variants.{Raw, Byte, Scalar, Part, One, Maybe, Many, Range, OperandSort, Operand}
 use Rattle.rl_spec.specs.Bytes.{pick}
-use Rattle.rl_spec.specs.Schema.{lowest, highest, inSection, sortOf, widthOf, fieldsOf, fieldsIn, schema}
+use Rattle.rl_spec.specs.Schema.{lowest, highest, inSection, operandSort, sortOf, widthOf, fieldsOf, fieldsIn, schema}
 use Rattle.rl_spec.specs.Image.{orderOf, sectionOf}
 use Rattle.rl_laws.specs.Tests.{by-ltb}
 
@@ -40,6 +40,14 @@ isNarrow k = eqb (widthOf k) 1
 abbrev pub allSuit : Section → Bool → List ℕ → Bool
 allSuit o narrow [] = true
 allSuit o narrow (c ∷ cs) = suits o narrow (sortOf c) && allSuit o (isNarrow (sortOf c)) cs
+
+-- of the fields wider than a byte only an operand looks at the byte before it; `sorted` says that this is an operand's sort
+abbrev pub inTurn : Section → Bool → List ℕ → Bool
+inTurn o sorted [] = true
+inTurn o sorted (c ∷ cs) = (isNarrow (sortOf c) || suits o sorted (sortOf c)) && inTurn o (eqb c operandSort) cs
+
+abbrev keeps : Section → ℕ → Bool
+keeps o k = allSuit o false (fieldsOf k) && inTurn o false (fieldsOf k)
 
 -- ---- tests
 
@@ -75,20 +83,27 @@ module _ (o : Section) (k : ℕ) (e : inSection o k ≡ true) where
   unfolding inSection
   kind-range = not-below (ltb k (lowest o)) refl e
 
-module _ (o : Section) (n : ℕ) (e : all (λ k. allSuit o false (fieldsOf k)) (lowest o) n ≡ true) (d : highest o < lowest o + n) where
-  suit-at : (k : ℕ) → inSection o k ≡ true → allSuit o false (fieldsOf k) ≡ true
-  suit-at k i =
+module _ (o : Section) (n : ℕ) (e : all (keeps o) (lowest o) n ≡ true) (d : highest o < lowest o + n) where
+  keeps-at : (k : ℕ) → inSection o k ≡ true → keeps o k ≡ true
+  keeps-at k i =
       let r : (lowest o ≤ k) × (k ≤ highest o) = kind-range o k i in
-      all-at (λ k. allSuit o false (fieldsOf k)) n (lowest o) k e (r .0) (omega arith)
+      all-at (keeps o) n (lowest o) k e (r .0) (omega arith)
 
 -- every row of the schema, by computation
-pub schema-suits : (o : Section) (k : ℕ) → inSection o k ≡ true → allSuit o false (fieldsOf k) ≡ true
+schema-keeps : (o : Section) (k : ℕ) → inSection o k ≡ true → keeps o k ≡ true
 unfolding fieldsOf fieldsIn schema sortOf
-schema-suits Texts = suit-at Texts 1 refl (omega arith)
-schema-suits Lists = suit-at Lists 1 refl (omega arith)
-schema-suits Expressions = suit-at Expressions 42 refl (omega arith)
-schema-suits Statements = suit-at Statements 16 refl (omega arith)
-schema-suits Parameters = suit-at Parameters 1 refl (omega arith)
-schema-suits Clauses = suit-at Clauses 1 refl (omega arith)
-schema-suits Functions = suit-at Functions 1 refl (omega arith)
-schema-suits Calls = suit-at Calls 1 refl (omega arith)
+schema-keeps Texts = keeps-at Texts 1 refl (omega arith)
+schema-keeps Lists = keeps-at Lists 1 refl (omega arith)
+schema-keeps Expressions = keeps-at Expressions 42 refl (omega arith)
+schema-keeps Statements = keeps-at Statements 16 refl (omega arith)
+schema-keeps Parameters = keeps-at Parameters 1 refl (omega arith)
+schema-keeps Clauses = keeps-at Clauses 1 refl (omega arith)
+schema-keeps Functions = keeps-at Functions 1 refl (omega arith)
+schema-keeps Calls = keeps-at Calls 1 refl (omega arith)
+
+module _ (o : Section) (k : ℕ) (e : inSection o k ≡ true) where
+  pub schema-suits : allSuit o false (fieldsOf k) ≡ true
+  schema-suits = and-left (allSuit o false (fieldsOf k)) (inTurn o false (fieldsOf k)) (schema-keeps o k e)
+
+  pub schema-turns : inTurn o false (fieldsOf k) ≡ true
+  schema-turns = and-right (allSuit o false (fieldsOf k)) (inTurn o false (fieldsOf k)) (schema-keeps o k e)

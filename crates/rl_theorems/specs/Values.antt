@@ -37,6 +37,7 @@ pub record Ready (im : Image) (s w p : List ℕ) (seen : Counts) (o : Section) (
   pub text : Stands s textBytesAt (im .bytes)
   pub entry : (k : ℕ) → k < sizeOf im Lists → entryAt s seen k ≡ entryOf im k
   pub found : (t : Target) (n : ℕ) → refers o t ≡ true → Refers im o i t n → allowed s p seen t n ≡ true
+  pub refer : (t : Target) (n : ℕ) → refers o t ≡ true → allowed s p seen t n ≡ true → Refers im o i t n
   pub child : (t : Target) (n : ℕ) → refers o t ≡ true → Refers im o i t n → childHeight w seen o t n ≡ heightOf im o h t n
 
 same : (tall : ℕ) → Holds tall ≡ Holds (max tall 0)
