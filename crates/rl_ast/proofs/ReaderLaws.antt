@@ -1,13 +1,12 @@
 -- One law for each way out of a function of `reader`.
 -- Assumes nothing.
-use Prim.Native.Nat.{ℕ, zero, suc, _+_, _-_, _*_, _≤_, _<_}
+use Prim.Native.Nat.{ℕ, zero, suc, _+_, _-_, _≤_, _<_}
 use mathlib.Core.Path.{_≡_, refl, sym, ap, _∙_}
 use mathlib.Core.Bool.{Bool, true, false}
-use mathlib.Core.List.{List, [], _∷_}
+use mathlib.Core.List.{List, _∷_}
 use native.Mathlib.Omega.{arith}
 use native.Mathlib.Numerals.{add-one}
-use lib.Dec.{ltb, eqb}
-use lib.ListN.{length, getD, drop, set, replicate, drop-of-length-le, length-set}
+use lib.ListN.{length, getD, drop, replicate, drop-of-length-le, length-set}
 use lib.Seq.{drop-cons}
 use mir.Val.{Fits}
 use mir.Syntax.{w16}
@@ -24,7 +23,7 @@ use Rattle.rl_spec.specs.declared.Step.the-variants.{Next, Stop}
 use Rattle.rl_spec.specs.Bytes.{pick, u16At, u32At, past}
 use Rattle.rl_spec.specs.Schema.{limits, sections, countOf, inSection, fieldsOf}
 use Rattle.rl_spec.specs.Fields.{recordAt, heightStep, fieldsFrom}
-use Rattle.rl_spec.specs.Read.{after, countsOf, countsFrom, headerOf, Out, good, bad, outOf, seenBy, keep, recordsFrom, andThen, sectionsFrom, endOf, bodyOf, contentOf, mostStarts, readOf, answerOf, workOf, startsOf}
+use Rattle.rl_spec.specs.Read.{after, countsOf, countsFrom, headerOf, Out, good, bad, outOf, seenBy, keep, recordsFrom, sectionsFrom, endOf, bodyOf, contentOf, mostStarts, readOf, answerOf, workOf, startsOf}
 use Rattle.rl_fields.proofs.FieldLaws.{turn, ended}
 use Rattle.rl_fields.proofs.RecordLaws.{byte-there, record-by-table}
 use Rattle.rl_fields.specs.Checked.{recordBy}

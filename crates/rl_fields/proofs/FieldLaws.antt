@@ -1,17 +1,17 @@
 -- One law for each way out of a function of `fields`.
 -- Assumes nothing.
-use Prim.Native.Nat.{ℕ, zero, suc, _+_, _-_, _*_, _/_, _%_, _^_, _≤_, _<_, max}
-use mathlib.Core.Path.{_≡_, refl, sym, ap, _∙_}
+use Prim.Native.Nat.{ℕ, suc, _+_, _-_, _*_, _%_, _≤_, _<_, max}
+use mathlib.Core.Path.{_≡_, refl, sym}
 use mathlib.Core.Bool.{Bool, true, false}
-use mathlib.Core.List.{List, [], _∷_}
+use mathlib.Core.List.{List}
 use native.Mathlib.Omega.{arith}
 use native.Mathlib.Nat.{mod-zero}
-use lib.Dec.{ltb, leb, eqb}
-use lib.ListN.{length, getD, take, drop}
+use lib.Dec.{leb, eqb}
+use lib.ListN.{getD, take, drop}
 use borrow.Author.Tests.{lt-ltb, le-ltb, le-leb, lt-leb, eq-eqb, ne-eqb}
 use Rattle.rl_spec.specs.declared.Counts.{Counts}
 use Rattle.rl_spec.specs.declared.Cause.{Cause}
-use Rattle.rl_spec.specs.declared.Cause.the-variants.{BytesEnd, WrongKind, BadText, BadValue, BadReference, TooHigh}
+use Rattle.rl_spec.specs.declared.Cause.the-variants.{BadText, BadValue, BadReference}
 use Rattle.rl_spec.specs.declared.Section.{Section}
 use Rattle.rl_spec.specs.declared.Section.the-variants.{Expressions}
 use Rattle.rl_spec.specs.declared.Target.{Target}
@@ -21,7 +21,7 @@ use Rattle.rl_spec.specs.declared.Check.the-variants.{Holds, Fails}
 use Rattle.rl_spec.specs.Bytes.{pick, u16At}
 use Rattle.rl_spec.specs.Schema.{textBytesAt, countOf}
 use Rattle.rl_spec.specs.Utf8.{utf8}
-use Rattle.rl_spec.specs.Fields.{unless, takes, within, listsAt, zeros, kindOfStatement, allowed, nodeHeight, statementHeight, heightIn, childHeight, entryAt, rangeOf, partOf, byteIn, operandSortOf, referTo, referOrNone, entriesFrom, listOf, operandOf}
+use Rattle.rl_spec.specs.Fields.{unless, takes, within, zeros, kindOfStatement, allowed, nodeHeight, statementHeight, heightIn, childHeight, entryAt, rangeOf, partOf, byteIn, operandSortOf, referTo, referOrNone, entriesFrom, listOf, operandOf}
 
 -- ---- loops that count
 

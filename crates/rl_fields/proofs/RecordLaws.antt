@@ -1,11 +1,10 @@
 -- One law for each way out of the functions on a field, the fields and a record.
 -- Assumes nothing.
-use Prim.Native.Nat.{ℕ, zero, suc, _+_, _-_, _*_, _/_, _%_, _^_, _≤_, _<_}
+use Prim.Native.Nat.{ℕ, _+_, _-_, _/_, _%_, _^_, _≤_, _<_}
 use mathlib.Core.Path.{_≡_, refl, sym, ap, _∙_}
 use mathlib.Core.Bool.{Bool, true, false}
-use mathlib.Core.List.{List, [], _∷_}
+use mathlib.Core.List.{List}
 use native.Mathlib.Omega.{arith}
-use lib.Dec.{ltb}
 use mir.Val.{Fits}
 use mir.Syntax.{w64}
 use lib.ListN.{length, getD}
@@ -23,9 +22,9 @@ use Rattle.rl_spec.specs.declared.Check.the-variants.{Holds, Fails}
 use Rattle.rl_spec.specs.declared.Step.{Step}
 use Rattle.rl_spec.specs.declared.Step.the-variants.{Next, Stop}
 use Rattle.rl_spec.specs.Bytes.{pick, u16At, u32At, past}
-use Rattle.rl_spec.specs.Schema.{raw4, raw8, node, text, sortOf, widthOf, fieldsOf, inSection, tallest}
+use Rattle.rl_spec.specs.Schema.{raw4, raw8, node, text, sortOf, widthOf, inSection, tallest}
 use Rattle.rl_spec.specs.Utf8.{isScalar}
-use Rattle.rl_spec.specs.Fields.{unless, byteIn, partOf, rangeOf, operandSortOf, referTo, referOrNone, listOf, operandOf, valueOf, fieldAt, checked, fieldsFrom, heightStep, recordAt}
+use Rattle.rl_spec.specs.Fields.{unless, byteIn, partOf, rangeOf, operandSortOf, referTo, referOrNone, listOf, operandOf, valueOf, fieldAt, fieldsFrom, heightStep, recordAt}
 use Rattle.rl_schema.specs.Codes.{codes, table}
 use Rattle.rl_fields.specs.Checked.{recordBy}
 use Rattle.rl_schema.proofs.Rows.{codes-none, codes-more, row-codes}

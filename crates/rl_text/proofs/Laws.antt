@@ -9,10 +9,10 @@ use native.Mathlib.Numerals.{add-one}
 use lib.ListN.{length, getD, take, drop, drop-of-length-le, length-drop}
 use lib.Seq.{drop-cons, drop-drop}
 use lib.Dec.{T, ltb, leb}
-use borrow.Author.Tests.{ltb-true, ltb-false, le-leb, lt-leb, ne-eqb}
+use borrow.Author.Tests.{ltb-true, le-leb, ne-eqb}
 use mir.Val.{Fits}
 use mir.Syntax.{w64}
-use Rattle.rl_laws.specs.Tests.{by-ltb, and-false}
+use Rattle.rl_laws.specs.Tests.{by-ltb}
 use Rattle.rl_laws.specs.Ranges.{within-yes, within-low, within-high}
 use Rattle.rl_spec.specs.Utf8.{Range, _to_, within, utf8Tail, utf8Char, begins, widthBy, charWidth, octets, utf8, isScalar}
 

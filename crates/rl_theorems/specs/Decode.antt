@@ -15,11 +15,12 @@ use Rattle.rl_spec.specs.declared.Answer.the-variants.{Accepted}
 use Rattle.rl_spec.specs.declared.Section.{Section}
 use Rattle.rl_spec.specs.declared.Sort.{Sort}
 use Rattle.rl_spec.specs.declared.Sort.the-variants.{Raw, Byte, Scalar, Part, One, Maybe, Many, Range, OperandSort, Operand}
-use Rattle.rl_spec.specs.Bytes.{pick, numAt, u16At, u32At}
+use Rattle.rl_spec.specs.Bytes.{pick, numAt, u16At}
 use Rattle.rl_spec.specs.Schema.{textBytesAt, sections, countOf, sortOf, widthOf, fieldsOf}
 use Rattle.rl_spec.specs.Read.{countsOf, answerOf}
 use Rattle.rl_spec.specs.Image.{num, pair, bytesOf, encodeField, encodeFields, encodeRecord, encodeRecords, encodeSections, encodeCounts, encode, isPair, fieldIn, fieldsAt, widthsOf, recordIn, nextAt, recordsIn, endAt, sectionsIn, imageOf, AllBytes}
 use Rattle.rl_theorems.specs.Outcome.{lastAt, sectionsAt, Reads, accepted-reads}
+use Rattle.rl_theorems.specs.Standing.{u16-number, u32-number}
 
 -- ---- where records and sections end is not before they start
 
@@ -44,16 +45,6 @@ pub byte-below : (s : List ℕ) → AllBytes s → (at : ℕ) → getD s at 0 < 
 byte-below [] h at = omega arith
 byte-below (b ∷ s) h zero = h .0
 byte-below (b ∷ s) h (suc at) = byte-below s (h .1) at
-
-u16-is : (s : List ℕ) (at : ℕ) → u16At s at ≡ numAt s at 2
-unfolding u16At numAt
-u16-is s at = omega arith
-
-u32-is : (s : List ℕ) (at : ℕ) → u32At s at ≡ numAt s at 4
-unfolding u32At u16At numAt
-u32-is s at =
-    let e : at + 1 + 1 ≡ at + 2 = omega arith in
-    rw e (omega arith)
 
 -- a field of two numbers has four bytes
 pub pair-width : (o : Sort) → isPair o ≡ true → widthOf o ≡ 4
@@ -92,7 +83,7 @@ module _ (s : List ℕ) (bytes : AllBytes s) where
       rw (low, high, e, drop-cons s at 0 l, ← add-one at) (ap (λ (t : List ℕ). getD s at 0 ∷ t) (number-bytes n (at + 1) (omega arith)))
 
   u16-bytes : (at : ℕ) → at + 2 ≤ length s → bytesOf 2 (u16At s at) ++ drop (at + 2) s ≡ drop at s
-  u16-bytes at h = rw u16-is (number-bytes 2 at h)
+  u16-bytes at h = rw u16-number (number-bytes 2 at h)
 
   field-bytes : (o : Sort) (at : ℕ) → at + widthOf o ≤ length s → encodeField o (fieldIn s o at) ++ drop (at + widthOf o) s ≡ drop at s
   field-bytes o at h = go (isPair o) refl
@@ -163,7 +154,7 @@ module _ (s : List ℕ) (bytes : AllBytes s) where
       let n : encodeCounts (sectionsIn s c sections at) ++ drop textBytesAt s ≡ drop 7 s =
       counts-bytes c sections at 7 (header-counts s) l in
       simp append-assoc
-      (rw (f, text-bytes (c .bytes), n, text-length (r .text), u16-bytes 5 (omega arith), u32-is s 1, number-bytes 4 1 (omega arith))
+      (rw (f, text-bytes (c .bytes), n, text-length (r .text), u16-bytes 5 (omega arith), u32-number s 1, number-bytes 4 1 (omega arith))
       (sym (rw (r .header .kind) at (drop-cons s 0 0 (omega arith)))))
 
 -- THEOREM

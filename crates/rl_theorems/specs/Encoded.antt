@@ -1,12 +1,12 @@
 -- The bytes of a well-formed image are accepted, leave its heights in the work slice, and stand for that image.
 -- Assumes nothing.
-use Prim.Native.Nat.{ℕ, zero, suc, _+_, _-_, _≤_}
+use Prim.Native.Nat.{ℕ, _+_, _-_, _≤_}
 use mathlib.Core.Path.{_≡_, refl, ap, _∙_}
 use mathlib.Core.List.{List, [], _++_}
 use native.Mathlib.Omega.{arith}
 use native.Mathlib.Nat.{zero-add}
-use lib.ListN.{length, take, drop, replicate, length-append, length-drop, length-replicate}
-use lib.Seq.{sets, sets-eq, take-length, take-at, drop-at, drop-drop}
+use lib.ListN.{length, take, drop, replicate, length-replicate}
+use lib.Seq.{take-length}
 use borrow.Author.Tests.{le-ltb}
 use Rattle.rl_spec.specs.declared.Counts.{Counts}
 use Rattle.rl_spec.specs.declared.Answer.the-variants.{Accepted}
@@ -16,6 +16,7 @@ use Rattle.rl_spec.specs.Schema.{textBytesAt, sections}
 use Rattle.rl_spec.specs.Read.{good, countsOf, endOf, bodyOf, mostStarts, readOf, answerOf, workOf}
 use Rattle.rl_spec.specs.Image.{Image, recordsOf, sizeOf, encode, imageOf, sectionsIn, heights, WellFormed}
 use Rattle.rl_theorems.specs.Standing.{there, piece}
+use Rattle.rl_theorems.specs.Filled.{two-filled}
 use Rattle.rl_theorems.specs.Loop.{length-heights}
 use Rattle.rl_theorems.specs.Header.{starts-fit, text-stands, arena-is, header-good, counts-are}
 use Rattle.rl_theorems.specs.Sections.{kept, startsIn, sections-good, records-back}
@@ -38,19 +39,6 @@ module _ (im : Image) (wf : WellFormed im) where
       (body-good (replicate k 0) (replicate mostStarts 0) (rw length-replicate (omega (arith, starts-fit im (wf .counts)))) (rw length-replicate (starts-fit im (wf .counts))))
 
 -- ---- the work slice
-
-drop-replicate : (n k x : ℕ) → drop n (replicate k x) ≡ replicate (k - n) x
-drop-replicate zero k x = let e : k - 0 ≡ k = omega arith in rw e
-drop-replicate (suc n) zero x = let e : 0 - suc n ≡ 0 = omega arith in rw e
-drop-replicate (suc n) (suc k) x = let e : suc k - suc n ≡ k - n = omega arith in rw e (drop-replicate n k x)
-
--- numbers set one after the other in front of the rest
-two-sets : (w xs ys : List ℕ) (a b : ℕ) → length xs ≡ a → length ys ≡ b → a + b ≤ length w → sets (sets w 0 xs) a ys ≡ xs ++ ys ++ drop (a + b) w
-two-sets w xs ys a b d e l =
-    let z : 0 + length xs ≡ a = omega arith in
-    let x : sets w 0 xs ≡ xs ++ drop a w = rw z at (sets-eq xs w 0 (omega arith)) in
-    let y = sets-eq ys (xs ++ drop a w) a (simp (length-append, length-drop) (omega arith)) in
-    rw (x, y, take-at xs (drop a w) a d, ← (drop-drop (length ys) a (xs ++ drop a w)), drop-at xs (drop a w) a d, drop-drop, e)
 
 heights-all : (im : Image) (o : Section) → length (heights im o) ≡ sizeOf im o
 unfolding heights
@@ -87,7 +75,6 @@ encoded-image im wf =
 pub encoded-work : (im : Image) (k : ℕ) → WellFormed im → 8192 ≤ k → workOf (encode im) k ≡ heights im Expressions ++ heights im Statements ++ replicate (k - (sizeOf im Expressions + sizeOf im Statements)) 0
 unfolding workOf
 encoded-work im k wf l =
-    let e : ℕ = sizeOf im Expressions in
-    let d : ℕ = sizeOf im Statements in
-    let t = two-sets (replicate k 0) (heights im Expressions) (heights im Statements) e d (heights-all im Expressions) (heights-all im Statements) (rw length-replicate (omega (arith, starts-fit im (wf .counts)))) in
-    rw (read-good im wf k l) (t ∙ ap (λ (r : List ℕ). heights im Expressions ++ heights im Statements ++ r) (drop-replicate (e + d) k 0))
+    rw (read-good im wf k l)
+    (two-filled k (heights im Expressions) (heights im Statements) (sizeOf im Expressions) (sizeOf im Statements)
+    (heights-all im Expressions) (heights-all im Statements) (omega (arith, starts-fit im (wf .counts))))

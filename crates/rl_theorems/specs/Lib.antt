@@ -3,6 +3,7 @@ pub mod Utf8Examples
 pub mod Causes
 pub mod Outcome
 pub mod Places
+pub mod Filled
 pub mod Decode
 pub mod Starts
 pub mod Standing

@@ -6,9 +6,9 @@ use mathlib.Core.Path.{_≡_, refl, sym, ap, _∙_}
 use mathlib.Core.Bool.{true}
 use mathlib.Core.List.{List, [], _∷_, _++_, append-assoc}
 use native.Mathlib.Omega.{arith}
-use native.Mathlib.Nat.{zero-add, suc-mul, suc-sub-suc, sub-zero, zero-sub}
-use lib.ListN.{length, getD, take, drop, set, replicate, length-append, length-replicate, List·getD-append}
-use lib.Seq.{sets, sets-eq, take-append-seam, drop-append-add, drop-drop, getD-append-add}
+use native.Mathlib.Nat.{zero-add, suc-mul}
+use lib.ListN.{length, getD, take, set, replicate, List·getD-append}
+use lib.Seq.{sets, getD-append-add}
 use Rattle.rl_spec.specs.declared.ArenaNo.{ArenaNo}
 use Rattle.rl_spec.specs.declared.Counts.{Counts}
 use Rattle.rl_spec.specs.declared.Answer.the-variants.{Accepted}
@@ -18,6 +18,7 @@ use Rattle.rl_spec.specs.Schema.{limits, textBytesAt, sections, countOf, lowest
 use Rattle.rl_spec.specs.Fields.{listsAt}
 use Rattle.rl_spec.specs.Read.{countsOf, keep, mostStarts, answerOf, startsOf}
 use Rattle.rl_spec.specs.Image.{orderOf, recordsOf, sizeOf, noRecord, recordOf, widthsOf, recordIn, nextAt, recordsIn, endAt, sectionsIn, imageOf}
+use Rattle.rl_theorems.specs.Filled.{two-filled}
 use Rattle.rl_theorems.specs.Suits.{kind-range}
 use Rattle.rl_theorems.specs.Causes.{Whole}
 use Rattle.rl_theorems.specs.Outcome.{Records, Sections, lastAt, startsFrom, startsIn, sectionsAt, Reads, accepted-reads, accepted-header}
@@ -131,18 +132,6 @@ module _ (s : List ℕ) (c : Counts) (o : Section) where
       rw (h i at p)
       (starts-sets from h n (i + 1) (nextAt s at) q ∙ ap (λ (j : ℕ). sets q j (placesFrom s n (nextAt s at))) e)
 
-drop-replicate : (n m : ℕ) → drop n (replicate {A = ℕ} m 0) ≡ replicate (m - n) 0
-drop-replicate zero m = rw sub-zero refl
-drop-replicate (suc n) zero = rw zero-sub refl
-drop-replicate (suc n) (suc m) = rw suc-sub-suc (drop-replicate n m)
-
-two-sets : (m : ℕ) (x y : List ℕ) → length x + length y ≤ m → sets (sets (replicate m 0) 0 x) (length x) y ≡ x ++ (y ++ replicate (m - (length x + length y)) 0)
-two-sets m x y h =
-    let z : 0 + length x ≡ length x = omega arith in
-    let a : 0 + length x ≤ length (replicate {A = ℕ} m 0) = rw length-replicate (omega arith) in
-    let b : length x + length y ≤ length (x ++ drop (length x) (replicate m 0)) = rw (length-append, drop-replicate, length-replicate) (omega arith) in
-    rw (sets-eq x (replicate m 0) 0 a, z, sets-eq y (x ++ drop (length x) (replicate m 0)) (length x) b, take-append-seam, drop-append-add, drop-drop, drop-replicate, append-assoc) refl
-
 getD-second : (x y z : List ℕ) (m i : ℕ) → length x ≡ m → i < length y → getD (x ++ (y ++ z)) (m + i) 0 ≡ getD y i 0
 getD-second x y z m i e h = rw (← e) (getD-append-add x (y ++ z) i 0 ∙ List·getD-append y z 0 i h)
 
@@ -173,11 +162,11 @@ module _ (s : List ℕ) {p : List ℕ} (r : Reads s p) where
 
   starts-are : p ≡ placesOf s Expressions ++ (placesOf s Statements ++ replicate (mostStarts - (countsOf s .expressions + countsOf s .statements)) 0)
   starts-are =
-      let x : List ℕ = placesOf s Expressions in
-      let y : List ℕ = placesOf s Statements in
-      let e : length x ≡ countsOf s .expressions = length-places s Expressions in
-      let f : length y ≡ countsOf s .statements = length-places s Statements in
-      r .body .kept ∙ starts-in (replicate mostStarts 0) ∙ (rw (e, f) at (two-sets mostStarts x y (rw (e, f) few)))
+      r .body .kept
+      ∙ starts-in (replicate mostStarts 0)
+      ∙ two-filled mostStarts (placesOf s Expressions) (placesOf s Statements) (countsOf s .expressions) (countsOf s .statements)
+      (length-places s Expressions) (length-places s Statements) few
+      ∙ append-assoc (placesOf s Expressions) (placesOf s Statements) (replicate (mostStarts - (countsOf s .expressions + countsOf s .statements)) 0)
 
   start-expression : (i : ℕ) → i < countsOf s .expressions → getD p i 0 ≡ endAt s i (sectionAt s Expressions)
   start-expression i h =

@@ -1,10 +1,10 @@
 -- WHAT IS PROVED of the definitions in rl_spec, stated in one place. The proofs stand in the files that are named at each part.
 -- Assumes nothing.
-use Prim.Native.Nat.{ℕ, _+_, _-_, _≤_, _<_}
+use Prim.Native.Nat.{ℕ, _+_, _-_, _*_, _≤_, _<_}
 use mathlib.Core.Path.{_≡_}
 use mathlib.Core.Bool.{true, false}
 use mathlib.Core.List.{List, _++_}
-use mathlib.Core.Logic.{_⊎_}
+use mathlib.Core.Logic.{_⊎_, _↔_}
 use lib.ListN.{length, getD, take, drop, replicate}
 use Rattle.rl_spec.specs.declared.ArenaNo.{ArenaNo}
 use Rattle.rl_spec.specs.declared.Counts.{Counts}
@@ -18,11 +18,13 @@ use Rattle.rl_spec.specs.declared.Step.the-variants.{Next, Stop}
 use Rattle.rl_spec.specs.Bytes.{u16At}
 use Rattle.rl_spec.specs.Schema.{textBytesAt, countOf, tallest, widthOf, fieldsOf}
 use Rattle.rl_spec.specs.Utf8.{utf8, isScalar, encodeText}
-use Rattle.rl_spec.specs.Fields.{fieldsFrom, recordAt}
+use Rattle.rl_spec.specs.Fields.{entryAt, fieldsFrom, recordAt}
 use Rattle.rl_spec.specs.Read.{answerOf, workOf, startsOf}
-use Rattle.rl_spec.specs.Image.{Image, encode, imageOf, recordOf, sizeOf, heights, AllBytes, WellFormed}
+use Rattle.rl_spec.specs.Image.{Image, encode, imageOf, entryOf, textOf, sizeOf, heights, AllBytes, WellFormed}
 use Rattle.rl_theorems.specs.Utf8 as Utf8
 use Rattle.rl_theorems.specs.Decode as Decode
+use Rattle.rl_theorems.specs.Accepted as Well
+use Rattle.rl_theorems.specs.Access as Access
 use Rattle.rl_theorems.specs.Encoded as Encoded
 use Rattle.rl_theorems.specs.EncodedBytes as EncodedBytes
 use Rattle.rl_theorems.specs.Known.{counts}
@@ -43,6 +45,18 @@ utf8-is-encoded = Utf8.utf8-is-encoded
 
 pub accepted-encodes : (s : List ℕ) (k : ℕ) (a : ArenaNo) (c : Counts) → AllBytes s → answerOf s k ≡ Accepted a c → encode (imageOf s) ≡ s
 accepted-encodes = Decode.accepted-encodes
+
+-- ---- it stands for a well-formed image, and its work slice holds that image's heights (Accepted)
+
+pub accepted-well-formed : (s : List ℕ) (k : ℕ) (a : ArenaNo) (c : Counts) → AllBytes s → answerOf s k ≡ Accepted a c → WellFormed (imageOf s)
+accepted-well-formed = Well.accepted-well-formed
+
+pub accepted-work : (s : List ℕ) (k : ℕ) (a : ArenaNo) (c : Counts) → AllBytes s → answerOf s k ≡ Accepted a c → workOf s k ≡ heights (imageOf s) Expressions ++ heights (imageOf s) Statements ++ replicate (k - (c .expressions + c .statements)) 0
+accepted-work = Well.accepted-work
+
+-- with a work slice of 8,192 entries or more, accepted are exactly the encodings of well-formed images
+pub accepted-exactly : (s : List ℕ) (k : ℕ) → AllBytes s → 8192 ≤ k → ((a : ArenaNo) × (c : Counts) × (answerOf s k ≡ Accepted a c)) ↔ ((im : Image) × WellFormed im × (encode im ≡ s))
+accepted-exactly = Well.accepted-exactly
 
 -- ---- the encoding of a well-formed image is accepted and stands for that image (Encoded; EncodedExample has one). `counts im` are the
 -- sizes of its sections
@@ -71,6 +85,15 @@ module _ (s : List ℕ) (k : ℕ) (a : ArenaNo) (c : Counts) (e : answerOf s k �
 
   pub starts-statement : (i : ℕ) → i < c .statements → Starts.Stands s Statements i (getD (startsOf s k) (c .expressions + i) 0)
   starts-statement = Starts.starts-statement s k a c e
+
+-- ---- what access to a text and a list entry reads (Access; rl_arena has the functions)
+
+module _ (s : List ℕ) (k : ℕ) (a : ArenaNo) (c : Counts) (e : answerOf s k ≡ Accepted a c) where
+  pub entry-of : (n : ℕ) → n < c .lists → entryAt s c n ≡ entryOf (imageOf s) n
+  entry-of = Access.entry-of s k a c e
+
+  pub text-of : (t : ℕ) → t < c .texts → take (u16At s (textBytesAt + c .bytes + t * 5 + 1 + 2)) (drop (textBytesAt + u16At s (textBytesAt + c .bytes + t * 5 + 1)) s) ≡ textOf (imageOf s) t
+  text-of = Access.text-of s k a c e
 
 -- ---- a refusal names a place in the image and a cause that holds (Places, Outcome, Causes)
 

@@ -1,7 +1,7 @@
 use Rattle.rl_spec.specs.Read.{recordsFrom}
 use lib.ListN.{length}
 use mathlib.Core.Path.{_≡_, _∙_}
-use Prim.Native.Nat.{_-_, _+_, _*_, _≤_}
+use Prim.Native.Nat.{_-_, _≤_}
 use borrow.Author.Needs.{needs}
 use Rattle.rl_ast.proofs.reader.records.Statement.{statement}
 use Rattle.rl_ast.proofs.reader.records.Tie as tie
