@@ -21,7 +21,8 @@ esac
 
 # the reader's library, compared with an independent reader
 rt staticlib rl_abi >/dev/null
-(cd tools && cargo test --quiet -p rlimg && cargo build --quiet --release)
+(cd tools && cargo test --quiet -p rlimg >"$new/tests" 2>&1) || { cat "$new/tests"; exit 1; }
+(cd tools && cargo build --quiet --release)
 tools/target/release/compare_read
 
 # the stored cases and the sample are what the tools make
