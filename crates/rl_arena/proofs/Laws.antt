@@ -16,7 +16,6 @@ use Rattle.rl_spec.specs.declared.Id.{Id}
 use Rattle.rl_spec.specs.declared.Sort.{Sort}
 use Rattle.rl_spec.specs.Bytes.{pick, numAt, u16At, u32At}
 use Rattle.rl_spec.specs.Schema.{sortOf, widthOf}
-use Rattle.rl_spec.specs.Fields.{entryAt}
 use Rattle.rl_spec.specs.Image.{Field, noField, first, second, isPair, fieldIn, fieldsAt, recordIn}
 use Rattle.rl_bytes.proofs.Laws.{u32-past}
 use Rattle.rl_schema.specs.Codes.{codes}
@@ -31,10 +30,6 @@ use Rattle.rl_arena.specs.Find.{isWidth, numberIn, spotOf, textIn, looku
 pub kind-is : (s : List ℕ) (at r : ℕ) → r ≡ getD s at 0 → r ≡ recordIn s at .kind
 unfolding recordIn
 kind-is s at r e = e
-
-pub entry-is : (s : List ℕ) (c : Counts) (k r : ℕ) → r ≡ u16At s (23 + c .bytes + c .texts * 5 + k * 3 + 1) → r ≡ entryAt s c k
-unfolding entryAt
-entry-is s c k r e = e
 
 pub text-is : (s : List ℕ) (c : Counts) (t offset size : ℕ) (r : List ℕ) → offset ≡ u16At s (23 + c .bytes + t * 5 + 1) → size ≡ u16At s (23 + c .bytes + t * 5 + 1 + 2) → r ≡ take size (drop (23 + offset) s) → r ≡ textIn s c t
 unfolding textIn

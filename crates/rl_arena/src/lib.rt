@@ -5,6 +5,7 @@ use rl_bytes::second_u16;
 use rl_bytes::u16_at;
 use rl_bytes::u32_at;
 use rl_bytes::word_at;
+pub use rl_schema::entry_at;
 use rl_schema::sort_of;
 use rl_schema::width_of;
 use rl_spec::ArenaNo;
@@ -16,7 +17,6 @@ ghost use Prim.Native.Nat.{_+_, _*_};
 ghost use lib.ListN.{getD};
 ghost use Rattle.rl_spec.specs.Bytes.{u32At};
 ghost use Rattle.rl_spec.specs.Schema.{sortOf};
-ghost use Rattle.rl_spec.specs.Fields.{entryAt};
 ghost use Rattle.rl_spec.specs.Image.{noField, first, second, isPair, fieldIn, fieldsAt, recordIn};
 ghost use Rattle.rl_schema.specs.Codes.{codes};
 ghost use Rattle.rl_arena.specs.Find.{numberIn, spotOf, textIn, lookup};
@@ -171,14 +171,7 @@ pub fn field_second(image: &[u8], row: u64, at: u16, j: u8) -> u16
     }
 }
 
-// ---- list entries and texts
-
-pub fn entry_at(image: &[u8], counts: Counts, k: u16) -> u16
-    ensures { λ r. ⌜ r ≡ entryAt (now (image .entry)) counts k ⌝ }
-{
-    let from = 23 + (counts.bytes as usize) + (counts.texts as usize) * 5;
-    u16_at(image, from + (k as usize) * 3 + 1)
-}
+// ---- texts; `entry_at` is the k-th list entry
 
 // The bytes of a text, as a part of the image.
 pub fn text_at(image: &[u8], counts: Counts, t: u16) -> &[u8]

@@ -123,10 +123,6 @@ pub child-is : (w : List ℕ) (seen : Counts) (own k : Section) (t : Target) (n 
 unfolding childHeight
 child-is w seen own k t n r e f = rw e f
 
-pub entry-is : (s : List ℕ) (seen : Counts) (k r : ℕ) → r ≡ u16At s (23 + seen .bytes + seen .texts * 5 + k * 3 + 1) → r ≡ entryAt s seen k
-unfolding entryAt
-entry-is s seen k r e = e
-
 module _ (s w p : List ℕ) (seen : Counts) (own : Section) (t : Target) (n tall : ℕ) where
   module _ (b : Bool) (e : b ≡ allowed s p seen t n) where
     pub refer-good : b ≡ true → (h : ℕ) → h ≡ childHeight w seen own t n → (m : ℕ) → m ≡ max tall h → Holds m ≡ referTo s w p seen own t n tall

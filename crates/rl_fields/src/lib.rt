@@ -10,6 +10,7 @@ use rl_bytes::u16_at;
 use rl_bytes::u32_at;
 use rl_bytes::word_at;
 use rl_schema::count_in;
+use rl_schema::entry_at;
 use rl_schema::in_section;
 use rl_schema::row_of;
 use rl_schema::sort_of;
@@ -31,7 +32,7 @@ ghost use Rattle.rl_spec.specs.Schema.{sortOf};
 ghost use Rattle.rl_spec.specs.Bytes.{pick, past};
 ghost use Rattle.rl_schema.specs.Codes.{codes};
 ghost use Rattle.rl_fields.specs.Checked.{recordBy};
-ghost use Rattle.rl_spec.specs.Fields.{listsAt, unless, takes, within, kindOfStatement, allowed, childHeight, entryAt, rangeOf, partOf, byteIn, operandSortOf, zeros, referTo, referOrNone, entriesFrom, listOf, operandOf, fieldAt, fieldsFrom, nodeHeight, statementHeight};
+ghost use Rattle.rl_spec.specs.Fields.{listsAt, unless, takes, within, kindOfStatement, allowed, childHeight, rangeOf, partOf, byteIn, operandSortOf, zeros, referTo, referOrNone, entriesFrom, listOf, operandOf, fieldAt, fieldsFrom, nodeHeight, statementHeight};
 
 // Whether a reference may find a statement of this kind.
 fn takes_kind(target: Target, kind: u8) -> bool
@@ -163,13 +164,6 @@ fn refer_or_none(
         return Check::Holds { tall };
     }
     refer_to(s, w, p, seen, own, target, n, tall)
-}
-
-fn entry_at(s: &[u8], seen: Counts, k: u32) -> u16
-    ensures { λ r. ⌜ r ≡ entryAt (now (s .entry)) seen k ⌝ }
-{
-    let from = 23 + (seen.bytes as usize) + (seen.texts as usize) * 5;
-    u16_at(s, from + (k as usize) * 3 + 1)
 }
 
 // The entries of a list, by turns a left and a right.

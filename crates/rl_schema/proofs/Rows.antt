@@ -1,6 +1,6 @@
 -- Laws on the schema's table and the sections.
 -- Assumes nothing.
-use Prim.Native.Nat.{ℕ, zero, suc, _/_, _%_, _^_, _≤_, _<_}
+use Prim.Native.Nat.{ℕ, zero, suc, _+_, _*_, _/_, _%_, _^_, _≤_, _<_}
 use mathlib.Core.Path.{_≡_, refl, sym, ap, _∙_}
 use mathlib.Core.Bool.{Bool, true, false}
 use mathlib.Core.List.{List, [], _∷_}
@@ -9,9 +9,11 @@ use native.Mathlib.Nat.{pow-zero, pow-suc}
 use lib.Dec.{T, ltb, leb, eqb}
 use lib.ListN.{length, getD}
 use borrow.Author.Tests.{lt-ltb, le-ltb, ne-eqb, eqb-true}
+use Rattle.rl_spec.specs.declared.Counts.{Counts}
 use Rattle.rl_spec.specs.declared.Section.{Section}
 use Rattle.rl_spec.specs.declared.Section.the-variants.{Calls}
-use Rattle.rl_spec.specs.Bytes.{pick}
+use Rattle.rl_spec.specs.Bytes.{pick, u16At}
+use Rattle.rl_spec.specs.Fields.{entryAt}
 use Rattle.rl_spec.specs.Schema.{Row, schema, fieldsIn, fieldsOf, inSection, lowest, highest, sections}
 use Rattle.rl_laws.specs.Tests.{by-ltb}
 use Rattle.rl_bytes.proofs.Laws.{getD-past}
@@ -117,3 +119,9 @@ section-last (suc (suc (suc (suc (suc zero))))) h0 h1 h2 h3 h4 h5 h6 = absurd (h
 section-last (suc (suc (suc (suc (suc (suc zero)))))) h0 h1 h2 h3 h4 h5 h6 = absurd (h6 refl)
 section-last (suc (suc (suc (suc (suc (suc (suc zero))))))) h0 h1 h2 h3 h4 h5 h6 = refl
 section-last (suc (suc (suc (suc (suc (suc (suc (suc j)))))))) h0 h1 h2 h3 h4 h5 h6 = refl
+
+-- ---- list entries
+
+pub entry-is : (s : List ℕ) (seen : Counts) (k r : ℕ) → r ≡ u16At s (23 + seen .bytes + seen .texts * 5 + k * 3 + 1) → r ≡ entryAt s seen k
+unfolding entryAt
+entry-is s seen k r e = e

@@ -1,4 +1,5 @@
 // The schema's table, what its codes stand for, and the sections.
+use rl_bytes::u16_at;
 use rl_spec::Counts;
 use rl_spec::Section;
 use rl_spec::Sort;
@@ -6,6 +7,7 @@ use rl_spec::Target;
 ghost use mathlib.Core.Path.{_≡_};
 ghost use lib.ListN.{length, getD};
 ghost use Rattle.rl_spec.specs.Schema.{sortOf, widthOf, lowest, highest, inSection, tallest, sections, countOf};
+ghost use Rattle.rl_spec.specs.Fields.{entryAt};
 ghost use Rattle.rl_schema.specs.Codes.{table};
 
 // The schema: for each kind its fields' codes, one byte each, the first lowest; 0 where it is no kind.
@@ -351,4 +353,12 @@ pub fn count_in(c: Counts, section: Section) -> u16
         Section::Functions => c.functions,
         Section::Calls => c.calls,
     }
+}
+
+// The k-th list entry.
+pub fn entry_at(s: &[u8], seen: Counts, k: u32) -> u16
+    ensures { λ r. ⌜ r ≡ entryAt (now (s .entry)) seen k ⌝ }
+{
+    let from = 23 + (seen.bytes as usize) + (seen.texts as usize) * 5;
+    u16_at(s, from + (k as usize) * 3 + 1)
 }

@@ -1,7 +1,7 @@
 use borrow.Author.Needs.{needs}
-use Rattle.rl_arena.proofs.entry_at.Statement.{statement}
-use Rattle.rl_arena.proofs.entry_at.Tie as tie
-use Rattle.rl_arena.proofs.Laws.{entry-is}
+use Rattle.rl_schema.proofs.entry_at.Statement.{statement}
+use Rattle.rl_schema.proofs.entry_at.Tie as tie
+use Rattle.rl_schema.proofs.Rows.{entry-is}
 
 ruleset laws = (entry-is)
 
