@@ -1,16 +1,18 @@
 // What is checked of one record.
+mod lists;
+mod references;
+
+use crate::lists::list_of;
+use crate::references::refer_or_none;
+use crate::references::refer_to;
 use rl_bytes::byte_at;
 use rl_bytes::byte_before;
 use rl_bytes::is_past;
-use rl_bytes::join16;
-use rl_bytes::larger;
 use rl_bytes::part;
 use rl_bytes::second_u16;
 use rl_bytes::u16_at;
 use rl_bytes::u32_at;
-use rl_bytes::word_at;
 use rl_schema::count_in;
-use rl_schema::entry_at;
 use rl_schema::in_section;
 use rl_schema::row_of;
 use rl_schema::sort_of;
@@ -25,313 +27,14 @@ use rl_spec::Step;
 use rl_spec::Target;
 ghost use mathlib.Core.Path.{_≡_};
 ghost use mathlib.Core.Bool.{false};
-ghost use Prim.Native.Nat.{_+_, _*_, _%_, _≤_};
+ghost use Prim.Native.Nat.{_+_, _%_, _≤_};
 ghost use lib.ListN.{length, getD};
-ghost use lib.Dec.{leb, eqb};
+ghost use lib.Dec.{leb};
 ghost use Rattle.rl_spec.specs.Schema.{sortOf};
 ghost use Rattle.rl_spec.specs.Bytes.{pick, past};
 ghost use Rattle.rl_schema.specs.Codes.{codes};
 ghost use Rattle.rl_fields.specs.Checked.{recordBy};
-ghost use Rattle.rl_spec.specs.Fields.{listsAt, unless, takes, within, kindOfStatement, allowed, childHeight, rangeOf, partOf, byteIn, operandSortOf, zeros, referTo, referOrNone, entriesFrom, listOf, operandOf, fieldAt, fieldsFrom, nodeHeight, statementHeight};
-
-// Whether a reference may find a statement of this kind.
-fn takes_kind(target: Target, kind: u8) -> bool
-    ensures { λ r. ⌜ r ≡ takes target kind ⌝ }
-{
-    match target {
-        Target::Text => true,
-        Target::Expression => true,
-        Target::Statement => kind != 76,
-        Target::Branch => kind == 69,
-        Target::ElseBranch => {
-            if kind == 69 {
-                return true;
-            }
-            kind == 68
-        }
-        Target::Arm => kind == 76,
-    }
-}
-
-// How many records a reference may name.
-fn limit_of(seen: Counts, target: Target) -> u16
-    ensures { λ r. ⌜ r ≡ within seen target ⌝ }
-{
-    match target {
-        Target::Text => seen.texts,
-        Target::Expression => seen.expressions,
-        Target::Statement => seen.statements,
-        Target::Branch => seen.statements,
-        Target::ElseBranch => seen.statements,
-        Target::Arm => seen.statements,
-    }
-}
-
-fn statement_kind(s: &[u8], p: &[u16], seen: Counts, n: u16) -> u8
-    ensures { λ r. ⌜ r ≡ kindOfStatement (now (s .entry)) (now (p .entry)) seen n ⌝ }
-{
-    let first = seen.expressions as usize;
-    let start = word_at(p, first + (n as usize));
-    byte_at(s, start as usize)
-}
-
-fn is_allowed(s: &[u8], p: &[u16], seen: Counts, target: Target, n: u16) -> bool
-    ensures { λ r. ⌜ r ≡ allowed (now (s .entry)) (now (p .entry)) seen target n ⌝ }
-{
-    if n < limit_of(seen, target) {
-        return takes_kind(target, statement_kind(s, p, seen, n));
-    }
-    false
-}
-
-fn node_height(w: &[u16], target: Target, n: u16) -> u16
-    ensures { λ r. ⌜ r ≡ nodeHeight (now (w .entry)) target n ⌝ }
-{
-    match target {
-        Target::Text => 0,
-        Target::Expression => word_at(w, n as usize),
-        Target::Statement => 0,
-        Target::Branch => 0,
-        Target::ElseBranch => 0,
-        Target::Arm => 0,
-    }
-}
-
-fn statement_height(w: &[u16], from: u16, target: Target, n: u16) -> u16
-    ensures { λ r. ⌜ r ≡ statementHeight (now (w .entry)) from target n ⌝ }
-{
-    let at = (from as usize) + (n as usize);
-    match target {
-        Target::Text => 0,
-        Target::Expression => 0,
-        Target::Statement => word_at(w, at),
-        Target::Branch => word_at(w, at),
-        Target::ElseBranch => word_at(w, at),
-        Target::Arm => word_at(w, at),
-    }
-}
-
-// The height of a child of the own section.
-fn child_height(w: &[u16], seen: Counts, own: Section, target: Target, n: u16) -> u16
-    ensures { λ r. ⌜ r ≡ childHeight (now (w .entry)) seen own target n ⌝ }
-{
-    match own {
-        Section::Texts => 0,
-        Section::Lists => 0,
-        Section::Expressions => node_height(w, target, n),
-        Section::Statements => statement_height(w, seen.expressions, target, n),
-        Section::Parameters => 0,
-        Section::Clauses => 0,
-        Section::Functions => 0,
-        Section::Calls => 0,
-    }
-}
-
-fn refer_to(
-    s: &[u8],
-    w: &[u16],
-    p: &[u16],
-    seen: Counts,
-    own: Section,
-    target: Target,
-    n: u16,
-    tall: u16,
-) -> Check
-    ensures { λ r. ⌜ r ≡ referTo (now (s .entry)) (now (w .entry)) (now (p .entry)) seen own target n tall ⌝ }
-{
-    if is_allowed(s, p, seen, target, n) {
-        let t = larger(tall, child_height(w, seen, own, target, n));
-        return Check::Holds { tall: t };
-    }
-    Check::Fails {
-        cause: Cause::BadReference,
-    }
-}
-
-fn refer_or_none(
-    s: &[u8],
-    w: &[u16],
-    p: &[u16],
-    seen: Counts,
-    own: Section,
-    target: Target,
-    n: u16,
-    tall: u16,
-) -> Check
-    ensures { λ r. ⌜ r ≡ referOrNone (now (s .entry)) (now (w .entry)) (now (p .entry)) seen own target n tall ⌝ }
-{
-    if n == 65535 {
-        return Check::Holds { tall };
-    }
-    refer_to(s, w, p, seen, own, target, n, tall)
-}
-
-// The entries of a list, by turns a left and a right.
-fn entries(
-    s: &[u8],
-    w: &[u16],
-    p: &[u16],
-    seen: Counts,
-    own: Section,
-    first: u16,
-    count: u16,
-    left: Target,
-    right: Target,
-    tall: u16,
-) -> Check
-    ensures { λ r. ⌜ r ≡ entriesFrom (now (s .entry)) (now (w .entry)) (now (p .entry)) seen own count first left right tall ⌝ }
-{
-    let mut here = left;
-    let mut other = right;
-    let mut t = tall;
-    let mut i: u16 = 0;
-    while i < count {
-        let n = entry_at(s, seen, (first as u32) + (i as u32));
-        if is_allowed(s, p, seen, here, n) {
-            t = larger(t, child_height(w, seen, own, here, n));
-        } else {
-            return Check::Fails {
-                cause: Cause::BadReference,
-            };
-        }
-        let next = other;
-        other = here;
-        here = next;
-        i += 1;
-    }
-    Check::Holds { tall: t }
-}
-
-// The entries of a list of expressions in an expression.
-fn node_entries(
-    s: &[u8],
-    w: &[u16],
-    p: &[u16],
-    seen: Counts,
-    first: u16,
-    count: u16,
-    tall: u16,
-) -> Check
-    requires { ⌜ listsAt seen + (first + count) * 3 ≤ length (now s) ⌝ }
-    requires { ⌜ seen .expressions ≤ length (now w) ⌝ }
-    ensures { λ r. ⌜ r ≡ entriesFrom (now (s .entry)) (now (w .entry)) (now (p .entry)) seen Section.Expressions count first Target.Expression Target.Expression tall ⌝ }
-{
-    let from = 23 + (seen.bytes as usize) + (seen.texts as usize) * 5;
-    let start = from + (first as usize) * 3 + 1;
-    let mut t = tall;
-    let mut i: u16 = 0;
-    while i < count {
-        let at = start + (i as usize) * 3;
-        let n = join16(s[at], s[at + 1]);
-        if n < seen.expressions {
-            t = larger(t, w[n as usize]);
-        } else {
-            return Check::Fails {
-                cause: Cause::BadReference,
-            };
-        }
-        i += 1;
-    }
-    Check::Holds { tall: t }
-}
-
-// The same, where the image and the work have the room that an accepted header gives them; else by the general way.
-fn node_list(
-    s: &[u8],
-    w: &[u16],
-    p: &[u16],
-    seen: Counts,
-    first: u16,
-    count: u16,
-    tall: u16,
-) -> Check
-    ensures { λ r. ⌜ r ≡ entriesFrom (now (s .entry)) (now (w .entry)) (now (p .entry)) seen Section.Expressions count first Target.Expression Target.Expression tall ⌝ }
-{
-    let from = 23 + (seen.bytes as usize) + (seen.texts as usize) * 5;
-    let end = from + ((first as usize) + (count as usize)) * 3;
-    let limit = seen.expressions as usize;
-    if end <= s.len() {
-        if limit <= w.len() {
-            return node_entries(s, w, p, seen, first, count, tall);
-        }
-    }
-    entries(
-        s,
-        w,
-        p,
-        seen,
-        Section::Expressions,
-        first,
-        count,
-        Target::Expression,
-        Target::Expression,
-        tall,
-    )
-}
-
-// The entries of a list: of expressions in an expression, or any.
-fn all_entries(
-    s: &[u8],
-    w: &[u16],
-    p: &[u16],
-    seen: Counts,
-    own: Section,
-    first: u16,
-    count: u16,
-    left: Target,
-    right: Target,
-    tall: u16,
-) -> Check
-    ensures { λ r. ⌜ r ≡ entriesFrom (now (s .entry)) (now (w .entry)) (now (p .entry)) seen own count first left right tall ⌝ }
-{
-    if let Section::Expressions = own {
-        if let Target::Expression = left {
-            if let Target::Expression = right {
-                return node_list(s, w, p, seen, first, count, tall);
-            }
-        }
-    }
-    entries(s, w, p, seen, own, first, count, left, right, tall)
-}
-
-// Whether the count is a multiple of the step; of 0, only 0 is.
-fn is_multiple(count: u16, step: u8) -> bool
-    ensures { λ r. ⌜ r ≡ eqb (count % step) 0 ⌝ }
-{
-    if step == 0 {
-        return count == 0;
-    }
-    count % (step as u16) == 0
-}
-
-fn list_of(
-    s: &[u8],
-    w: &[u16],
-    p: &[u16],
-    seen: Counts,
-    own: Section,
-    first: u16,
-    count: u16,
-    left: Target,
-    right: Target,
-    step: u8,
-    tall: u16,
-) -> Check
-    ensures { λ r. ⌜ r ≡ listOf (now (s .entry)) (now (w .entry)) (now (p .entry)) seen own first count left right step tall ⌝ }
-{
-    let most = seen.lists as u32;
-    if most < (first as u32) + (count as u32) {
-        return Check::Fails {
-            cause: Cause::BadReference,
-        };
-    }
-    if is_multiple(count, step) {
-        return all_entries(s, w, p, seen, own, first, count, left, right, tall);
-    }
-    Check::Fails {
-        cause: Cause::BadReference,
-    }
-}
+ghost use Rattle.rl_spec.specs.Fields.{unless, rangeOf, partOf, byteIn, operandSortOf, zeros, operandOf, fieldAt, fieldsFrom};
 
 fn range_of(seen: Counts, first: u16, count: u16, section: Section, tall: u16) -> Check
     ensures { λ r. ⌜ r ≡ rangeOf seen first count section tall ⌝ }

@@ -4,8 +4,8 @@ use Rattle.rl_spec.specs.Fields.{entriesFrom}
 use mathlib.Core.Path.{_≡_}
 use Prim.Native.Nat.{_-_, _+_, _*_, _≤_}
 use borrow.Author.Needs.{needs}
-use Rattle.rl_fields.proofs.node_entries.Statement.{statement}
-use Rattle.rl_fields.proofs.node_entries.Tie as tie
+use Rattle.rl_fields.proofs.lists.node_entries.Statement.{statement}
+use Rattle.rl_fields.proofs.lists.node_entries.Tie as tie
 use Rattle.rl_fields.proofs.FieldLaws.{entries-start, entries-end, nodes-more, nodes-bad}
 
 ruleset laws = (entries-start, entries-end, nodes-more, nodes-bad)

@@ -1,6 +1,6 @@
 use borrow.Author.Needs.{needs}
-use Rattle.rl_fields.proofs.list_of.Statement.{statement}
-use Rattle.rl_fields.proofs.list_of.Tie as tie
+use Rattle.rl_fields.proofs.lists.list_of.Statement.{statement}
+use Rattle.rl_fields.proofs.lists.list_of.Tie as tie
 use Rattle.rl_fields.proofs.FieldLaws.{list-far, list-in, list-odd}
 
 ruleset laws = (list-far, list-in, list-odd)

@@ -1,6 +1,6 @@
 use borrow.Author.Needs.{needs}
-use Rattle.rl_fields.proofs.refer_or_none.Statement.{statement}
-use Rattle.rl_fields.proofs.refer_or_none.Tie as tie
+use Rattle.rl_fields.proofs.references.refer_or_none.Statement.{statement}
+use Rattle.rl_fields.proofs.references.refer_or_none.Tie as tie
 use Rattle.rl_fields.proofs.FieldLaws.{none-is, none-not}
 
 ruleset laws = (none-is, none-not)

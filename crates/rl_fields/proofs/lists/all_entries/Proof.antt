@@ -1,6 +1,6 @@
 use borrow.Author.Needs.{needs}
-use Rattle.rl_fields.proofs.all_entries.Statement.{statement}
-use Rattle.rl_fields.proofs.all_entries.Tie as tie
+use Rattle.rl_fields.proofs.lists.all_entries.Statement.{statement}
+use Rattle.rl_fields.proofs.lists.all_entries.Tie as tie
 use Rattle.rl_fields.proofs.FieldLaws.{nodes-are}
 
 ruleset laws = (nodes-are)

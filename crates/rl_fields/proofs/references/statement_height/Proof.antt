@@ -1,6 +1,6 @@
 use borrow.Author.Needs.{needs}
-use Rattle.rl_fields.proofs.statement_height.Statement.{statement}
-use Rattle.rl_fields.proofs.statement_height.Tie as tie
+use Rattle.rl_fields.proofs.references.statement_height.Statement.{statement}
+use Rattle.rl_fields.proofs.references.statement_height.Tie as tie
 use Rattle.rl_fields.proofs.FieldLaws.{statement-is}
 
 ruleset laws = (statement-is)

@@ -1,6 +1,6 @@
 use borrow.Author.Needs.{needs}
-use Rattle.rl_fields.proofs.is_allowed.Statement.{statement}
-use Rattle.rl_fields.proofs.is_allowed.Tie as tie
+use Rattle.rl_fields.proofs.references.is_allowed.Statement.{statement}
+use Rattle.rl_fields.proofs.references.is_allowed.Tie as tie
 use Rattle.rl_fields.proofs.FieldLaws.{allowed-in, allowed-out}
 
 ruleset laws = (allowed-in, allowed-out)

@@ -2,8 +2,8 @@ use Rattle.rl_spec.specs.Fields.{entriesFrom}
 use mathlib.Core.Path.{_≡_}
 use Prim.Native.Nat.{_-_, _+_, _≤_}
 use borrow.Author.Needs.{needs}
-use Rattle.rl_fields.proofs.entries.Statement.{statement}
-use Rattle.rl_fields.proofs.entries.Tie as tie
+use Rattle.rl_fields.proofs.lists.entries.Statement.{statement}
+use Rattle.rl_fields.proofs.lists.entries.Tie as tie
 use Rattle.rl_fields.proofs.FieldLaws.{entries-start, entries-more, entries-bad, entries-end}
 
 ruleset laws = (entries-start, entries-more, entries-bad, entries-end)

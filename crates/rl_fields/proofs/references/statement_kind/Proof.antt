@@ -1,6 +1,6 @@
 use borrow.Author.Needs.{needs}
-use Rattle.rl_fields.proofs.statement_kind.Statement.{statement}
-use Rattle.rl_fields.proofs.statement_kind.Tie as tie
+use Rattle.rl_fields.proofs.references.statement_kind.Statement.{statement}
+use Rattle.rl_fields.proofs.references.statement_kind.Tie as tie
 use Rattle.rl_fields.proofs.FieldLaws.{kind-is}
 
 ruleset laws = (kind-is)

@@ -1,6 +1,6 @@
 use borrow.Author.Needs.{needs}
-use Rattle.rl_fields.proofs.refer_to.Statement.{statement}
-use Rattle.rl_fields.proofs.refer_to.Tie as tie
+use Rattle.rl_fields.proofs.references.refer_to.Statement.{statement}
+use Rattle.rl_fields.proofs.references.refer_to.Tie as tie
 use Rattle.rl_fields.proofs.FieldLaws.{refer-good, refer-bad}
 
 ruleset laws = (refer-good, refer-bad)

@@ -1,6 +1,6 @@
 use borrow.Author.Needs.{needs}
-use Rattle.rl_fields.proofs.child_height.Statement.{statement}
-use Rattle.rl_fields.proofs.child_height.Tie as tie
+use Rattle.rl_fields.proofs.references.child_height.Statement.{statement}
+use Rattle.rl_fields.proofs.references.child_height.Tie as tie
 use Rattle.rl_fields.proofs.FieldLaws.{child-is}
 
 ruleset laws = (child-is)

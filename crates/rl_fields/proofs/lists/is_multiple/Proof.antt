@@ -1,6 +1,6 @@
 use borrow.Author.Needs.{needs}
-use Rattle.rl_fields.proofs.is_multiple.Statement.{statement}
-use Rattle.rl_fields.proofs.is_multiple.Tie as tie
+use Rattle.rl_fields.proofs.lists.is_multiple.Statement.{statement}
+use Rattle.rl_fields.proofs.lists.is_multiple.Tie as tie
 use Rattle.rl_fields.proofs.FieldLaws.{multiple-none}
 
 ruleset laws = (multiple-none)
