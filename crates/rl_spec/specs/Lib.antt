@@ -4,3 +4,4 @@ pub mod Schema
 pub mod Fields
 pub mod Read
 pub mod Image
+pub mod Values

@@ -72,7 +72,7 @@ abbrev pub outOf : Step → List ℕ → List ℕ → Out
 outOf (Next at tall) w p = good at w p
 outOf (Stop c q) w p = bad c q
 
--- what the i-th record of a section may refer to
+-- what the i-th record of a section may refer to; those of the other sections name none of their own
 abbrev pub seenBy : Counts → Section → ℕ → Counts
 seenBy c Texts i = c
 seenBy c Lists i = c

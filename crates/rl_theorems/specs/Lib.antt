@@ -22,4 +22,5 @@ pub mod EncodedExample
 pub mod Access
 pub mod AcceptedParts
 pub mod Accepted
+pub mod ValueExamples
 pub mod Theorems
