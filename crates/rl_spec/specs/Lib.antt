@@ -5,3 +5,4 @@ pub mod Fields
 pub mod Read
 pub mod Image
 pub mod Values
+pub mod Folded

@@ -114,3 +114,40 @@ pub enum Step {
     Next { at: usize, tall: u16 },
     Stop { cause: Cause, place: usize },
 }
+
+// A folded value; a text by its index.
+pub enum ConstVal {
+    Int(i64),
+    Float(f64),
+    Str(u16),
+    Bool(bool),
+}
+
+pub enum RefineOp {
+    Gt,
+    Ge,
+    Lt,
+    Le,
+    Eq,
+    Ne,
+}
+
+pub enum ArithOp {
+    Plus,
+    Minus,
+    Star,
+    Slash,
+}
+
+// What an operator on values gives.
+pub enum Folded {
+    Value(ConstVal),
+    Nothing,
+}
+
+// What a comparison of values says.
+pub enum Verdict {
+    Yes,
+    No,
+    Unknown,
+}
