@@ -21,7 +21,7 @@ esac
 
 # the reader's library, compared with an independent reader
 rt staticlib rl_abi >"$new/library" 2>&1 || { cat "$new/library"; exit 1; }
-(cd tools && cargo test --quiet -p rlimg >"$new/tests" 2>&1) || { cat "$new/tests"; exit 1; }
+(cd tools && cargo test --quiet -p rlimg -p oracle >"$new/tests" 2>&1) || { cat "$new/tests"; exit 1; }
 (cd tools && cargo build --quiet --release)
 tools/target/release/compare_read
 

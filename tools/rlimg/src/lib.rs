@@ -1,5 +1,5 @@
 //! The image format: records, bytes, text form, an independent reader, and
-//! generators of accepted and damaged images.
+//! generators of accepted and damaged images and of contracts.
 
 pub mod builder;
 pub mod damage;
@@ -10,5 +10,6 @@ pub mod image;
 pub mod random;
 pub mod reader;
 pub mod rng;
+pub mod rules;
 pub mod schema;
 pub mod text;

@@ -1,0 +1,68 @@
+//! What the original Rust reports of an image's calls. Its files are compiled
+//! where they are, unchanged; `stand_ins` has what they lean on.
+
+pub mod marked;
+#[cfg(original)]
+mod prove;
+mod rule;
+#[cfg(original)]
+mod stand_ins;
+pub mod tables;
+
+#[cfg(original)]
+include!(concat!(env!("OUT_DIR"), "/original.rs"));
+
+// The names under which the original's files know each other.
+#[cfg(original)]
+extern crate self as rl_ast;
+#[cfg(original)]
+extern crate self as rl_lexer;
+#[cfg(original)]
+extern crate self as rl_utils;
+#[cfg(original)]
+use {
+    ast::{ExprId, arena, nodes, statements},
+    stand_ins::{TypeChecker, span, tokentypes},
+};
+
+use rlimg::image::Image;
+use std::fmt;
+
+/// Whether the original was there when this was built.
+pub const HERE: bool = cfg!(original);
+/// What a program says where it was not.
+pub const NOT_HERE: &str = "the original is not here: nothing compared";
+
+/// What `error` stored for one call.
+#[derive(Debug, Clone, PartialEq, Eq)]
+pub struct Report {
+    pub call: u32,
+    pub span: u32,
+    pub message: String,
+}
+
+/// The printer's line, without its end.
+impl fmt::Display for Report {
+    fn fmt(&self, f: &mut fmt::Formatter<'_>) -> fmt::Result {
+        write!(f, "{} {} {}", self.call, self.span, self.message)
+    }
+}
+
+/// `prove_call` for each call in order, after `record_fn_contracts` for each
+/// function in order. The image is one that the reader accepts; panics where
+/// the original is not `HERE`.
+pub fn reports(image: &Image) -> Vec<Report> {
+    prove::reports(image)
+}
+
+/// The reports as the printer's lines.
+pub fn lines(image: &Image) -> String {
+    reports(image).iter().map(|report| format!("{report}\n")).collect()
+}
+
+#[cfg(not(original))]
+mod prove {
+    pub fn reports(_: &crate::Image) -> Vec<crate::Report> {
+        panic!("{}", crate::NOT_HERE)
+    }
+}
