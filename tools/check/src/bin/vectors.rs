@@ -105,6 +105,15 @@ impl Cases {
         }
     }
 
+    /// An image as it is, and with its records three and eight bytes further on.
+    fn add_shifted(&mut self, mut image: Image) {
+        self.add(encode(&image), WORK);
+        image.text = b"ab ".to_vec();
+        self.add(encode(&image), WORK);
+        image.texts = vec![(0, 2)];
+        self.add(encode(&image), WORK);
+    }
+
     /// Each limit that a small image can pass, and kinds of other sections.
     fn limits(&mut self) {
         for (position, limit) in LIMITS.into_iter().enumerate() {
@@ -121,10 +130,15 @@ impl Cases {
             }
         }
         for height in 67..70 {
-            self.add(encode(&edges::expression_chain(height)), WORK);
+            self.add_shifted(edges::expression_chain(height));
         }
         for height in 35..38 {
-            self.add(encode(&edges::statement_chain(height)), WORK);
+            self.add_shifted(edges::statement_chain(height));
+        }
+        for position in 0..LIMITS.len() {
+            let mut bytes = encode(&edges::with_count(position, 1));
+            bytes.push(0);
+            self.add(bytes, WORK);
         }
         self.add(vec![1; 65_536], WORK);
     }
