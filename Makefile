@@ -1,10 +1,11 @@
 # make run [IMAGE=path]   the printer on an image (default: the sample)
 # make test               the gate, the comparisons, formatting
-# make compare [CASES=n] [SEED=n]   the reader against the independent one, on more cases
-# make bench              times of this and of plain Rust, in one run
+# make compare [CASES=n] [PROVED=n] [SEED=n]   the reader against the independent one and the prover against rl-lang's, on more cases
+# make bench              times of this and of Rust, in one run
 # make fmt                lay all files out
 IMAGE ?= samples/flow.img
 CASES ?= 3000000
+PROVED ?= 500000
 SEED ?= 7
 CARGO = cargo --quiet
 CARGO_RELEASE = cd tools && $(CARGO) build --release
@@ -27,15 +28,18 @@ staticlib:
 compare: staticlib
 	$(CARGO_RELEASE)
 	tools/target/release/compare_read $(CASES) $(SEED)
+	tools/target/release/compare_prove $(PROVED) $(SEED)
 
 bench: staticlib
 	$(CARGO_RELEASE)
 	tools/target/release/bench_read
+	tools/target/release/bench_prove
 
-# writes the stored cases anew
+# writes the stored cases anew; those of proving need the original
 vectors:
-	$(CARGO_RELEASE) --bin vectors
+	$(CARGO_RELEASE) --bin vectors --bin vectors_prove
 	tools/target/release/vectors crates/vectors_read
+	tools/target/release/vectors_prove crates/vectors_prove
 
 fmt:
 	rt fmt

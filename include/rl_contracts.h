@@ -24,6 +24,33 @@ extern "C" {
  */
 uint64_t rl_read(const uint8_t *image, size_t image_len, uint16_t *work, size_t work_len);
 
+/*
+ * Reads an image and folds one of its nodes, without names. On success value[0]
+ * is the sort: 0 none, 1 Int, 2 Float, 3 Str, 4 Bool; value[1] the i64's or
+ * f64's bits, the text's index, 0 or 1; the rest zero. Refusals besides those of
+ * reading: 15 another arena, 16 no such node, and before anything else 100 for a
+ * value of under two words. On refusal work and value are zero.
+ */
+uint64_t rl_fold(const uint8_t *image, size_t image_len, uint16_t *work, size_t work_len,
+                 uint32_t arena, uint32_t node, uint64_t *value, size_t value_len);
+
+/* How many reports there are, where nothing is refused. */
+#define RL_REPORTS(answer) ((uint32_t)(answer))
+
+/*
+ * Reads an image and proves one of its calls. Each report is four entries: call,
+ * span, 0 refinement or 1 requires, the parameter's or clause's number in the
+ * callee's list; the rest of reports is zero. A call has at most 512 reports.
+ * Refusals besides those of reading: 17 no such call, 18 a slice of under four
+ * entries a report. On refusal work and reports are zero.
+ */
+uint64_t rl_prove(const uint8_t *image, size_t image_len, uint16_t *work, size_t work_len,
+                  uint32_t call, uint32_t *reports, size_t reports_len);
+
+/* The same for all calls in order; the image is read once. */
+uint64_t rl_prove_all(const uint8_t *image, size_t image_len, uint16_t *work, size_t work_len,
+                      uint32_t *reports, size_t reports_len);
+
 #ifdef __cplusplus
 }
 #endif

@@ -19,11 +19,13 @@ case "$last" in
 *) echo "$last"; exit 1 ;;
 esac
 
-# the reader's library, compared with an independent reader
+# the library, compared with an independent reader, folder and prover and with the original; the printer too
 rt staticlib rl_abi >"$new/library" 2>&1 || { cat "$new/library"; exit 1; }
 (cd tools && cargo test --quiet -p rlimg -p oracle >"$new/tests" 2>&1) || { cat "$new/tests"; exit 1; }
 (cd tools && cargo build --quiet --release)
 tools/target/release/compare_read
+tools/target/release/compare_prove 100000
+tools/target/release/compare_print
 
 # the stored cases and the sample are what the tools make
 tools/target/release/vectors "$new"
@@ -32,5 +34,12 @@ cmp "$new/stdout" crates/vectors_read/stdout
 tools/target/release/rlimg build samples/flow.txt -o "$new/flow.img"
 cmp "$new/flow.img" samples/flow.img
 cmp samples/flow.img crates/rl_printer/stdin
+
+# without the original, the stored cases of proving are not made anew
+tools/target/release/vectors_prove "$new/prove"
+if [ -e "$new/prove/stdin" ]; then
+    cmp "$new/prove/stdin" crates/vectors_prove/stdin
+    cmp "$new/prove/stdout" crates/vectors_prove/stdout
+fi
 
 echo "$last"

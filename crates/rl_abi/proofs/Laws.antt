@@ -1,21 +1,39 @@
--- Laws on a packed answer.
+-- One law for each way out of the functions for C and Rust.
 -- Assumes nothing.
-use Prim.Native.Nat.{ℕ, _+_, _*_, _≤_}
-use mathlib.Core.Path.{_≡_, refl, sym, ap, _∙_}
-use mathlib.Core.List.{List}
+use Prim.Native.Nat.{ℕ, zero, suc, _+_, _-_, _*_, _/_, _≤_, _<_}
+use mathlib.Core.Path.{_≡_, refl, sym, ap, subst, _∙_}
+use mathlib.Core.Bool.{Bool, true, false}
+use mathlib.Core.List.{List, [], _∷_}
 use native.Mathlib.Omega.{arith}
+use lib.Dec.{eqb, ltb}
+use lib.ListN.{length, set, replicate}
+use borrow.Author.Tests.{lt-ltb, le-ltb}
 use mir.Val.{Fits}
 use mir.Syntax.{w64}
 use Rattle.rl_spec.specs.declared.ArenaNo.{ArenaNo}
 use Rattle.rl_spec.specs.declared.Counts.{Counts}
 use Rattle.rl_spec.specs.declared.Cause.{Cause}
-use Rattle.rl_spec.specs.declared.Cause.the-variants.{ImageTooLong, WorkTooShort, BytesEnd, WrongKind, CountOverLimit, BadText, BadValue, BadReference, TooHigh, BytesLeft}
+use Rattle.rl_spec.specs.declared.Cause.the-variants.{ImageTooLong, WorkTooShort, BytesEnd, WrongKind, CountOverLimit, BadText, BadValue, BadReference, TooHigh, BytesLeft, OtherArena, NoSuchNode, NoSuchCall, ReportsTooShort}
 use Rattle.rl_spec.specs.declared.Answer.{Answer}
 use Rattle.rl_spec.specs.declared.Answer.the-variants.{Accepted, Refused}
-use Rattle.rl_spec.specs.Read.{numberOf, placeIn, packed, answerOf}
+use Rattle.rl_spec.specs.declared.FoldAnswer.{FoldAnswer}
+use Rattle.rl_spec.specs.declared.FoldAnswer.the-variants as fold
+use Rattle.rl_spec.specs.declared.Folded.{Folded}
+use Rattle.rl_spec.specs.declared.Id.{Id}
+use Rattle.rl_spec.specs.declared.ProveAnswer.{ProveAnswer}
+use Rattle.rl_spec.specs.declared.ProveAnswer.the-variants as prove
+use Rattle.rl_spec.specs.Bytes.{pick}
+use Rattle.rl_spec.specs.Read.{numberOf, packed, answerOf}
+use Rattle.rl_spec.specs.Fold.{constEval, foldBy, foldOf, foldNumber, workUnless}
+use Rattle.rl_spec.specs.Prove.{callEntries, allEntries, proveFrom, proveOf, proveAllFrom, proveAllOf}
+use Rattle.rl_spec.specs.Image.{textOf, imageOf}
+use Rattle.rl_spec.specs.Folded.{asFolded}
+use Rattle.rl_spec.specs.Tree.{exprTree}
+use Rattle.rl_spec.specs.Words.{sortWordOf, payloadWordOf}
+use Rattle.rl_abi.specs.Boundary.{above, foldAnswer, foldValue, foldWork, provePacked, provedPlace}
 use Rattle.rl_theorems.specs.Places.{place-small}
 
-number-small : (q : Cause) → numberOf q ≤ 10
+number-small : (q : Cause) → numberOf q ≤ 18
 number-small ImageTooLong = omega arith
 number-small WorkTooShort = omega arith
 number-small BytesEnd = omega arith
@@ -26,26 +44,139 @@ number-small BadValue = omega arith
 number-small BadReference = omega arith
 number-small TooHigh = omega arith
 number-small BytesLeft = omega arith
-
-pub place-of : (a : Answer) (q : Cause) (p : ℕ) → a ≡ Refused q p → placeIn a ≤ 65535 → p ≤ 65535
-place-of a q p e h = rw (e) at h
+number-small OtherArena = omega arith
+number-small NoSuchNode = omega arith
+number-small NoSuchCall = omega arith
+number-small ReportsTooShort = omega arith
 
 module _ (q : Cause) (n : ℕ) (e : n ≡ numberOf q) where
   pub high-fits : Fits w64 (n * 4294967296)
   high-fits = omega (arith, number-small q)
 
-  pub both-fit : (a : Answer) (p : ℕ) → a ≡ Refused q p → placeIn a ≤ 65535 → Fits w64 (n * 4294967296 + p)
-  both-fit a p f h = omega (arith, number-small q, place-of a q p f h)
+  pub both-fit : (p : ℕ) → p ≤ 65535 → Fits w64 (n * 4294967296 + p)
+  both-fit p h = omega (arith, number-small q)
 
-  pub packed-is : (a : Answer) (p : ℕ) → a ≡ Refused q p → n * 4294967296 + p ≡ packed a
-  packed-is a p f = rw (f, e) refl
+-- ---- reading
 
-pub packed-none : (a : Answer) (m : ArenaNo) (c : Counts) → a ≡ Accepted m c → 0 ≡ packed a
-packed-none a m c e = rw e refl
+module _ (s : List ℕ) (k : ℕ) (a : Answer) (e : a ≡ answerOf s k) where
+  pub read-place : (q : Cause) (p : ℕ) → a ≡ Refused q p → p ≤ 65535
+  read-place q p f = place-small s k q p (sym e ∙ f)
 
-pub answer-place : (s : List ℕ) (k : ℕ) (r : Answer) → r ≡ answerOf s k → placeIn r ≤ 65535
-answer-place s k (Accepted a c) e = omega arith
-answer-place s k (Refused q n) e = place-small s k q n (sym e)
+  pub read-accepted : (m : ArenaNo) (c : Counts) → a ≡ Accepted m c → 0 ≡ packed (answerOf s k)
+  read-accepted m c f = rw (← e, f) refl
 
-pub answer-packed : (a b : Answer) (r : ℕ) → r ≡ packed a → a ≡ b → r ≡ packed b
-answer-packed a b r e f = e ∙ ap packed f
+  pub read-refused : (q : Cause) (p r : ℕ) → a ≡ Refused q p → r ≡ above (numberOf q) p → r ≡ packed (answerOf s k)
+  read-refused q p r f g = g ∙ rw (← e, f) refl
+
+-- ---- folding
+
+fold-place : (s : List ℕ) (k : ℕ) (id : Id) (q : Cause) (p : ℕ) → foldOf s k id ≡ fold.Refused q p → p ≤ 65535
+unfolding foldOf
+fold-place s k id q p h = go (answerOf s k) refl h
+  where
+    place : FoldAnswer → ℕ
+    place (fold.Found v) = 0
+    place (fold.Refused c n) = n
+
+    chosen : (x y : Bool) (v : Folded) → place (pick x (pick y (fold.Found v) (fold.Refused NoSuchNode 0)) (fold.Refused OtherArena 0)) ≡ 0
+    chosen true true v = refl
+    chosen true false v = refl
+    chosen false y v = refl
+
+    go : (a : Answer) → answerOf s k ≡ a → foldBy s id a ≡ fold.Refused q p → p ≤ 65535
+    go (Refused c n) e f = let m : n ≡ p = ap place f in omega (arith, place-small s k c n e)
+    go (Accepted m c) e f = let z : 0 ≡ p = sym (chosen (eqb (id .arena .0) (m .0)) (ltb (id .node .0) (c .expressions)) (asFolded (constEval (textOf (imageOf s)) [] (exprTree (imageOf s) (id .node .0))))) ∙ ap place f in omega arith
+
+module _ (s : List ℕ) (k : ℕ) (id : Id) (room : ℕ) where
+  module _ (h : room < 2) where
+    pub fold-short : 429496729600 ≡ foldAnswer s k id room
+    unfolding foldAnswer
+    fold-short = rw (lt-ltb room 2 h) refl
+
+    pub fold-short-value : (l : List ℕ) → l ≡ replicate room 0 → l ≡ foldValue s k id room
+    unfolding foldValue
+    fold-short-value l e = rw (lt-ltb room 2 h) e
+
+    pub fold-short-work : (w : List ℕ) → w ≡ replicate k 0 → w ≡ foldWork s k id room
+    unfolding foldWork
+    fold-short-work w e = rw (lt-ltb room 2 h) e
+
+  module _ (h : 2 ≤ room) (a : FoldAnswer) (e : a ≡ foldOf s k id) where
+    pub fold-work : (w : List ℕ) → w ≡ workUnless (foldNumber (foldOf s k id)) s k → w ≡ foldWork s k id room
+    unfolding foldWork
+    fold-work w g = rw (le-ltb room 2 h) g
+
+    module _ (q : Cause) (p : ℕ) (f : a ≡ fold.Refused q p) where
+      pub fold-refused-place : p ≤ 65535
+      fold-refused-place = fold-place s k id q p (sym e ∙ f)
+
+      pub fold-refused : (r : ℕ) → r ≡ above (numberOf q) p → r ≡ foldAnswer s k id room
+      unfolding foldAnswer
+      fold-refused r g = rw (le-ltb room 2 h, ← e, f) g
+
+      pub fold-refused-value : (l : List ℕ) → l ≡ replicate room 0 → l ≡ foldValue s k id room
+      unfolding foldValue
+      fold-refused-value l g = rw (le-ltb room 2 h, ← e, f) g
+
+    module _ (v : Folded) (f : a ≡ fold.Found v) where
+      pub fold-found : 0 ≡ foldAnswer s k id room
+      unfolding foldAnswer
+      fold-found = rw (le-ltb room 2 h, ← e, f) refl
+
+      pub fold-found-value : (l : List ℕ) → l ≡ sortWordOf v ∷ payloadWordOf v ∷ replicate (room - 2) 0 → l ≡ foldValue s k id room
+      unfolding foldValue
+      fold-found-value l g = rw (le-ltb room 2 h, ← e, f) g
+
+-- the two words of a value, before zeros
+pub put-words : (n : ℕ) (l : List ℕ) (v : Folded) (a b : ℕ) → 2 ≤ n → l ≡ replicate n 0 → a ≡ sortWordOf v → b ≡ payloadWordOf v → set (set l 0 a) 1 b ≡ sortWordOf v ∷ payloadWordOf v ∷ replicate (n - 2) 0
+put-words zero l v a b h z e f = absurd (omega arith)
+put-words (suc zero) l v a b h z e f = absurd (omega arith)
+put-words (suc (suc n)) l v a b h z e f = let m : suc (suc n) - 2 ≡ n = omega arith in rw (z, e, f, m) refl
+
+-- ---- proving
+
+prove-place : (s : List ℕ) (k call room : ℕ) → provedPlace (proveOf s k call room) ≤ 65535
+unfolding proveOf
+prove-place s k call room = go (answerOf s k) refl
+  where
+    chosen : (x y : Bool) (n : ℕ) → provedPlace (pick x (pick y (prove.Refused ReportsTooShort 0) (prove.Proved n)) (prove.Refused NoSuchCall 0)) ≤ 65535
+    chosen true true n = omega arith
+    chosen true false n = omega arith
+    chosen false y n = omega arith
+
+    go : (a : Answer) → answerOf s k ≡ a → provedPlace (proveFrom s call room a) ≤ 65535
+    go (Refused c n) e = place-small s k c n e
+    go (Accepted m c) e = chosen (ltb call (c .calls)) (ltb room (length (callEntries (imageOf s) call))) (length (callEntries (imageOf s) call) / 4)
+
+all-place : (s : List ℕ) (k room : ℕ) → provedPlace (proveAllOf s k room) ≤ 65535
+unfolding proveAllOf
+all-place s k room = go (answerOf s k) refl
+  where
+    chosen : (y : Bool) (n : ℕ) → provedPlace (pick y (prove.Refused ReportsTooShort 0) (prove.Proved n)) ≤ 65535
+    chosen true n = omega arith
+    chosen false n = omega arith
+
+    go : (a : Answer) → answerOf s k ≡ a → provedPlace (proveAllFrom s room a) ≤ 65535
+    go (Refused c n) e = place-small s k c n e
+    go (Accepted m c) e = chosen (ltb room (length (allEntries (imageOf s) (c .calls) 0))) (length (allEntries (imageOf s) (c .calls) 0) / 4)
+
+module _ (s : List ℕ) (k call room : ℕ) (a : ProveAnswer) (e : a ≡ proveOf s k call room) where
+  pub prove-near : provedPlace a ≤ 65535
+  prove-near = subst (λ (x : ProveAnswer). provedPlace x ≤ 65535) (sym e) (prove-place s k call room)
+
+  pub prove-packed : (r : ℕ) → r ≡ provePacked a → r ≡ provePacked (proveOf s k call room)
+  prove-packed r g = g ∙ ap provePacked e
+
+module _ (s : List ℕ) (k room : ℕ) (a : ProveAnswer) (e : a ≡ proveAllOf s k room) where
+  pub all-near : provedPlace a ≤ 65535
+  all-near = subst (λ (x : ProveAnswer). provedPlace x ≤ 65535) (sym e) (all-place s k room)
+
+  pub all-packed : (r : ℕ) → r ≡ provePacked a → r ≡ provePacked (proveAllOf s k room)
+  all-packed r g = g ∙ ap provePacked e
+
+module _ (a : ProveAnswer) (q : Cause) (p : ℕ) (f : a ≡ prove.Refused q p) where
+  pub refused-near : provedPlace a ≤ 65535 → p ≤ 65535
+  refused-near h = rw f at h
+
+  pub refused-packed : (r : ℕ) → r ≡ above (numberOf q) p → r ≡ provePacked a
+  refused-packed r g = rw f g

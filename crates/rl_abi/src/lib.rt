@@ -1,22 +1,32 @@
 // The functions that C and Rust call. include/rl_contracts.h declares them for C.
+use rl_bytes::clear;
+use rl_memory::clear as clear_words;
 use rl_numbers::number_of;
 use rl_spec::Answer;
+use rl_spec::ArenaNo;
+use rl_spec::Cause;
+use rl_spec::FoldAnswer;
+use rl_spec::Folded;
+use rl_spec::Id;
+use rl_spec::NodeNo;
+use rl_spec::ProveAnswer;
+use rl_words::payload_word;
+use rl_words::sort_word;
 ghost use mathlib.Core.Path.{_≡_};
-ghost use Prim.Native.Nat.{_≤_, _^_};
-ghost use lib.ListN.{length};
-ghost use Rattle.rl_spec.specs.Read.{placeIn, packed, answerOf, workOf};
+ghost use mathlib.Core.List.{_∷_};
+ghost use Prim.Native.Nat.{_-_, _≤_};
+ghost use lib.ListN.{length, replicate};
+ghost use Rattle.rl_spec.specs.Read.{numberOf, packed, answerOf, workOf};
+ghost use Rattle.rl_spec.specs.Fold.{workUnless};
+ghost use Rattle.rl_spec.specs.Prove.{proveOf, reportsOf, proveAllOf, allReportsOf, proveNumber};
+ghost use Rattle.rl_spec.specs.Words.{sortWordOf, payloadWordOf};
+ghost use Rattle.rl_abi.specs.Boundary.{above, idOf, foldAnswer, foldValue, foldWork, provePacked, provedPlace};
 
-fn pack(answer: Answer) -> u64
-    requires { ⌜ placeIn answer ≤ 65535 ⌝ }
-    ensures { λ r. ⌜ r ≡ packed answer ⌝ }
+fn pack(cause: Cause, place: usize) -> u64
+    requires { ⌜ place ≤ 65535 ⌝ }
+    ensures { λ r. ⌜ r ≡ above (numberOf cause) place ⌝ }
 {
-    match answer {
-        Answer::Accepted {
-            arena: _,
-            counts: _,
-        } => 0,
-        Answer::Refused { cause, place } => number_of(cause) * 4294967296 + (place as u64),
-    }
+    number_of(cause) * 4294967296 + (place as u64)
 }
 
 // Reads an image. The high 32 bits are the refusal's number, 0 where the image is accepted, and the low 32 bits its place.
@@ -25,5 +35,86 @@ pub extern "C" fn rl_read(image: &[u8], work: &mut [u16]) -> u64
     ensures { λ r. ⌜ r ≡ packed (answerOf (now (image .entry)) (length (now (work .entry)))) ⌝ }
     ensures { λ r. ⌜ now (work .exit) ≡ workOf (now (image .entry)) (length (now (work .entry))) ⌝ }
 {
-    pack(rl_ast::read(image, work))
+    let answer = rl_ast::read(image, work);
+    match answer {
+        Answer::Accepted { arena, counts } => 0,
+        Answer::Refused { cause, place } => pack(cause, place),
+    }
+}
+
+fn put_value(value: &mut [u64], v: Folded)
+    requires { ⌜ 2 ≤ length (now value) ⌝ }
+    ensures { λ _. ⌜ now (value .exit) ≡ sortWordOf v ∷ payloadWordOf v ∷ replicate (length (now (value .entry)) - 2) 0 ⌝ }
+{
+    clear_words(value);
+    value[0] = sort_word(v);
+    value[1] = payload_word(v);
+}
+
+// Reads an image and folds a node without names. value[0]: 0 none, 1 Int, 2 Float, 3 Str, 4 Bool; value[1]: the i64's or f64's
+// bits, the text's index, 0 or 1. 100, before anything else, for a value of under two words.
+#[no_mangle]
+pub extern "C" fn rl_fold(
+    image: &[u8],
+    work: &mut [u16],
+    arena: u32,
+    node: u32,
+    value: &mut [u64],
+) -> u64
+    ensures { λ r. ⌜ r ≡ foldAnswer (now (image .entry)) (length (now (work .entry))) (idOf arena node) (length (now (value .entry))) ⌝ }
+    ensures { λ r. ⌜ now (value .exit) ≡ foldValue (now (image .entry)) (length (now (work .entry))) (idOf arena node) (length (now (value .entry))) ⌝ }
+    ensures { λ r. ⌜ now (work .exit) ≡ foldWork (now (image .entry)) (length (now (work .entry))) (idOf arena node) (length (now (value .entry))) ⌝ }
+{
+    if value.len() < 2 {
+        clear_words(value);
+        clear(work);
+        return 429496729600;
+    }
+    let id = Id {
+        arena: ArenaNo(arena),
+        node: NodeNo(node),
+    };
+    let answer = rl_checker::fold(image, work, id);
+    match answer {
+        FoldAnswer::Refused { cause, place } => {
+            clear_words(value);
+            pack(cause, place)
+        }
+        FoldAnswer::Found(v) => {
+            put_value(value, v);
+            0
+        }
+    }
+}
+
+// The number of reports, or a refusal.
+fn pack_proved(answer: ProveAnswer) -> u64
+    requires { ⌜ provedPlace answer ≤ 65535 ⌝ }
+    ensures { λ r. ⌜ r ≡ provePacked answer ⌝ }
+{
+    match answer {
+        ProveAnswer::Proved(n) => n as u64,
+        ProveAnswer::Refused { cause, place } => pack(cause, place),
+    }
+}
+
+// Reads an image and proves a call. The low 32 bits are the number of reports, each four u32: call, span, 0 refinement or 1
+// requires, the parameter's or clause's number in the callee's list.
+#[no_mangle]
+pub extern "C" fn rl_prove(image: &[u8], work: &mut [u16], call: u32, reports: &mut [u32]) -> u64
+    ensures { λ r. ⌜ r ≡ provePacked (proveOf (now (image .entry)) (length (now (work .entry))) call (length (now (reports .entry)))) ⌝ }
+    ensures { λ r. ⌜ now (reports .exit) ≡ reportsOf (now (image .entry)) (length (now (work .entry))) call (length (now (reports .entry))) ⌝ }
+    ensures { λ r. ⌜ now (work .exit) ≡ workUnless (proveNumber (proveOf (now (image .entry)) (length (now (work .entry))) call (length (now (reports .entry))))) (now (image .entry)) (length (now (work .entry))) ⌝ }
+{
+    pack_proved(rl_checker::prove(image, work, call, reports))
+}
+
+// The same for all calls in order; the image is read once.
+#[no_mangle]
+pub extern "C" fn rl_prove_all(image: &[u8], work: &mut [u16], reports: &mut [u32]) -> u64
+    ensures { λ r. ⌜ r ≡ provePacked (proveAllOf (now (image .entry)) (length (now (work .entry))) (length (now (reports .entry)))) ⌝ }
+    ensures { λ r. ⌜ now (reports .exit) ≡ allReportsOf (now (image .entry)) (length (now (work .entry))) (length (now (reports .entry))) ⌝ }
+    ensures { λ r. ⌜ now (work .exit) ≡ workUnless (proveNumber (proveAllOf (now (image .entry)) (length (now (work .entry))) (length (now (reports .entry))))) (now (image .entry)) (length (now (work .entry))) ⌝ }
+{
+    pack_proved(rl_checker::prove_all(image, work, reports))
 }

@@ -8,7 +8,7 @@ use native.Mathlib.Omega.{arith}
 use lib.Dec.{leb, eqb}
 use mir.Val.{Fits}
 use mir.Syntax.{w8, w64}
-use lib.ListN.{length, getD, take, drop}
+use lib.ListN.{getD}
 use borrow.Author.Tests.{lt-ltb, le-ltb, leb-true, eq-eqb, ne-eqb}
 use Rattle.rl_spec.specs.declared.ArenaNo.{ArenaNo}
 use Rattle.rl_spec.specs.declared.Counts.{Counts}
@@ -17,23 +17,19 @@ use Rattle.rl_spec.specs.declared.Sort.{Sort}
 use Rattle.rl_spec.specs.Bytes.{pick, numAt, u16At, u32At}
 use Rattle.rl_spec.specs.Schema.{sortOf, widthOf}
 use Rattle.rl_spec.specs.Image.{Field, noField, first, second, isPair, fieldIn, fieldsAt, recordIn}
-use Rattle.rl_bytes.proofs.Laws.{u32-past}
+use Rattle.rl_bytes.proofs.Laws.{one, two, four}
 use Rattle.rl_schema.specs.Codes.{codes}
 use Rattle.rl_schema.proofs.Rows.{codes-none, codes-more}
 use Rattle.rl_arena.specs.declared.Spot.{Spot}
 use Rattle.rl_arena.specs.declared.Spot.the-variants as spot
 use Rattle.rl_arena.specs.declared.Lookup.the-variants.{Node, OtherArena, NoSuchNode}
-use Rattle.rl_arena.specs.Find.{isWidth, numberIn, spotOf, textIn, lookup}
+use Rattle.rl_arena.specs.Find.{isWidth, numberIn, spotOf, lookup}
 
--- ---- a kind, an entry, a text, an id
+-- ---- a kind, an id
 
 pub kind-is : (s : List ℕ) (at r : ℕ) → r ≡ getD s at 0 → r ≡ recordIn s at .kind
 unfolding recordIn
 kind-is s at r e = e
-
-pub text-is : (s : List ℕ) (c : Counts) (t offset size : ℕ) (r : List ℕ) → offset ≡ u16At s (23 + c .bytes + t * 5 + 1) → size ≡ u16At s (23 + c .bytes + t * 5 + 1 + 2) → r ≡ take size (drop (23 + offset) s) → r ≡ textIn s c t
-unfolding textIn
-text-is s c t offset size r e f g = rw (← e, ← f) g
 
 module _ (arena : ArenaNo) (c : Counts) (id : Id) where
   pub id-foreign : (id .arena .0 ≡ arena .0 → ⊥) → OtherArena ≡ lookup arena c id
@@ -51,41 +47,22 @@ module _ (arena : ArenaNo) (c : Counts) (id : Id) where
 
 -- ---- numbers
 
-module _ (s : List ℕ) (at : ℕ) where
-  pub second-none : length s ≤ at → 0 ≡ u32At s (at + 4)
-  second-none h = u32-past s (at + 4) (omega arith)
-
-  pub second-short : length s - at < 4 → 0 ≡ u32At s (at + 4)
-  second-short h = u32-past s (at + 4) (omega arith)
-
-  four : u32At s at ≡ numAt s at 4
-  unfolding u32At u16At numAt
-  four =
-      let a : at + 1 + 1 ≡ at + 2 = omega arith in
-      rw a (omega arith)
-
-eight : (s : List ℕ) (at : ℕ) → u32At s at + u32At s (at + 4) * 4294967296 ≡ numAt s at 8
-unfolding numAt
-eight s at =
-    let a : at + 1 + 1 + 1 + 1 ≡ at + 4 = omega arith in
-    rw (four s at, four s (at + 4), a) (omega arith)
-
 module _ (s : List ℕ) (at n r : ℕ) where
   pub number-one : n ≡ 1 → r ≡ getD s at 0 → r ≡ numberIn s at n
-  unfolding numberIn numAt
-  number-one e f = rw e (omega arith)
+  unfolding numberIn
+  number-one e f = rw e (f ∙ one s at)
 
   pub number-two : n ≡ 2 → r ≡ u16At s at → r ≡ numberIn s at n
-  unfolding numberIn numAt u16At
-  number-two e f = rw e (omega arith)
+  unfolding numberIn
+  number-two e f = rw e (f ∙ two s at)
 
   pub number-four : n ≡ 4 → r ≡ u32At s at → r ≡ numberIn s at n
   unfolding numberIn
   number-four e f = rw e (f ∙ four s at)
 
-  pub number-eight : n ≡ 8 → (low high : ℕ) → low ≡ u32At s at → high ≡ u32At s (at + 4) → r ≡ low + high * 4294967296 → r ≡ numberIn s at n
+  pub number-eight : n ≡ 8 → r ≡ numAt s at 8 → r ≡ numberIn s at n
   unfolding numberIn
-  number-eight e low high f g h = rw (e, h, f, g) (eight s at)
+  number-eight e f = rw e f
 
 pub number-none : (s : List ℕ) (at n : ℕ) → (n ≡ 1 → ⊥) → (n ≡ 2 → ⊥) → (n ≡ 4 → ⊥) → (n ≡ 8 → ⊥) → 0 ≡ numberIn s at n
 unfolding numberIn

@@ -16,13 +16,12 @@ use Rattle.rl_spec.specs.declared.Section.{Section}
 use Rattle.rl_spec.specs.declared.Section.the-variants.{Expressions, Statements}
 use Rattle.rl_spec.specs.Bytes.{pick, numAt}
 use Rattle.rl_spec.specs.Read.{answerOf, startsOf}
-use Rattle.rl_spec.specs.Image.{noField, recordOf, fieldOf, textOf, fieldsAt, recordIn, imageOf}
+use Rattle.rl_spec.specs.Image.{noField, recordOf, fieldOf, fieldsAt, recordIn, imageOf}
 use Rattle.rl_schema.specs.Codes.{codes, table}
 use Rattle.rl_schema.proofs.Rows.{row-codes}
 use Rattle.rl_theorems.specs.Starts.{Stands, starts-expression, starts-statement}
-use Rattle.rl_theorems.specs.Access.{text-of}
 use Rattle.rl_arena.specs.declared.Lookup.the-variants.{Node, OtherArena, NoSuchNode}
-use Rattle.rl_arena.specs.Find.{isWidth, numberIn, textIn, lookup}
+use Rattle.rl_arena.specs.Find.{isWidth, numberIn, lookup}
 
 -- THEOREM: at the widths of fields the number is that of the bytes
 pub number-wide : (s : List ℕ) (at n : ℕ) → isWidth n ≡ true → numberIn s at n ≡ numAt s at n
@@ -74,11 +73,6 @@ module _ (s : List ℕ) (k : ℕ) (a : ArenaNo) (c : Counts) (e : answerOf s k �
 
       pub statement-field : (rows : List ℕ) (row : ℕ) → rows ≡ table → row ≡ getD rows kind 0 → (j : ℕ) → getD (fieldsAt s (codes row) (at + 1)) j noField ≡ fieldOf (recordOf (imageOf s) Statements i) j
       statement-field rows row f g j = field-of s at kind q Statements i statement-stands rows row f g j
-
-  -- THEOREM: a text
-  pub text-in : (t : ℕ) → t < c .texts → textIn s c t ≡ textOf (imageOf s) t
-  unfolding textIn
-  text-in t h = text-of s k a c e t h
 
 -- ---- ids
 

@@ -1,14 +1,13 @@
--- Where a field of a record stands, a number of some bytes, a text's bytes, and what an id finds.
-use Prim.Native.Nat.{ℕ, zero, suc, _+_, _*_}
+-- Where a field of a record stands, a number of some bytes, and what an id finds.
+use Prim.Native.Nat.{ℕ, zero, suc, _+_}
 use mathlib.Core.Bool.{Bool, true}
 use mathlib.Core.List.{List, [], _∷_}
-use lib.ListN.{take, drop}
 use lib.Dec.{eqb, ltb}
 use Rattle.rl_spec.specs.declared.ArenaNo.{ArenaNo}
 use Rattle.rl_spec.specs.declared.Counts.{Counts}
 use Rattle.rl_spec.specs.declared.Id.{Id}
-use Rattle.rl_spec.specs.Bytes.{pick, numAt, u16At}
-use Rattle.rl_spec.specs.Schema.{textBytesAt, sortOf, widthOf}
+use Rattle.rl_spec.specs.Bytes.{pick, numAt}
+use Rattle.rl_spec.specs.Schema.{sortOf, widthOf}
 use Rattle.rl_arena.specs.declared.Spot.{Spot}
 use Rattle.rl_arena.specs.declared.Spot.the-variants.{Field, Nothing}
 use Rattle.rl_arena.specs.declared.Lookup.{Lookup}
@@ -27,13 +26,6 @@ unfoldable pub spotOf : List ℕ → ℕ → ℕ → Spot
 spotOf [] at j = Nothing
 spotOf (c ∷ cs) at zero = Field c at
 spotOf (c ∷ cs) at (suc j) = spotOf cs (at + widthOf (sortOf c)) j
-
--- where the offset and the length of the t-th text stand
-abbrev pub textAt : Counts → ℕ → ℕ
-textAt c t = textBytesAt + c .bytes + t * 5 + 1
-
-unfoldable pub textIn : List ℕ → Counts → ℕ → List ℕ
-textIn s c t = take (u16At s (textAt c t + 2)) (drop (textBytesAt + u16At s (textAt c t)) s)
 
 -- a foreign id is told before a missing node
 unfoldable pub lookup : ArenaNo → Counts → Id → Lookup

@@ -1,9 +1,9 @@
 // Looks into an image that the reader has accepted. Every function answers for every argument: what is not there reads as 0.
 use rl_bytes::byte_at;
-use rl_bytes::part;
 use rl_bytes::second_u16;
 use rl_bytes::u16_at;
 use rl_bytes::u32_at;
+use rl_bytes::u64_at;
 use rl_bytes::word_at;
 pub use rl_schema::entry_at;
 use rl_schema::sort_of;
@@ -13,13 +13,13 @@ use rl_spec::Counts;
 use rl_spec::Id;
 use rl_spec::Sort;
 ghost use mathlib.Core.Path.{_≡_};
-ghost use Prim.Native.Nat.{_+_, _*_};
+ghost use Prim.Native.Nat.{_+_};
 ghost use lib.ListN.{getD};
 ghost use Rattle.rl_spec.specs.Bytes.{u32At};
 ghost use Rattle.rl_spec.specs.Schema.{sortOf};
 ghost use Rattle.rl_spec.specs.Image.{noField, first, second, isPair, fieldIn, fieldsAt, recordIn};
 ghost use Rattle.rl_schema.specs.Codes.{codes};
-ghost use Rattle.rl_arena.specs.Find.{numberIn, spotOf, textIn, lookup};
+ghost use Rattle.rl_arena.specs.Find.{numberIn, spotOf, lookup};
 
 // ---- where records start
 
@@ -52,25 +52,6 @@ pub fn span_at(image: &[u8], at: u16) -> u32
     u32_at(image, (at as usize) + 1)
 }
 
-fn join64(low: u32, high: u32) -> u64
-    ensures { λ r. ⌜ r ≡ low + high * 4294967296 ⌝ }
-{
-    (low as u64) + (high as u64) * 4294967296
-}
-
-// The second of two u32 at a place.
-fn second_u32(s: &[u8], at: usize) -> u32
-    ensures { λ r. ⌜ r ≡ u32At (now (s .entry)) (at + 4) ⌝ }
-{
-    if s.len() <= at {
-        return 0;
-    }
-    if s.len() - at < 4 {
-        return 0;
-    }
-    u32_at(s, at + 4)
-}
-
 // The number in 1, 2, 4 or 8 bytes; 0 for any other width.
 pub fn number_at(image: &[u8], at: usize, width: u8) -> u64
     ensures { λ r. ⌜ r ≡ numberIn (now (image .entry)) at width ⌝ }
@@ -79,7 +60,7 @@ pub fn number_at(image: &[u8], at: usize, width: u8) -> u64
         1 => byte_at(image, at) as u64,
         2 => u16_at(image, at) as u64,
         4 => u32_at(image, at) as u64,
-        8 => join64(u32_at(image, at), second_u32(image, at)),
+        8 => u64_at(image, at),
         _ => 0,
     }
 }
@@ -169,18 +150,6 @@ pub fn field_second(image: &[u8], row: u64, at: u16, j: u8) -> u16
         Spot::Field { code, at: place } => second_at(image, code, place),
         Spot::Nothing => 0,
     }
-}
-
-// ---- texts; `entry_at` is the k-th list entry
-
-// The bytes of a text, as a part of the image.
-pub fn text_at(image: &[u8], counts: Counts, t: u16) -> &[u8]
-    ensures { λ r. ⌜ now r ≡ textIn (now (image .entry)) counts t ⌝ }
-{
-    let at = 23 + (counts.bytes as usize) + (t as usize) * 5 + 1;
-    let offset = u16_at(image, at) as usize;
-    let size = second_u16(image, at) as usize;
-    part(image, 23 + offset, size)
 }
 
 // ---- ids

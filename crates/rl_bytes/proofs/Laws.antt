@@ -10,7 +10,7 @@ use lib.Seq.{drop-length, set-out, take-nil, take-all}
 use lib.Dec.{ltb}
 use borrow.Author.Tests.{lt-ltb, le-ltb}
 use Rattle.rl_laws.specs.Tests.{by-ltb}
-use Rattle.rl_spec.specs.Bytes.{u16At, u32At, past}
+use Rattle.rl_spec.specs.Bytes.{numAt, u16At, u32At, past}
 
 pub getD-past : (s : List ℕ) (at : ℕ) → length s ≤ at → 0 ≡ getD s at 0
 getD-past s at h = sym (List·getD-eq-default s 0 h)
@@ -39,6 +39,37 @@ module _ (s : List ℕ) (at low r : ℕ) (e : low ≡ u16At s at) where
 
 pub u32-past : (s : List ℕ) (at : ℕ) → length s ≤ at → 0 ≡ u32At s at
 u32-past s at h = u32-is s at 0 0 (u16-past s at h) 0 (u16-past s (at + 2) (omega arith)) refl
+
+-- the numbers in 1, 2, 4 and 8 bytes
+pub one : (s : List ℕ) (at : ℕ) → getD s at 0 ≡ numAt s at 1
+unfolding numAt
+one s at = omega arith
+
+pub two : (s : List ℕ) (at : ℕ) → u16At s at ≡ numAt s at 2
+unfolding u16At numAt
+two s at = omega arith
+
+pub four : (s : List ℕ) (at : ℕ) → u32At s at ≡ numAt s at 4
+unfolding u32At u16At numAt
+four s at =
+    let a : at + 1 + 1 ≡ at + 2 = omega arith in
+    rw a (omega arith)
+
+pub eight : (s : List ℕ) (at : ℕ) → u32At s at + u32At s (at + 4) * 4294967296 ≡ numAt s at 8
+unfolding numAt
+eight s at =
+    let a : at + 1 + 1 + 1 + 1 ≡ at + 4 = omega arith in
+    rw (four s at, four s (at + 4), a) (omega arith)
+
+module _ (s : List ℕ) (at low r : ℕ) (e : low ≡ u32At s at) where
+  pub u64-is : (high : ℕ) → high ≡ u32At s (at + 4) → r ≡ low + high * 4294967296 → r ≡ numAt s at 8
+  u64-is high f g = rw (g, e, f) (eight s at)
+
+  pub u64-short : length s - at < 4 → r ≡ low → r ≡ numAt s at 8
+  u64-short h g = u64-is 0 (u32-past s (at + 4) (omega arith)) (omega arith)
+
+pub u64-past : (s : List ℕ) (at : ℕ) → length s ≤ at → 0 ≡ numAt s at 8
+u64-past s at h = u64-short s at 0 0 (u32-past s at h) (omega arith) refl
 
 pub past-near : (s : List ℕ) (a n : ℕ) → a ≤ length s → ltb (length s - a) n ≡ past s a n
 unfolding past

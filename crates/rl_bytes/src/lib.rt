@@ -2,7 +2,7 @@
 ghost use mathlib.Core.Path.{_≡_};
 ghost use Prim.Native.Nat.{_+_, _-_, _*_, max};
 ghost use lib.ListN.{length, getD, set, replicate, take, drop};
-ghost use Rattle.rl_spec.specs.Bytes.{u16At, u32At, past};
+ghost use Rattle.rl_spec.specs.Bytes.{numAt, u16At, u32At, past};
 
 pub fn byte_at(s: &[u8], at: usize) -> u8
     ensures { λ r. ⌜ r ≡ getD (now (s .entry)) at 0 ⌝ }
@@ -11,6 +11,12 @@ pub fn byte_at(s: &[u8], at: usize) -> u8
 }
 
 pub fn word_at(w: &[u16], at: usize) -> u16
+    ensures { λ r. ⌜ r ≡ getD (now (w .entry)) at 0 ⌝ }
+{
+    if at < w.len() { w[at] } else { 0 }
+}
+
+pub fn long_at(w: &[u64], at: usize) -> u64
     ensures { λ r. ⌜ r ≡ getD (now (w .entry)) at 0 ⌝ }
 {
     if at < w.len() { w[at] } else { 0 }
@@ -48,6 +54,24 @@ pub fn u32_at(s: &[u8], at: usize) -> u32
         return join32(u16_at(s, at), 0);
     }
     join32(u16_at(s, at), u16_at(s, at + 2))
+}
+
+fn join64(low: u32, high: u32) -> u64
+    ensures { λ r. ⌜ r ≡ low + high * 4294967296 ⌝ }
+{
+    (low as u64) + (high as u64) * 4294967296
+}
+
+pub fn u64_at(s: &[u8], at: usize) -> u64
+    ensures { λ r. ⌜ r ≡ numAt (now (s .entry)) at 8 ⌝ }
+{
+    if s.len() <= at {
+        return 0;
+    }
+    if s.len() - at < 4 {
+        return u32_at(s, at) as u64;
+    }
+    join64(u32_at(s, at), u32_at(s, at + 4))
 }
 
 // The second of two u16 at a place.
@@ -105,6 +129,14 @@ pub fn larger(a: u16, b: u16) -> u16
 }
 
 pub fn put(w: &mut [u16], at: usize, x: u16)
+    ensures { λ _. ⌜ now (w .exit) ≡ set (now (w .entry)) at x ⌝ }
+{
+    if at < w.len() {
+        w[at] = x;
+    }
+}
+
+pub fn put_long(w: &mut [u64], at: usize, x: u64)
     ensures { λ _. ⌜ now (w .exit) ≡ set (now (w .entry)) at x ⌝ }
 {
     if at < w.len() {

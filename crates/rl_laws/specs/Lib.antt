@@ -1,2 +1,4 @@
 pub mod Tests
 pub mod Ranges
+pub mod Found
+pub mod Descend

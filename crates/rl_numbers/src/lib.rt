@@ -17,5 +17,9 @@ pub fn number_of(cause: Cause) -> u64
         Cause::BadReference => 8,
         Cause::TooHigh => 9,
         Cause::BytesLeft => 10,
+        Cause::OtherArena => 15,
+        Cause::NoSuchNode => 16,
+        Cause::NoSuchCall => 17,
+        Cause::ReportsTooShort => 18,
     }
 }

@@ -47,6 +47,17 @@ abbrev pub foldedOf : Folded → Option (defined.ConstVal ℕ)
 foldedOf (Value v) = some (constOf v)
 foldedOf Nothing = none
 
+-- the same from the definitions' side
+abbrev pub asConst : defined.ConstVal ℕ → ConstVal
+asConst (defined.int x) = kind.Int x
+asConst (defined.float x) = kind.Float x
+asConst (defined.str n) = kind.Str n
+asConst (defined.bool x) = kind.Bool x
+
+abbrev pub asFolded : Option (defined.ConstVal ℕ) → Folded
+asFolded (some v) = Value (asConst v)
+asFolded none = Nothing
+
 abbrev pub verdictOf : Verdict → Option Bool
 verdictOf Yes = some true
 verdictOf No = some false

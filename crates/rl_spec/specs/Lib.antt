@@ -6,3 +6,11 @@ pub mod Read
 pub mod Image
 pub mod Values
 pub mod Folded
+pub mod Tree
+pub mod Fold
+pub mod Found
+pub mod Records
+pub mod Contracts
+pub mod Prove
+pub mod Message
+pub mod Words

@@ -24,7 +24,7 @@ pub struct Counts {
     pub calls: u16,
 }
 
-// Why the reader refuses. `numberOf` gives each cause its number.
+// Why an argument is refused. `numberOf` gives each cause its number.
 pub enum Cause {
     ImageTooLong,
     WorkTooShort,
@@ -36,6 +36,10 @@ pub enum Cause {
     BadReference,
     TooHigh,
     BytesLeft,
+    OtherArena,
+    NoSuchNode,
+    NoSuchCall,
+    ReportsTooShort,
 }
 
 // What the reader answers.
@@ -150,4 +154,89 @@ pub enum Verdict {
     Yes,
     No,
     Unknown,
+}
+
+// What an expression is to folding and running; its parts by their indices.
+pub enum Form {
+    Null,
+    // what a literal folds to
+    Literal(Folded),
+    Identifier(u16),
+    Unary { operator: u8, operand: u16 },
+    Binary { left: u16, operator: u8, right: u16 },
+    Grouping(u16),
+    Assign { name: u16, value: u16 },
+    OkLiteral(u16),
+    ErrLiteral(u16),
+    // the calls of std::res::is_err and std::res::result_unwrap on one argument
+    IsErr(u16),
+    ResultUnwrap(u16),
+    Other,
+}
+
+// What folding answers.
+pub enum FoldAnswer {
+    Found(Folded),
+    Refused { cause: Cause, place: usize },
+}
+
+// What proving answers: how many reports there are.
+pub enum ProveAnswer {
+    Proved(u32),
+    Refused { cause: Cause, place: usize },
+}
+
+// A contract that a call provably violates: the refinement of a parameter or a requires clause, by its number in the callee's list.
+pub enum Violation {
+    Refinement(u16),
+    Requires(u16),
+}
+
+// What a parameter's value is compared with.
+pub enum RefineOperand {
+    Integer(i64),
+    Str(u16),
+    Bool(bool),
+    Param(u16),
+}
+
+pub enum ParamRefinement {
+    Unrefined,
+    Refined {
+        op: RefineOp,
+        operand: RefineOperand,
+    },
+}
+
+pub struct Param {
+    pub name: u16,
+    pub refinement: ParamRefinement,
+}
+
+// A clause's nodes; 65,535 for no message.
+pub struct Clause {
+    pub condition: u16,
+    pub message: u16,
+}
+
+// Entries of the lists, or records of a section: the first and the count.
+pub struct Interval {
+    pub first: u16,
+    pub count: u16,
+}
+
+pub struct Function {
+    pub name: u16,
+    pub span: u32,
+    pub params: Interval,
+    pub result: bool,
+    pub body: Interval,
+    pub required: Interval,
+    pub ensured: Interval,
+}
+
+pub struct Call {
+    pub callee: u16,
+    pub span: u32,
+    pub args: Interval,
 }

@@ -1,15 +1,19 @@
 -- Laws on a text in a buffer, and on the digits of a number.
 -- Assumes nothing.
-use Prim.Native.Nat.{ℕ, _+_, _-_, _^_, _≤_, _<_, min}
-use mathlib.Core.Path.{_≡_, ap, _∙_}
+use Prim.Native.Nat.{ℕ, zero, suc, _+_, _-_, _*_, _/_, _%_, _^_, _≤_, _<_, min}
+use mathlib.Core.Path.{_≡_, refl, sym, ap, _∙_}
 use mathlib.Core.List.{List}
-use native.Mathlib.Nat.{min-zero, pow-le-pow-right}
+use native.Mathlib.Nat.{mod-eq-of-lt, pow-suc, pow-le-pow-right}
 use native.Mathlib.Numerals.{add-one}
 use native.Mathlib.Omega.{arith}
 use lib.ListN.{length, getD, set, take}
-use lib.Seq.{paste, paste-zero, paste-suc}
+use lib.Seq.{paste, paste-suc}
+use borrow.Author.Tests.{lt-ltb, le-ltb}
 use Rattle.io.specs.Digits.{digits, Fewest}
+use Rattle.rl_spec.specs.Message.{decimalBy, decimal}
+use Rattle.rl_laws.specs.Tests.{by-ltb}
 use Rattle.rl_text_out.specs.Put.{fitting, withText, afterText}
+use Rattle.rl_text_out.proofs.Joined.{after-past, with-past}
 
 -- a turn of the copy
 pub copied-more : (d t w : List ℕ) (at i n : ℕ) → w ≡ paste d at t i → at + n ≤ length d → n ≤ length t → i < n
@@ -25,20 +29,12 @@ copied-all d t w at i n e h k =
     rw p at e
 
 -- where there is no room
-none-fits : (out text : List ℕ) (at : ℕ) → length out ≤ at → fitting out at text ≡ 0
-unfolding fitting
-none-fits out text at h =
-    let z : length out - at ≡ 0 = omega arith in
-    rw z (min-zero (length text))
-
 module _ (out text : List ℕ) (at : ℕ) (h : length out ≤ at) where
   pub after-none : at ≡ afterText out at text
-  unfolding afterText
-  after-none = omega (arith, none-fits out text at h)
+  after-none = sym (after-past out at text h)
 
   pub with-none : out ≡ withText out at text
-  unfolding withText
-  with-none = rw (none-fits out text at h) (paste-zero out at text)
+  with-none = sym (with-past out at text h)
 
 -- where there is some
 module _ (out text : List ℕ) (at n : ℕ) (e : n ≡ min (length text) (length out - at)) where
@@ -50,23 +46,39 @@ module _ (out text : List ℕ) (at n : ℕ) (e : n ≡ min (length text) (length
   unfolding withText fitting
   with-some w f = f ∙ ap (λ (k : ℕ). paste out at text k) e
 
--- the fewest digits are so many
-shorter : (n j k : ℕ) → Fewest 10 1 n j → Fewest 10 1 n k → j < k → ⊥
-shorter n j k f g h =
-    let p : 10 ^ j ≤ 10 ^ (k - 1) = pow-le-pow-right (omega arith) (omega arith) in
-    let q : 10 ^ (k - 1) ≤ n = g .2 (omega arith) in
-    omega arith
+-- the fewest digits of a number are those of `decimal`
 
-as-many : (n j k : ℕ) → Fewest 10 1 n j → Fewest 10 1 n k → j ≡ k
-as-many n j k f g = omega (arith, shorter n j k f g, shorter n k j g f)
+by-digits : (k j n : ℕ) → Fewest 10 1 n k → k ≤ j → digits 10 k n ≡ decimalBy j n
+unfolding decimalBy
+by-digits zero j n f h = absurd (omega arith)
+by-digits (suc k) zero n f h = absurd (omega arith)
+by-digits (suc zero) (suc j) n f h =
+    let l : n < 10 = f .1 in
+    rw (mod-eq-of-lt l, lt-ltb n 10 l) refl
+by-digits (suc (suc k)) (suc j) n f h =
+    let z : suc (suc k) - 1 ≡ suc k = omega arith in
+    let low : 10 ^ suc k ≤ n = rw z at (f .2 (omega arith)) in
+    let p : 10 ^ suc k ≡ 10 ^ k * 10 = pow-suc 10 k in
+    let one : 1 ≤ 10 ^ k = pow-le-pow-right {n = 10} (omega arith) {i = 0} {j = k} (omega arith) in
+    let q : 10 ^ suc (suc k) ≡ 10 ^ suc k * 10 = pow-suc 10 (suc k) in
+    let y : suc k - 1 ≡ k = omega arith in
+    let g : Fewest 10 1 (n / 10) (suc k) = (omega arith, omega arith, λ l. rw y (omega arith)) in
+    rw (le-ltb n 10 (omega arith), lt-ltb (n % 10) 10 (omega arith), by-digits (suc k) j (n / 10) g (omega arith)) refl
 
-module _ (out text : List ℕ) (at n j : ℕ) (f : Fewest 10 1 n j) (e : take j text ≡ digits 10 j n) where
-  -- the text that was put is the number's, however its digits are counted
-  spelt : (k : ℕ) → Fewest 10 1 n k → take j text ≡ digits 10 k n
-  spelt k g = e ∙ ap (λ (i : ℕ). digits 10 i n) (as-many n j k f g)
+-- 64 bits have at most 20
+pub is-decimal : (n k : ℕ) → Fewest 10 1 n k → n < 2 ^ 64 → digits 10 k n ≡ decimal n
+unfolding decimal
+is-decimal n k f h = by-digits k 20 n f (by-ltb k 21 (λ l. omega arith) (λ l. absurd (many l)))
+  where
+    many : 21 ≤ k → ⊥
+    many l =
+        let p : 10 ^ 20 ≤ 10 ^ (k - 1) = pow-le-pow-right {n = 10} (omega arith) {i = 20} {j = k - 1} (omega arith) in
+        let q : 10 ^ (k - 1) ≤ n = f .2 (omega arith) in
+        omega arith
 
-  pub after-number : (r : ℕ) → r ≡ afterText out at (take j text) → (k : ℕ) → Fewest 10 1 n k → r ≡ afterText out at (digits 10 k n)
-  after-number r h k g = h ∙ ap (λ (t : List ℕ). afterText out at t) (spelt k g)
+module _ (out text : List ℕ) (at n k : ℕ) (f : Fewest 10 1 n k) (h : n < 2 ^ 64) (e : take k text ≡ digits 10 k n) where
+  pub after-number : (r : ℕ) → r ≡ afterText out at (take k text) → r ≡ afterText out at (decimal n)
+  after-number r g = g ∙ ap (λ (t : List ℕ). afterText out at t) (e ∙ is-decimal n k f h)
 
-  pub with-number : (w : List ℕ) → w ≡ withText out at (take j text) → (k : ℕ) → Fewest 10 1 n k → w ≡ withText out at (digits 10 k n)
-  with-number w h k g = h ∙ ap (λ (t : List ℕ). withText out at t) (spelt k g)
+  pub with-number : (w : List ℕ) → w ≡ withText out at (take k text) → w ≡ withText out at (decimal n)
+  with-number w g = g ∙ ap (λ (t : List ℕ). withText out at t) (e ∙ is-decimal n k f h)

@@ -1,10 +1,10 @@
 // Text and numbers into a lent buffer, at a place; each function answers the place after what it put. What has no room is
 // left out.
 ghost use mathlib.Core.Path.{_≡_};
-ghost use Prim.Native.Nat.{ℕ, _+_, _≤_, min};
+ghost use Prim.Native.Nat.{_+_, _≤_, min};
 ghost use lib.ListN.{length};
 ghost use lib.Seq.{paste};
-ghost use Rattle.io.specs.Digits.{digits, Fewest};
+ghost use Rattle.rl_spec.specs.Message.{decimal};
 ghost use Rattle.rl_text_out.specs.Put.{withText, afterText};
 
 fn copy(out: &mut [u8], at: usize, text: &[u8], n: usize)
@@ -39,8 +39,8 @@ pub fn put_text(out: &mut [u8], at: usize, text: &[u8]) -> usize
 
 // A number in decimal digits, as few as hold it.
 pub fn put_number(out: &mut [u8], at: usize, n: u64) -> usize
-    ensures { λ r. ⌜ ((k : ℕ) → Fewest 10 1 n k → r ≡ afterText (now (out .entry)) at (digits 10 k n)) ⌝ }
-    ensures { λ r. ⌜ ((k : ℕ) → Fewest 10 1 n k → now (out .exit) ≡ withText (now (out .entry)) at (digits 10 k n)) ⌝ }
+    ensures { λ r. ⌜ r ≡ afterText (now (out .entry)) at (decimal n) ⌝ }
+    ensures { λ r. ⌜ now (out .exit) ≡ withText (now (out .entry)) at (decimal n) ⌝ }
 {
     let mut text = [0u8; 20];
     let k = io::decimal(n, &mut text);

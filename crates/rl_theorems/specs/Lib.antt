@@ -20,7 +20,15 @@ pub mod Encoded
 pub mod EncodedBytes
 pub mod EncodedExample
 pub mod Access
+pub mod Found
 pub mod AcceptedParts
 pub mod Accepted
+pub mod Answers
 pub mod ValueExamples
+pub mod MarkedImages
+pub mod Marked
+pub mod Rounding
+pub mod Distance
+pub mod Nearest
 pub mod Theorems
+pub mod Limits

@@ -1,18 +1,25 @@
 -- WHAT IS PROVED of the definitions in rl_spec, stated in one place. The proofs stand in the files that are named at each part.
 -- Assumes nothing.
-use Prim.Native.Nat.{ℕ, _+_, _-_, _*_, _≤_, _<_}
+use Prim.Native.Nat.{ℕ, _+_, _-_, _*_, _^_, _≤_, _<_}
 use mathlib.Core.Path.{_≡_}
 use mathlib.Core.Bool.{true, false}
-use mathlib.Core.List.{List, _++_}
+use mathlib.Core.List.{List, [], _++_}
 use mathlib.Core.Logic.{_⊎_, _↔_}
 use lib.ListN.{length, getD, take, drop, replicate}
+use lib.Dec.{T}
+use lib.IntN.{ℤ}
+use lib.Signed.{mag}
+use lib.Ieee.{Float, binary64, ofInt, fits}
+use lib.Ieee.Scale.{finite}
+use lib.Ieee.Positive.{den}
 use Rattle.rl_spec.specs.declared.ArenaNo.{ArenaNo}
 use Rattle.rl_spec.specs.declared.Counts.{Counts}
 use Rattle.rl_spec.specs.declared.Cause.{Cause}
 use Rattle.rl_spec.specs.declared.Cause.the-variants.{BytesEnd, BadText, BadReference, TooHigh}
 use Rattle.rl_spec.specs.declared.Answer.the-variants.{Accepted, Refused}
 use Rattle.rl_spec.specs.declared.Section.{Section}
-use Rattle.rl_spec.specs.declared.Section.the-variants.{Expressions, Statements}
+use Rattle.rl_spec.specs.declared.FoldAnswer.the-variants.{Found}
+use Rattle.rl_spec.specs.declared.Section.the-variants.{Expressions, Statements, Calls}
 use Rattle.rl_spec.specs.declared.Sort.the-variants.{Part}
 use Rattle.rl_spec.specs.declared.Step.the-variants.{Next, Stop}
 use Rattle.rl_spec.specs.Bytes.{u16At}
@@ -21,10 +28,16 @@ use Rattle.rl_spec.specs.Utf8.{utf8, isScalar, encodeText}
 use Rattle.rl_spec.specs.Fields.{entryAt, fieldsFrom, recordAt}
 use Rattle.rl_spec.specs.Read.{answerOf, workOf, startsOf}
 use Rattle.rl_spec.specs.Image.{Image, encode, imageOf, entryOf, textOf, sizeOf, heights, AllBytes, WellFormed}
+use Rattle.rl_spec.specs.Found.{imageFound}
+use Rattle.rl_spec.specs.Folded.{asFolded}
+use Rattle.rl_spec.specs.Tree.{exprTree}
+use Rattle.rl_spec.specs.Fold.{constEval, foldOf}
+use Rattle.rl_spec.specs.Prove.{callEntries, allEntries, fitting, sliceBy, proveOf, reportsOf, proveAllOf, allReportsOf}
 use Rattle.rl_theorems.specs.Utf8 as Utf8
 use Rattle.rl_theorems.specs.Decode as Decode
 use Rattle.rl_theorems.specs.Accepted as Well
 use Rattle.rl_theorems.specs.Access as Access
+use Rattle.rl_theorems.specs.Found as Found
 use Rattle.rl_theorems.specs.Encoded as Encoded
 use Rattle.rl_theorems.specs.EncodedBytes as EncodedBytes
 use Rattle.rl_theorems.specs.Known.{counts}
@@ -32,6 +45,10 @@ use Rattle.rl_theorems.specs.Starts as Starts
 use Rattle.rl_theorems.specs.Places as Places
 use Rattle.rl_theorems.specs.Outcome as Outcome
 use Rattle.rl_theorems.specs.Causes as Causes
+use Rattle.rl_theorems.specs.Distance.{Same, apart}
+use Rattle.rl_theorems.specs.Nearest as Nearest
+use Rattle.rl_theorems.specs.Answers as Answers
+use Rattle.rl_theorems.specs.Marked as Marked
 
 -- ---- text (Utf8): the syntax of RFC 3629 admits the encodings of scalars and nothing else
 
@@ -86,7 +103,7 @@ module _ (s : List ℕ) (k : ℕ) (a : ArenaNo) (c : Counts) (e : answerOf s k �
   pub starts-statement : (i : ℕ) → i < c .statements → Starts.Stands s Statements i (getD (startsOf s k) (c .expressions + i) 0)
   starts-statement = Starts.starts-statement s k a c e
 
--- ---- what access to a text and a list entry reads (Access; rl_arena has the functions)
+-- ---- where the bytes of a list entry and of a text stand (Access)
 
 module _ (s : List ℕ) (k : ℕ) (a : ArenaNo) (c : Counts) (e : answerOf s k ≡ Accepted a c) where
   pub entry-of : (n : ℕ) → n < c .lists → entryAt s c n ≡ entryOf (imageOf s) n
@@ -94,6 +111,11 @@ module _ (s : List ℕ) (k : ℕ) (a : ArenaNo) (c : Counts) (e : answerOf s k �
 
   pub text-of : (t : ℕ) → t < c .texts → take (u16At s (textBytesAt + c .bytes + t * 5 + 1 + 2)) (drop (textBytesAt + u16At s (textBytesAt + c .bytes + t * 5 + 1)) s) ≡ textOf (imageOf s) t
   text-of = Access.text-of s k a c e
+
+-- ---- the image that bytes, starts and counts give, of accepted bytes (Found; rl_records has the functions, which answer for all bytes)
+
+pub found-is-image : (s : List ℕ) (k : ℕ) (a : ArenaNo) (c : Counts) → answerOf s k ≡ Accepted a c → imageFound s (startsOf s k) c ≡ imageOf s
+found-is-image = Found.found-is-image
 
 -- ---- a refusal names a place in the image and a cause that holds (Places, Outcome, Causes)
 
@@ -121,3 +143,46 @@ module _ (s w p : List ℕ) (seen : Counts) (own : Section) (at : ℕ) where
   -- 9: all fields hold, and the height is over the limit
   pub height-over : (n : ℕ) → recordAt s w p seen own at ≡ Stop TooHigh n → (n ≡ at) × (a : ℕ) × (tall : ℕ) × (fieldsFrom s w p seen own (fieldsOf (getD s at 0)) (at + 1) 0 ≡ Next a tall) × (tallest own ≤ tall)
   height-over = Causes.height-over s w p seen own at
+
+-- ---- a whole number of 64 bits beside a float becomes a binary64 value, and none is nearer (Nearest). apart i x / den x is the distance
+-- between i and x
+
+module _ (i : ℤ) (h : mag i < 2 ^ 63) where
+  pub nearest-held : T (finite (ofInt binary64 i)) × T (fits binary64 (ofInt binary64 i))
+  nearest-held = Nearest.nearest-held i h
+
+  module _ (x : Float) (finite-x : T (finite x)) (fits-x : T (fits binary64 x)) where
+    pub nearest-f64 : apart i (ofInt binary64 i) * den x ≤ apart i x * den (ofInt binary64 i)
+    nearest-f64 = Nearest.nearest-f64 i h x finite-x fits-x
+
+    -- where another number x is equally near, the last of the significand's 53 digits is 0, and that of x is 1
+    pub nearest-even : apart i (ofInt binary64 i) * den x ≡ apart i x * den (ofInt binary64 i) → (Same x (ofInt binary64 i) → ⊥) → Nearest.LastDigit 53 0 (ofInt binary64 i) × Nearest.LastDigit 53 1 x
+    nearest-even = Nearest.nearest-even i h x finite-x fits-x
+
+-- ---- what folding and proving answer for the bytes of a well-formed image (Answers)
+
+module _ (im : Image) (wf : WellFormed im) (k : ℕ) (long : 8192 ≤ k) where
+  pub folded-encoded : (n : ℕ) → n < sizeOf im Expressions → foldOf (encode im) k (record { arena = record { 0 = im .arena }; node = record { 0 = n } }) ≡ Found (asFolded (constEval (textOf im) [] (exprTree im n)))
+  folded-encoded = Answers.folded-encoded im wf k long
+
+  -- one call, and what is left in a slice of so many entries
+  pub proved-encoded : (call room : ℕ) → call < sizeOf im Calls → proveOf (encode im) k call room ≡ fitting room (callEntries im call)
+  proved-encoded = Answers.proved-encoded im wf k long
+
+  pub reports-encoded : (call room : ℕ) → call < sizeOf im Calls → reportsOf (encode im) k call room ≡ sliceBy room (callEntries im call) (fitting room (callEntries im call))
+  reports-encoded = Answers.reports-encoded im wf k long
+
+  -- all calls
+  pub all-proved-encoded : (room : ℕ) → proveAllOf (encode im) k room ≡ fitting room (allEntries im (sizeOf im Calls) 0)
+  all-proved-encoded = Answers.all-proved-encoded im wf k long
+
+  pub all-reports-encoded : (room : ℕ) → allReportsOf (encode im) k room ≡ sliceBy room (allEntries im (sizeOf im Calls) 0) (fitting room (allEntries im (sizeOf im Calls) 0))
+  all-reports-encoded = Answers.all-reports-encoded im wf k long
+
+-- ---- the marked cases, and the printer's example (Marked has both lists, MarkedImages the images)
+
+pub marked-cases : Marked.MarkedCases
+marked-cases = Marked.marked-cases
+
+pub printer-example : Marked.PrinterExample
+printer-example = Marked.printer-example

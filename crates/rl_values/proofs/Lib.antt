@@ -1,3 +1,4 @@
 pub mod Laws
+pub mod Halves
 pub mod Sums
 pub mod Products

@@ -12,6 +12,7 @@ ghost use lib.Dec.{leb};
 ghost use lib.IntN.{pos, natAbs, negℤ, _+ℤ_, _-ℤ_, _*ℤ_};
 ghost use lib.Signed.{ltZ};
 ghost use lib.Ieee as F;
+ghost use lib.Ieee.{binary64};
 ghost use Rattle.rl_spec.specs.Values.{compareBy, sameInt, sameText, lessText, compareFloats, compareBools, asF64, compareValues, bang, negate, checked, arithFloats, arithInts, arithValues, slash};
 ghost use Rattle.rl_spec.specs.Folded.{constOf, opOf, foldedOf, verdictOf, withText, arithOf};
 
@@ -128,11 +129,20 @@ pub fn compare_bools(op: RefineOp, x: bool, y: bool) -> Verdict
     }
 }
 
+// The nearest f64, ties to even: both halves are exact, and only their sum is rounded.
+pub fn nearest_f64(x: i64) -> f64
+    ensures { λ r. ⌜ r ≡ F.ofInt binary64 x ⌝ }
+{
+    let upper = (x >> 32) as f64 * 4294967296.0;
+    let lower = (x & 0xffff_ffff) as f64;
+    upper + lower
+}
+
 pub fn as_f64(v: ConstVal) -> f64
     ensures { λ r. ⌜ r ≡ asF64 (constOf v) ⌝ }
 {
     match v {
-        ConstVal::Int(x) => std::num::nearest_i64_to_f64(x),
+        ConstVal::Int(x) => nearest_f64(x),
         ConstVal::Float(x) => x,
         ConstVal::Str(_) => 0.0 / 0.0,
         ConstVal::Bool(_) => 0.0 / 0.0,
@@ -146,7 +156,7 @@ pub fn compare_values(op: RefineOp, a: ConstVal, b: ConstVal, left: &[u8], right
     match a {
         ConstVal::Int(x) => match b {
             ConstVal::Int(y) => verdict(compare_ints(op, x, y)),
-            ConstVal::Float(y) => compare_floats(op, std::num::nearest_i64_to_f64(x), y),
+            ConstVal::Float(y) => compare_floats(op, nearest_f64(x), y),
             ConstVal::Str(_) => Verdict::Unknown,
             ConstVal::Bool(_) => Verdict::Unknown,
         },
@@ -260,7 +270,7 @@ fn divide_ints(x: i64, y: i64) -> Folded
     Folded::Value(ConstVal::Int(x / y))
 }
 
-fn magnitude(x: i64) -> u64
+pub fn magnitude(x: i64) -> u64
     ensures { λ r. ⌜ r ≡ natAbs x ⌝ }
 {
     if x < 0 {
@@ -314,7 +324,7 @@ pub fn arith_values(op: ArithOp, a: ConstVal, b: ConstVal) -> Folded
     match a {
         ConstVal::Int(x) => match b {
             ConstVal::Int(y) => arith_ints(op, x, y),
-            ConstVal::Float(y) => arith_floats(op, std::num::nearest_i64_to_f64(x), y),
+            ConstVal::Float(y) => arith_floats(op, nearest_f64(x), y),
             ConstVal::Str(_) => Folded::Nothing,
             ConstVal::Bool(_) => Folded::Nothing,
         },

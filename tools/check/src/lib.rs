@@ -1,9 +1,13 @@
 //! What the programs that check the library share.
 
 pub mod ffi;
+pub mod images;
+pub mod timing;
 
 use ffi::Answer;
-use rlimg::reader;
+use oracle::Report;
+use rlimg::image::Image;
+use rlimg::{prove, reader};
 
 /// The independent reader's answer, in the library's form.
 pub fn expected(image: &[u8], work: &mut [u16]) -> Answer {
@@ -11,4 +15,12 @@ pub fn expected(image: &[u8], work: &mut [u16]) -> Answer {
         Ok(_) => Answer { number: 0, place: 0 },
         Err(refusal) => Answer { number: refusal.number, place: refusal.place },
     }
+}
+
+/// A report of the lent slice in the original's form; none where the image
+/// cannot have it.
+pub fn said(image: &Image, report: &[u32]) -> Option<Report> {
+    let report: prove::Report = report.try_into().ok()?;
+    let [call, span, ..] = report;
+    Some(Report { call, span, message: prove::message(image, report)? })
 }

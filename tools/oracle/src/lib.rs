@@ -2,11 +2,14 @@
 //! where they are, unchanged; `stand_ins` has what they lean on.
 
 pub mod marked;
+pub mod pairs;
+pub mod picked;
 #[cfg(original)]
 mod prove;
 mod rule;
 #[cfg(original)]
 mod stand_ins;
+mod steps;
 pub mod tables;
 
 #[cfg(original)]
@@ -48,11 +51,14 @@ impl fmt::Display for Report {
     }
 }
 
+pub use prove::Original;
+pub use steps::steps;
+
 /// `prove_call` for each call in order, after `record_fn_contracts` for each
 /// function in order. The image is one that the reader accepts; panics where
 /// the original is not `HERE`.
 pub fn reports(image: &Image) -> Vec<Report> {
-    prove::reports(image)
+    Original::new(image).reports()
 }
 
 /// The reports as the printer's lines.
@@ -62,7 +68,15 @@ pub fn lines(image: &Image) -> String {
 
 #[cfg(not(original))]
 mod prove {
-    pub fn reports(_: &crate::Image) -> Vec<crate::Report> {
-        panic!("{}", crate::NOT_HERE)
+    pub struct Original;
+
+    impl Original {
+        pub fn new(_: &crate::Image) -> Original {
+            panic!("{}", crate::NOT_HERE)
+        }
+
+        pub fn reports(&mut self) -> Vec<crate::Report> {
+            panic!("{}", crate::NOT_HERE)
+        }
     }
 }

@@ -9,27 +9,48 @@ use crate::ast::statements::{
     ContractClause, Param, ParamRefinement, RefineOp, RefineOperand, TypeAnnotation,
 };
 use crate::stand_ins::{TypeChecker, span::Span};
-use rlimg::image::{Image, NONE, Record, Value};
+use rlimg::image::{Image, NONE, Record};
 use rlimg::schema::Section;
 
-pub fn reports(image: &Image) -> Vec<Report> {
-    let mut checker = TypeChecker::default();
-    let ids = alloc_exprs(image, &mut checker);
-    let fields = |record| Fields { image, ids: &ids, record };
-    for record in image.of(Section::Function) {
-        let function = fields(record);
-        let params = function.range(2, Section::Parameter, Fields::param);
-        let requires = function.range(5, Section::Clause, Fields::clause);
-        checker.record_fn_contracts(&function.text(0), &params, &requires);
+/// The functions and calls of an image, as the original has them.
+pub struct Original {
+    checker: TypeChecker,
+    calls: Vec<Call>,
+}
+
+struct Call {
+    name: String,
+    arguments: Vec<ExprId>,
+    span: Span,
+}
+
+impl Original {
+    /// Takes an accepted image over; `record_fn_contracts` has run for each
+    /// function in order.
+    pub fn new(image: &Image) -> Original {
+        let mut checker = TypeChecker::default();
+        let ids = alloc_exprs(image, &mut checker);
+        let fields = |record| Fields { image, ids: &ids, record };
+        for record in image.of(Section::Function) {
+            let function = fields(record);
+            let params = function.range(2, Section::Parameter, Fields::param);
+            let requires = function.range(5, Section::Clause, Fields::clause);
+            checker.record_fn_contracts(&function.text(0), &params, &requires);
+        }
+        let calls = image.of(Section::Call).iter().map(|record| fields(record).call()).collect();
+        Original { checker, calls }
     }
-    let mut reports = Vec::new();
-    for (index, record) in image.of(Section::Call).iter().enumerate() {
-        let call = fields(record);
-        checker.prove_call(&call.text(0), &call.nodes(2), call.span(1));
-        let of_call = |(message, Span(span))| Report { call: index as u32, span, message };
-        reports.extend(checker.errors.drain(..).map(of_call));
+
+    /// `prove_call` for each call in order.
+    pub fn reports(&mut self) -> Vec<Report> {
+        let mut reports = Vec::new();
+        for (index, call) in self.calls.iter().enumerate() {
+            self.checker.prove_call(&call.name, &call.arguments, call.span);
+            let of_call = |(message, Span(span))| Report { call: index as u32, span, message };
+            reports.extend(self.checker.errors.drain(..).map(of_call));
+        }
+        reports
     }
-    reports
 }
 
 /// Puts the expressions into the arena, node i at index i.
@@ -54,17 +75,7 @@ struct Fields<'a> {
 
 impl Fields<'_> {
     fn number(&self, position: usize) -> u64 {
-        match self.record.values[position] {
-            Value::Number(number) => number,
-            Value::Range(..) => panic!("field {position} of kind {}", self.record.kind),
-        }
-    }
-
-    fn first_and_count(&self, position: usize) -> (u16, u16) {
-        match self.record.values[position] {
-            Value::Range(first, count) => (first, count),
-            Value::Number(_) => panic!("field {position} of kind {}", self.record.kind),
-        }
+        self.record.number(position)
     }
 
     fn span(&self, position: usize) -> Span {
@@ -89,7 +100,7 @@ impl Fields<'_> {
     }
 
     fn list(&self, position: usize) -> &[u16] {
-        let (first, count) = self.first_and_count(position);
+        let (first, count) = self.record.range(position);
         self.image.list(first, count).expect("a list of the image")
     }
 
@@ -99,10 +110,13 @@ impl Fields<'_> {
 
     /// Each record of a range of another section.
     fn range<T>(&self, position: usize, section: Section, of: fn(&Self) -> T) -> Vec<T> {
-        let (first, count) = self.first_and_count(position);
-        let records = self.image.of(section).iter().skip(usize::from(first));
+        let records = self.image.part(section, self.record.range(position));
         let fields = |record| Fields { record, ..*self };
-        records.take(usize::from(count)).map(|record| of(&fields(record))).collect()
+        records.expect("a range of the image").iter().map(|record| of(&fields(record))).collect()
+    }
+
+    fn call(&self) -> Call {
+        Call { name: self.text(0), arguments: self.nodes(2), span: self.span(1) }
     }
 
     fn param(&self) -> Param {

@@ -1,4 +1,4 @@
-//! Small images of one function `f` and calls of it.
+//! Parts of small images: a function and calls of it.
 
 use rlimg::builder::{Builder, Function};
 use rlimg::rules::Literal;
@@ -38,12 +38,22 @@ pub fn compare(builder: &mut Builder, [left, operator, right]: [u16; 3], message
     clause(builder, condition, message);
 }
 
-/// The function of all parameters and clauses; gives its name.
+/// The function `f` of all parameters and clauses; gives its name.
 pub fn function(builder: &mut Builder) -> u16 {
-    let name = builder.text("f");
     let counts = builder.image.counts();
     let (parameters, requires) = ((0, counts[5] as u16), (0, counts[6] as u16));
-    let (span, result, body, ensures) = (4, false, builder.list(&[]), (0, 0));
+    function_of(builder, "f", parameters, requires)
+}
+
+/// A function with these parameters and requires; gives its name.
+pub fn function_of(
+    builder: &mut Builder,
+    name: &str,
+    parameters: (u16, u16),
+    requires: (u16, u16),
+) -> u16 {
+    let (name, body) = (builder.text(name), builder.list(&[]));
+    let (span, result, ensures) = (4, false, (0, 0));
     builder.function(Function { name, span, parameters, result, body, requires, ensures });
     name
 }

@@ -11,7 +11,7 @@ use rlimg::rules::{EDGES, NANS, SORTS, literals};
 use rlimg::schema::{self, Row, Section, Sort};
 
 /// Binary operators: those that compute, those that compare, and some others.
-const OPERATORS: [u16; 13] = [1, 2, 3, 4, 6, 7, 8, 9, 10, 11, BANG, 12, 63];
+pub(crate) const OPERATORS: [u16; 13] = [1, 2, 3, 4, 6, 7, 8, 9, 10, 11, BANG, 12, 63];
 const TEXTS: [usize; 2] = [2, 2];
 
 pub fn images() -> Vec<Image> {
@@ -26,7 +26,7 @@ pub fn images() -> Vec<Image> {
     images
 }
 
-fn compares(operator: u16) -> bool {
+pub(crate) fn compares(operator: u16) -> bool {
     (COMPARE..12).contains(&operator)
 }
 
@@ -119,9 +119,7 @@ fn of_kind(row: &Row) -> Image {
     let mut builder = Builder::new(u32::from(row.kind)).interning();
     let (a, seven) = (builder.text("a"), builder.integer(1, 7));
     parameters(&mut builder, ["a"]);
-    let sorts = row.sorts.iter().skip(1);
-    let values: Vec<Value> = sorts.map(|sort| field(&mut builder, *sort, a, seven)).collect();
-    let node = builder.node(2, row.name, &values);
+    let node = node_of(&mut builder, row, a, seven);
     let zero = builder.integer(2, 0);
     compare(&mut builder, [node, BANG_EQUAL, node], "some");
     compare(&mut builder, [node, COMPARE, zero], "not 0");
@@ -129,6 +127,13 @@ fn of_kind(row: &Row) -> Image {
     call(&mut builder, name, &[seven]);
     call(&mut builder, name, &[]);
     builder.image
+}
+
+/// A node of the kind, over a text and a node.
+pub(crate) fn node_of(builder: &mut Builder, row: &Row, text: u16, node: u16) -> u16 {
+    let sorts = row.sorts.iter().skip(1);
+    let values: Vec<Value> = sorts.map(|sort| field(builder, *sort, text, node)).collect();
+    builder.node(2, row.name, &values)
 }
 
 fn field(builder: &mut Builder, sort: Sort, text: u16, node: u16) -> Value {

@@ -34,6 +34,24 @@ pub struct Record {
     pub values: Vec<Value>,
 }
 
+impl Record {
+    /// The number in a field.
+    pub fn number(&self, position: usize) -> u64 {
+        match self.values[position] {
+            Value::Number(number) => number,
+            Value::Range(..) => panic!("field {position} of kind {} is no number", self.kind),
+        }
+    }
+
+    /// First and count of a list or range.
+    pub fn range(&self, position: usize) -> (u16, u16) {
+        match self.values[position] {
+            Value::Range(first, count) => (first, count),
+            Value::Number(_) => panic!("field {position} of kind {} is no range", self.kind),
+        }
+    }
+}
+
 #[derive(Debug, Clone, PartialEq, Eq, Default)]
 pub struct Image {
     pub arena: u32,
@@ -68,6 +86,12 @@ impl Image {
         let (offset, length) = *self.texts.get(usize::from(number))?;
         let offset = usize::from(offset);
         self.text.get(offset..offset + usize::from(length))
+    }
+
+    /// The records of a range of a section.
+    pub fn part(&self, section: Section, (first, count): (u16, u16)) -> Option<&[Record]> {
+        let first = usize::from(first);
+        self.of(section).get(first..first + usize::from(count))
     }
 
     /// The entries of a list.

@@ -23,14 +23,8 @@ u32-at-requires c κs = search needs
 cast-result-3 : tie.Need-cast-result-3
 cast-result-3 c = search needs
 
-u32-at-requires-2 : tie.Need-u32-at-requires-2
-u32-at-requires-2 c κs = search needs
-
-second-u32-requires : tie.Need-second-u32-requires
-second-u32-requires c κs = search needs
-
-join64-requires : tie.Need-join64-requires
-join64-requires c κs = search needs
+u64-at-requires : tie.Need-u64-at-requires
+u64-at-requires c κs = search needs
 
 returns : tie.Need-returns
 returns c = search (laws, needs)
@@ -57,9 +51,7 @@ number-at-spec =
     cast-result-2
     u32-at-requires
     cast-result-3
-    u32-at-requires-2
-    second-u32-requires
-    join64-requires
+    u64-at-requires
     returns
     returns-2
     returns-3

@@ -17,8 +17,8 @@ arith-ints-requires c κs = search needs
 enum-known-b-2 : tie.Need-enum-known-b-2
 enum-known-b-2 c = search needs
 
-nearest-i64-to-f64-requires : tie.Need-nearest-i64-to-f64-requires
-nearest-i64-to-f64-requires c κs = search needs
+nearest-f64-requires : tie.Need-nearest-f64-requires
+nearest-f64-requires c κs = search needs
 
 arith-floats-requires : tie.Need-arith-floats-requires
 arith-floats-requires c κs = search needs
@@ -73,7 +73,7 @@ arith-values-spec =
     enum-known-b
     arith-ints-requires
     enum-known-b-2
-    nearest-i64-to-f64-requires
+    nearest-f64-requires
     arith-floats-requires
     enum-told
     enum-told-2

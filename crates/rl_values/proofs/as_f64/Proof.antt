@@ -8,8 +8,8 @@ ruleset laws = (f64-int, f64-str, f64-bool)
 enum-known-v : tie.Need-enum-known-v
 enum-known-v c = search needs
 
-nearest-i64-to-f64-requires : tie.Need-nearest-i64-to-f64-requires
-nearest-i64-to-f64-requires c κs = search needs
+nearest-f64-requires : tie.Need-nearest-f64-requires
+nearest-f64-requires c κs = search needs
 
 enum-known-v-2 : tie.Need-enum-known-v-2
 enum-known-v-2 c = search needs
@@ -37,7 +37,7 @@ as-f64-spec =
     tie.close
     (tie.spec
     enum-known-v
-    nearest-i64-to-f64-requires
+    nearest-f64-requires
     enum-known-v-2
     enum-told
     enum-told-2

@@ -20,8 +20,8 @@ verdict-requires c κs = search needs
 enum-known-b-2 : tie.Need-enum-known-b-2
 enum-known-b-2 c = search needs
 
-nearest-i64-to-f64-requires : tie.Need-nearest-i64-to-f64-requires
-nearest-i64-to-f64-requires c κs = search needs
+nearest-f64-requires : tie.Need-nearest-f64-requires
+nearest-f64-requires c κs = search needs
 
 compare-floats-requires : tie.Need-compare-floats-requires
 compare-floats-requires c κs = search needs
@@ -128,7 +128,7 @@ compare-values-spec =
     compare-ints-requires
     verdict-requires
     enum-known-b-2
-    nearest-i64-to-f64-requires
+    nearest-f64-requires
     compare-floats-requires
     enum-told
     enum-told-2

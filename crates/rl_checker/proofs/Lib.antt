@@ -1,0 +1,4 @@
+pub mod ReadLaws
+pub mod FoldLaws
+pub mod ProveLaws
+pub mod AnswerLaws

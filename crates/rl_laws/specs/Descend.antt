@@ -1,0 +1,40 @@
+-- Recursion on the smaller indices: the fuel is not seen; and the tree of an expression by its form.
+-- Assumes nothing.
+use Prim.Native.Nat.{ℕ, zero, suc, _≤_, _<_}
+use mathlib.Core.Path.{_≡_, refl, ap, fun-ext}
+use mathlib.Core.Bool.{Bool, true, false}
+use native.Mathlib.Omega.{arith}
+use lib.Dec.{ltb}
+use borrow.Author.Tests.{ltb-true, lt-ltb, le-ltb}
+use Rattle.rl_spec.specs.Bytes.{pick}
+use Rattle.rl_spec.specs.Image.{Image}
+use Rattle.rl_spec.specs.Tree.{Expr, other, below, descendBy, descend, formOf, treeBy, exprTree}
+
+below-same : {X : Type 0} (i : ℕ) (d : X) (f g : ℕ → X) → ((j : ℕ) → j < i → f j ≡ g j) → below i d f ≡ below i d g
+below-same {X} i d f g h = fun-ext (λ j. go j (ltb j i) refl)
+  where
+    go : (j : ℕ) (b : Bool) → ltb j i ≡ b → pick b (f j) d ≡ pick b (g j) d
+    go j true e = h j (ltb-true j i e)
+    go j false e = refl
+
+module _ {X : Type 0} (d : X) (step : ℕ → (ℕ → X) → X) where
+  any-fuel : (f g i : ℕ) → i < f → i < g → descendBy d step f i ≡ descendBy d step g i
+  unfolding descendBy
+  any-fuel zero g i h k = absurd (omega arith)
+  any-fuel (suc f) zero i h k = absurd (omega arith)
+  any-fuel (suc f) (suc g) i h k = ap (step i) (below-same i d _ _ (λ j l. any-fuel f g j (omega arith) (omega arith)))
+
+  pub descend-is : (i : ℕ) → descend d step i ≡ step i (below i d (descend d step))
+  unfolding descendBy descend
+  descend-is i = ap (step i) (below-same i d _ _ (λ j l. any-fuel i (suc j) j l (omega arith)))
+
+-- THEOREM: the tree of an expression is its form with the trees of the expressions before it
+pub tree-is : (im : Image) (i : ℕ) → exprTree im i ≡ treeBy (formOf im i) (below i other (exprTree im))
+unfolding exprTree
+tree-is im i = descend-is other (λ n tree. treeBy (formOf im n) tree) i
+
+pub below-earlier : (im : Image) (i j : ℕ) → j < i → below i other (exprTree im) j ≡ exprTree im j
+below-earlier im i j h = rw (lt-ltb j i h) refl
+
+pub below-later : (im : Image) (i j : ℕ) → i ≤ j → below i other (exprTree im) j ≡ other
+below-later im i j h = rw (le-ltb j i h) refl

@@ -1,0 +1,9 @@
+pub mod ListLaws
+pub mod CalleeLaws
+pub mod Monotone
+pub mod BindLaws
+pub mod PassLaws
+pub mod ReportLaws
+pub mod VerdictLaws
+pub mod SecondLaws
+pub mod CallLaws

@@ -1,0 +1,49 @@
+use Prim.Native.Nat.{_-_}
+use borrow.Author.Needs.{needs}
+use Rattle.rl_report.proofs.print.print_calls.Statement.{statement}
+use Rattle.rl_report.proofs.print.print_calls.Tie as tie
+
+abbrev Inv-loop : tie.InvT-loop
+Inv-loop image starts counts classes names₀ memory₀ room₀ out₀ call₀ names memory room out call = Unit {0}
+
+abbrev μ-loop : tie.MeasureT-loop
+μ-loop image starts counts classes names₀ memory₀ room₀ out₀ call₀ names memory room out call = counts .calls - call
+
+large-buffer-requires : tie.Need-large-buffer-requires Inv-loop μ-loop
+large-buffer-requires c κs = search needs
+
+large-buffer-requires-2 : tie.Need-large-buffer-requires-2 Inv-loop μ-loop
+large-buffer-requires-2 c κs = search needs
+
+loop-holds : tie.Need-loop-holds Inv-loop μ-loop
+loop-holds c = search needs
+
+print-call-requires : tie.Need-print-call-requires Inv-loop μ-loop
+print-call-requires c κs = search needs
+
+add-call : tie.Need-add-call Inv-loop μ-loop
+add-call c = search needs
+
+loop-less : tie.Need-loop-less Inv-loop μ-loop
+loop-less c = search needs
+
+loop-again : tie.Need-loop-again Inv-loop μ-loop
+loop-again c = search needs
+
+returns : tie.Need-returns Inv-loop μ-loop
+returns c = search needs
+
+pub print-calls-spec : {M : Type 1} → statement M
+print-calls-spec =
+    tie.close
+    (tie.spec
+    Inv-loop
+    μ-loop
+    large-buffer-requires
+    large-buffer-requires-2
+    loop-holds
+    print-call-requires
+    add-call
+    loop-less
+    loop-again
+    returns)

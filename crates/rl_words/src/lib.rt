@@ -1,0 +1,78 @@
+// Values as two words, a sort and a payload, and back.
+mod literals;
+
+pub use literals::float32;
+pub use literals::float64;
+pub use literals::signed32;
+pub use literals::signed64;
+pub use literals::unsigned64;
+use rl_spec::ConstVal;
+use rl_spec::Folded;
+use rl_values::magnitude;
+ghost use mathlib.Core.Path.{_≡_};
+ghost use lib.Ieee.{toBits, ofBits, binary64};
+ghost use Rattle.rl_spec.specs.Tree.{signed};
+ghost use Rattle.rl_spec.specs.Words.{bits64, sortWordOf, payloadWordOf, wordsValue};
+
+pub fn bits_of_int(x: i64) -> u64
+    ensures { λ r. ⌜ r ≡ bits64 x ⌝ }
+    ensures { λ r. ⌜ signed 64 r ≡ x ⌝ }
+{
+    let m = magnitude(x);
+    if x < 0 {
+        return u64::MAX - m + 1;
+    }
+    m
+}
+
+pub fn bits_of_float(x: f64) -> u64
+    ensures { λ r. ⌜ r ≡ toBits binary64 x ⌝ }
+    ensures { λ r. ⌜ ofBits binary64 r ≡ x ⌝ }
+{
+    if x != x {
+        return 0x7ff8_0000_0000_0000;
+    }
+    f64::to_bits(x)
+}
+
+pub fn sort_word(v: Folded) -> u64
+    ensures { λ r. ⌜ r ≡ sortWordOf v ⌝ }
+{
+    match v {
+        Folded::Nothing => 0,
+        Folded::Value(w) => match w {
+            ConstVal::Int(x) => 1,
+            ConstVal::Float(x) => 2,
+            ConstVal::Str(t) => 3,
+            ConstVal::Bool(b) => 4,
+        },
+    }
+}
+
+// The value that the words stand for is this one.
+pub fn payload_word(v: Folded) -> u64
+    ensures { λ r. ⌜ r ≡ payloadWordOf v ⌝ }
+    ensures { λ r. ⌜ wordsValue (sortWordOf v) r ≡ v ⌝ }
+{
+    match v {
+        Folded::Nothing => 0,
+        Folded::Value(w) => match w {
+            ConstVal::Int(x) => bits_of_int(x),
+            ConstVal::Float(x) => bits_of_float(x),
+            ConstVal::Str(t) => t as u64,
+            ConstVal::Bool(b) => { if b { 1 } else { 0 } }
+        },
+    }
+}
+
+pub fn words_value(sort: u64, payload: u64) -> Folded
+    ensures { λ r. ⌜ r ≡ wordsValue sort payload ⌝ }
+{
+    match sort {
+        1 => Folded::Value(ConstVal::Int(signed64(payload))),
+        2 => Folded::Value(ConstVal::Float(float64(payload))),
+        3 => Folded::Value(ConstVal::Str((payload % 65536) as u16)),
+        4 => Folded::Value(ConstVal::Bool(payload == 1)),
+        _ => Folded::Nothing,
+    }
+}

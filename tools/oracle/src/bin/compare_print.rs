@@ -1,0 +1,113 @@
+//! `compare_print [N] [SEED]`: what the printer prints, against the original's
+//! reports and the independent reader's refusals, on listed images and on N
+//! generated and damaged ones. The printer is RL_PRINTER, or else
+//! `target/bin/rl_printer` of the repository.
+
+use oracle::{HERE, NOT_HERE, lines, marked, picked};
+use rlimg::damage::damage;
+use rlimg::decode::decode;
+use rlimg::encode::encode;
+use rlimg::image::Image;
+use rlimg::rng::Rng;
+use rlimg::rules;
+use std::ffi::OsString;
+use std::io::Write;
+use std::process::{Command, ExitCode, Stdio};
+
+const PRINTER: &str = concat!(env!("CARGO_MANIFEST_DIR"), "/../../target/bin/rl_printer");
+/// Where an image goes that shows a difference.
+const FILE: &str = concat!(env!("CARGO_MANIFEST_DIR"), "/../target/compare_print.img");
+
+fn images(count: usize, seed: u64) -> Vec<Vec<u8>> {
+    let mut images: Vec<Image> = marked::cases().into_iter().map(|case| case.image).collect();
+    images.extend(picked::images());
+    let mut images: Vec<Vec<u8>> = images.iter().map(encode).collect();
+    images.extend([vec![], vec![1; 65_536], vec![1; 100_000]]);
+    let mut rng = Rng::new(seed);
+    for number in 0..count {
+        let image = rules::image(&mut rng, [1, 2, 4, 12][number / 4 % 4]);
+        images.push(match number % 4 {
+            3 => damage(&mut rng, &image),
+            _ => encode(&image),
+        });
+    }
+    images
+}
+
+fn expected(bytes: &[u8]) -> String {
+    match decode(bytes) {
+        Ok(image) => lines(&image),
+        Err(refusal) => format!("refused {} at {}\n", refusal.number, refusal.place),
+    }
+}
+
+/// What the printer prints.
+fn printed(printer: &OsString, bytes: &[u8]) -> std::io::Result<Vec<u8>> {
+    let mut command = Command::new(printer);
+    let mut child = command.stdin(Stdio::piped()).stdout(Stdio::piped()).spawn()?;
+    let mut input = child.stdin.take().expect("a pipe");
+    let output = std::thread::scope(|scope| {
+        // The printer may stop reading where an image is too long.
+        scope.spawn(move || _ = input.write_all(bytes));
+        child.wait_with_output()
+    })?;
+    Ok(output.stdout)
+}
+
+/// The first line that differs, of both.
+fn differing(ours: &[u8], theirs: &str) -> String {
+    let ours = String::from_utf8_lossy(ours);
+    let (mut ours, mut theirs) = (ours.split('\n'), theirs.split('\n'));
+    for line in 0.. {
+        match (ours.next(), theirs.next()) {
+            (None, None) => break,
+            (ours, theirs) if ours != theirs => {
+                return format!("line {line}\nprinted:  {ours:?}\nexpected: {theirs:?}");
+            }
+            _ => (),
+        }
+    }
+    "bytes that are not UTF-8".to_string()
+}
+
+fn compare(printer: &OsString, count: usize, seed: u64) -> Result<String, String> {
+    let (mut refused, mut reports) = (0, 0);
+    let images = images(count, seed);
+    for (number, bytes) in images.iter().enumerate() {
+        let theirs = expected(bytes);
+        let ours = printed(printer, bytes).map_err(|fault| format!("{printer:?}: {fault}"))?;
+        if ours != theirs.as_bytes() {
+            let kept = std::fs::write(FILE, bytes).map(|()| FILE.to_string());
+            let kept = kept.unwrap_or_else(|fault| format!("{FILE}: {fault}"));
+            let differing = differing(&ours, &theirs);
+            return Err(format!("seed {seed}, image {number}, {differing}\nthe image: {kept}"));
+        }
+        match theirs.starts_with("refused ") {
+            true => refused += 1,
+            false => reports += theirs.lines().count(),
+        }
+    }
+    let all = images.len();
+    Ok(format!("compare_print: {all} images ({refused} refused), 0 differ; {reports} lines"))
+}
+
+fn main() -> ExitCode {
+    if !HERE {
+        println!("{NOT_HERE}");
+        return ExitCode::SUCCESS;
+    }
+    let mut arguments = std::env::args().skip(1).map(|word| word.parse::<u64>().expect("a number"));
+    let count = arguments.next().unwrap_or(300) as usize;
+    let seed = arguments.next().unwrap_or(1);
+    let printer = std::env::var_os("RL_PRINTER").unwrap_or(PRINTER.into());
+    match compare(&printer, count, seed) {
+        Ok(summary) => {
+            println!("{summary}");
+            ExitCode::SUCCESS
+        }
+        Err(fault) => {
+            println!("{fault}");
+            ExitCode::FAILURE
+        }
+    }
+}
