@@ -14,3 +14,7 @@ pub mod Contracts
 pub mod Prove
 pub mod Message
 pub mod Words
+pub mod Statement
+pub mod Run
+pub mod Reading
+pub mod Functions

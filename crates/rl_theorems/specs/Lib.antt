@@ -30,5 +30,10 @@ pub mod Marked
 pub mod Rounding
 pub mod Distance
 pub mod Nearest
-pub mod Theorems
+pub mod Steps
+pub mod Budget
+pub mod Texts
+pub mod TextRuns
+pub mod RunExamples
 pub mod Limits
+pub mod Theorems

@@ -2,8 +2,8 @@
 -- Assumes nothing.
 use Prim.Native.Nat.{ℕ, _+_, _-_, _*_, _^_, _≤_, _<_}
 use mathlib.Core.Path.{_≡_}
-use mathlib.Core.Bool.{true, false}
-use mathlib.Core.List.{List, [], _++_}
+use mathlib.Core.Bool.{Bool, true, false}
+use mathlib.Core.List.{List, [], _++_, map}
 use mathlib.Core.Logic.{_⊎_, _↔_}
 use lib.ListN.{length, getD, take, drop, replicate}
 use lib.Dec.{T}
@@ -30,9 +30,13 @@ use Rattle.rl_spec.specs.Read.{answerOf, workOf, startsOf}
 use Rattle.rl_spec.specs.Image.{Image, encode, imageOf, entryOf, textOf, sizeOf, heights, AllBytes, WellFormed}
 use Rattle.rl_spec.specs.Found.{imageFound}
 use Rattle.rl_spec.specs.Folded.{asFolded}
-use Rattle.rl_spec.specs.Tree.{exprTree}
+use Rattle.rl_spec.specs.Tree.{Expr, exprTree}
 use Rattle.rl_spec.specs.Fold.{constEval, foldOf}
 use Rattle.rl_spec.specs.Prove.{callEntries, allEntries, fitting, sliceBy, proveOf, reportsOf, proveAllOf, allReportsOf}
+use Rattle.rl_spec.specs.Statement.{Stmt, Body}
+use Rattle.rl_spec.specs.Functions.{mapExpr, mapStmt, mapBody}
+use Rattle.rl_spec.specs.Run.{Value, Env, tick, _>>_, eval}
+use Rattle.rl_spec.specs.Reading.{Check, Function, Mode, repeat, loopTurn, whileTurn, checks, stmt, body, top, runFunction, reading}
 use Rattle.rl_theorems.specs.Utf8 as Utf8
 use Rattle.rl_theorems.specs.Decode as Decode
 use Rattle.rl_theorems.specs.Accepted as Well
@@ -48,6 +52,11 @@ use Rattle.rl_theorems.specs.Causes as Causes
 use Rattle.rl_theorems.specs.Distance.{Same, apart}
 use Rattle.rl_theorems.specs.Nearest as Nearest
 use Rattle.rl_theorems.specs.Answers as Answers
+use Rattle.rl_theorems.specs.Steps as Steps
+use Rattle.rl_theorems.specs.Budget as Budget
+use Rattle.rl_theorems.specs.Texts as Texts
+use Rattle.rl_theorems.specs.TextRuns as TextRuns
+use Rattle.rl_theorems.specs.RunExamples as RunExamples
 use Rattle.rl_theorems.specs.Marked as Marked
 
 -- ---- text (Utf8): the syntax of RFC 3629 admits the encodings of scalars and nothing else
@@ -178,6 +187,91 @@ module _ (im : Image) (wf : WellFormed im) (k : ℕ) (long : 8192 ≤ k) where
 
   pub all-reports-encoded : (room : ℕ) → allReportsOf (encode im) k room ≡ sliceBy room (allEntries im (sizeOf im Calls) 0) (fitting room (allEntries im (sizeOf im Calls) 0))
   all-reports-encoded = Answers.all-reports-encoded im wf k long
+
+-- ---- the steps of a run (Steps). Spends: what is left is at most the budget that was given, and nothing where that is spent
+
+module _ {Text : Type 0} (bytes : Text → List ℕ) (ret : Text) where
+  pub eval-spends : (e : Expr Text) → Steps.Spends (eval bytes e)
+  eval-spends = Steps.evals bytes
+
+  -- plainly and checked
+  pub stmt-spends : (m : Mode Text) (s : Stmt Text) → Steps.Spends (stmt bytes ret m s)
+  stmt-spends = Steps.stmts bytes ret
+
+  pub body-spends : (m : Mode Text) (b : Body Text) → Steps.Spends (body bytes ret m b)
+  body-spends = Steps.bodies bytes ret
+
+  pub top-spends : (m : Mode Text) (b : Body Text) → Steps.Spends (top bytes ret m b)
+  top-spends = Steps.tops bytes ret
+
+  -- Fair: the steps used are at most the budget, and all of it where that is spent
+  pub run-fair : (f : Function Text) (vs : List (Value Text)) (budget : ℕ) → Steps.Fair budget (runFunction bytes ret f vs budget)
+  run-fair = Steps.run-fair bytes ret
+
+  pub reading-fair : (f : Function Text) (vs : List (Value Text)) (budget : ℕ) → Steps.Fair budget (reading bytes ret f vs budget)
+  reading-fair = Steps.reading-fair bytes ret
+
+  -- a loop is its unfolding: a step, a turn, and the loop again
+  pub while-unfolds : (m : Mode Text) (e : Expr Text) (b : Body Text) (env : Env Text) (n : ℕ) → repeat (whileTurn bytes ret e (body bytes ret m b)) env n ≡ (tick >> whileTurn bytes ret e (body bytes ret m b) (repeat (whileTurn bytes ret e (body bytes ret m b)))) env n
+  while-unfolds = Steps.while-unfolds bytes ret
+
+  pub loop-unfolds : (m : Mode Text) (b : Body Text) (env : Env Text) (n : ℕ) → repeat (loopTurn (body bytes ret m b)) env n ≡ (tick >> loopTurn (body bytes ret m b) (repeat (loopTurn (body bytes ret m b)))) env n
+  loop-unfolds = Steps.loop-unfolds bytes ret
+
+-- ---- a larger budget does not change a run that was not spent (Budget). Steady: where the budget n is not spent, n + k gives the same,
+-- and k more is left
+
+module _ {Text : Type 0} (bytes : Text → List ℕ) (ret : Text) where
+  pub eval-steady : (e : Expr Text) → Budget.Steady (eval bytes e)
+  eval-steady = Budget.eval-steady bytes
+
+  pub checks-steady : (r : Bool) (cs : List (Check Text)) → Budget.Steady (checks bytes ret r cs)
+  checks-steady = Budget.checks-steady bytes ret
+
+  -- plainly and checked
+  pub stmt-steady : (m : Mode Text) (s : Stmt Text) → Budget.Steady (stmt bytes ret m s)
+  stmt-steady = Budget.stmt-steady bytes ret
+
+  pub body-steady : (m : Mode Text) (b : Body Text) → Budget.Steady (body bytes ret m b)
+  body-steady = Budget.body-steady bytes ret
+
+  pub top-steady : (m : Mode Text) (b : Body Text) → Budget.Steady (top bytes ret m b)
+  top-steady = Budget.top-steady bytes ret
+
+  -- the same outcome and the same steps used
+  pub run-steady : (f : Function Text) (vs : List (Value Text)) (n k : ℕ) → Steps.NotSpent (runFunction bytes ret f vs n .0) → runFunction bytes ret f vs (n + k) ≡ runFunction bytes ret f vs n
+  run-steady = Budget.run-steady bytes ret
+
+  pub reading-steady : (f : Function Text) (vs : List (Value Text)) (n k : ℕ) → Steps.NotSpent (reading bytes ret f vs n .0) → reading bytes ret f vs (n + k) ≡ reading bytes ret f vs n
+  reading-steady = Budget.reading-steady bytes ret
+
+-- ---- another account of the texts that keeps their bytes (Texts, TextRuns): a mapped tree in mapped bindings runs as the tree does, mapped
+
+module _ {A B : Type 0} (f : A → B) (bytesA : A → List ℕ) (bytesB : B → List ℕ) (keeps : (t : A) → bytesB (f t) ≡ bytesA t) where
+  pub eval-mapped : (e : Expr A) (env : Env A) (n : ℕ) → eval bytesB (mapExpr f e) (Texts.mapEnv f env) n ≡ Texts.mapResult f (Texts.mapValue f) (eval bytesA e env n)
+  eval-mapped e = Texts.evals f bytesA bytesB keeps e .runs
+
+  -- statements and bodies plainly and checked; `ret` is mapped too
+  module _ (retA : A) (retB : B) (ret-same : retB ≡ f retA) where
+    pub stmt-mapped : (m : Mode A) (s : Stmt A) (env : Env A) (n : ℕ) → stmt bytesB retB (TextRuns.mapMode f m) (mapStmt f s) (Texts.mapEnv f env) n ≡ Texts.mapResult f Texts.same (stmt bytesA retA m s env n)
+    stmt-mapped m s = TextRuns.stmts f bytesA bytesB keeps retA retB ret-same m s .runs
+
+    pub body-mapped : (m : Mode A) (b : Body A) (env : Env A) (n : ℕ) → body bytesB retB (TextRuns.mapMode f m) (mapBody f b) (Texts.mapEnv f env) n ≡ Texts.mapResult f Texts.same (body bytesA retA m b env n)
+    body-mapped m b = TextRuns.bodies f bytesA bytesB keeps retA retB ret-same m b .runs
+
+    pub top-mapped : (m : Mode A) (b : Body A) (env : Env A) (n : ℕ) → top bytesB retB (TextRuns.mapMode f m) (mapBody f b) (Texts.mapEnv f env) n ≡ Texts.mapResult f (Texts.mapValue f) (top bytesA retA m b env n)
+    top-mapped m b = TextRuns.tops f bytesA bytesB keeps retA retB ret-same m b .runs
+
+    pub run-mapped : (g : Function A) (vs : List (Value A)) (budget : ℕ) → runFunction bytesB retB (TextRuns.mapFunction f g) (map (Texts.mapValue f) vs) budget ≡ TextRuns.mapEnded f (runFunction bytesA retA g vs budget)
+    run-mapped = TextRuns.run-mapped f bytesA bytesB keeps retA retB ret-same
+
+    pub reading-mapped : (g : Function A) (vs : List (Value A)) (budget : ℕ) → reading bytesB retB (TextRuns.mapFunction f g) (map (Texts.mapValue f) vs) budget ≡ TextRuns.mapEnded f (reading bytesA retA g vs budget)
+    reading-mapped = TextRuns.reading-mapped f bytesA bytesB keeps retA retB ret-same
+
+-- ---- closed runs and readings (RunExamples has the list): each statement kind, each fault, each outcome, and marked case 14
+
+pub runs-end-so : map RunExamples.actual RunExamples.cases ≡ map RunExamples.expected RunExamples.cases
+runs-end-so = RunExamples.runs-end-so
 
 -- ---- the marked cases, and the printer's example (Marked has both lists, MarkedImages the images)
 
