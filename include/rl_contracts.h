@@ -51,6 +51,32 @@ uint64_t rl_prove(const uint8_t *image, size_t image_len, uint16_t *work, size_t
 uint64_t rl_prove_all(const uint8_t *image, size_t image_len, uint16_t *work, size_t work_len,
                       uint32_t *reports, size_t reports_len);
 
+/* The most values of a run, the largest budget, the least length of an outcome. */
+#define RL_VALUES 16
+#define RL_BUDGET 1000000
+#define RL_OUTCOME 4
+
+/*
+ * Reads an image and runs one of its functions on values, within a budget of
+ * steps. A value is two words. The first is its sort: 0 Null, 1 Int, 2 Float,
+ * 3 Str, 4 Bool, plus 8 for an Ok or 16 for an Err of one of these. The second
+ * is its payload: 0 for Null, the i64's or f64's bits, the text's index, 0 or 1.
+ * values_len counts words.
+ *
+ * On success outcome[0] is 1 Returned, 2 Stopped, 3 Fault or 4 Spent, and
+ * outcome[1] the steps used. outcome[2] and outcome[3] are the words of the value
+ * returned or stopped with, or the fault's number and 0, or 0 and 0 for Spent;
+ * the rest is zero.
+ *
+ * Refusals besides those of reading: 11 no such function, 19 not as many values
+ * as parameters or over sixteen, 20 no such text, 21 a budget over 1,000,000;
+ * and before anything else 100 for words that are no values or an outcome of
+ * under four words. On refusal work and outcome are zero.
+ */
+uint64_t rl_run(const uint8_t *image, size_t image_len, uint16_t *work, size_t work_len,
+                uint32_t function, const uint64_t *values, size_t values_len, uint32_t budget,
+                uint64_t *outcome, size_t outcome_len);
+
 #ifdef __cplusplus
 }
 #endif

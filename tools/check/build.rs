@@ -14,6 +14,7 @@ fn main() {
         println!("cargo:rustc-link-search=native={}", folder.display());
         println!("cargo:rustc-link-lib=static=rl_abi");
     } else {
-        println!("cargo:warning={} is missing: only `vectors` can be built", archive.display());
+        let archive = archive.display();
+        println!("cargo:warning={archive} is missing: only the stored cases can be made");
     }
 }

@@ -13,7 +13,7 @@ use mir.Syntax.{w64}
 use Rattle.rl_spec.specs.declared.ArenaNo.{ArenaNo}
 use Rattle.rl_spec.specs.declared.Counts.{Counts}
 use Rattle.rl_spec.specs.declared.Cause.{Cause}
-use Rattle.rl_spec.specs.declared.Cause.the-variants.{ImageTooLong, WorkTooShort, BytesEnd, WrongKind, CountOverLimit, BadText, BadValue, BadReference, TooHigh, BytesLeft, OtherArena, NoSuchNode, NoSuchCall, ReportsTooShort}
+use Rattle.rl_spec.specs.declared.Cause.the-variants.{ImageTooLong, WorkTooShort, BytesEnd, WrongKind, CountOverLimit, BadText, BadValue, BadReference, TooHigh, BytesLeft, OtherArena, NoSuchNode, NoSuchCall, ReportsTooShort, NoSuchFunction, WrongValues, NoSuchText, BudgetOverLimit}
 use Rattle.rl_spec.specs.declared.Answer.{Answer}
 use Rattle.rl_spec.specs.declared.Answer.the-variants.{Accepted, Refused}
 use Rattle.rl_spec.specs.declared.FoldAnswer.{FoldAnswer}
@@ -33,7 +33,7 @@ use Rattle.rl_spec.specs.Words.{sortWordOf, payloadWordOf}
 use Rattle.rl_abi.specs.Boundary.{above, foldAnswer, foldValue, foldWork, provePacked, provedPlace}
 use Rattle.rl_theorems.specs.Places.{place-small}
 
-number-small : (q : Cause) → numberOf q ≤ 18
+number-small : (q : Cause) → numberOf q ≤ 21
 number-small ImageTooLong = omega arith
 number-small WorkTooShort = omega arith
 number-small BytesEnd = omega arith
@@ -48,6 +48,10 @@ number-small OtherArena = omega arith
 number-small NoSuchNode = omega arith
 number-small NoSuchCall = omega arith
 number-small ReportsTooShort = omega arith
+number-small NoSuchFunction = omega arith
+number-small WrongValues = omega arith
+number-small NoSuchText = omega arith
+number-small BudgetOverLimit = omega arith
 
 module _ (q : Cause) (n : ℕ) (e : n ≡ numberOf q) where
   pub high-fits : Fits w64 (n * 4294967296)

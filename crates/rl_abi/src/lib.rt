@@ -1,4 +1,9 @@
 // The functions that C and Rust call. include/rl_contracts.h declares them for C.
+mod values;
+
+use crate::values::are_values;
+use crate::values::arguments_of;
+use crate::values::put_outcome;
 use rl_bytes::clear;
 use rl_memory::clear as clear_words;
 use rl_numbers::number_of;
@@ -10,6 +15,7 @@ use rl_spec::Folded;
 use rl_spec::Id;
 use rl_spec::NodeNo;
 use rl_spec::ProveAnswer;
+use rl_spec::RunAnswer;
 use rl_words::payload_word;
 use rl_words::sort_word;
 ghost use mathlib.Core.Path.{_≡_};
@@ -20,7 +26,7 @@ ghost use Rattle.rl_spec.specs.Read.{numberOf, packed, answerOf, workOf};
 ghost use Rattle.rl_spec.specs.Fold.{workUnless};
 ghost use Rattle.rl_spec.specs.Prove.{proveOf, reportsOf, proveAllOf, allReportsOf, proveNumber};
 ghost use Rattle.rl_spec.specs.Words.{sortWordOf, payloadWordOf};
-ghost use Rattle.rl_abi.specs.Boundary.{above, idOf, foldAnswer, foldValue, foldWork, provePacked, provedPlace};
+ghost use Rattle.rl_abi.specs.Boundary.{above, idOf, foldAnswer, foldValue, foldWork, provePacked, provedPlace, isBadCall, runAnswer, runOutcome, runWork};
 
 fn pack(cause: Cause, place: usize) -> u64
     requires { ⌜ place ≤ 65535 ⌝ }
@@ -117,4 +123,48 @@ pub extern "C" fn rl_prove_all(image: &[u8], work: &mut [u16], reports: &mut [u3
     ensures { λ r. ⌜ now (work .exit) ≡ workUnless (proveNumber (proveAllOf (now (image .entry)) (length (now (work .entry))) (length (now (reports .entry))))) (now (image .entry)) (length (now (work .entry))) ⌝ }
 {
     pack_proved(rl_checker::prove_all(image, work, reports))
+}
+
+// Whether words are no values, or an outcome is too short.
+fn is_bad_call(values: &[u64], outcome: &[u64]) -> bool
+    ensures { λ r. ⌜ r ≡ isBadCall (now (values .entry)) (length (now (outcome .entry))) ⌝ }
+{
+    if are_values(values) {
+        return outcome.len() < 4;
+    }
+    true
+}
+
+// Reads an image and runs a function on values, two words each, within a budget. outcome[0]: 1 Returned, 2 Stopped, 3 Fault, 4 Spent;
+// outcome[1]: the steps; outcome[2] and [3]: the value's words, or the fault's number and 0. 100, before anything else, for words that
+// are no values or an outcome of under four words.
+#[no_mangle]
+pub extern "C" fn rl_run(
+    image: &[u8],
+    work: &mut [u16],
+    function: u32,
+    values: &[u64],
+    budget: u32,
+    outcome: &mut [u64],
+) -> u64
+    ensures { λ r. ⌜ r ≡ runAnswer (now (image .entry)) (length (now (work .entry))) function (now (values .entry)) budget (length (now (outcome .entry))) ⌝ }
+    ensures { λ r. ⌜ now (outcome .exit) ≡ runOutcome (now (image .entry)) (length (now (work .entry))) function (now (values .entry)) budget (length (now (outcome .entry))) ⌝ }
+    ensures { λ r. ⌜ now (work .exit) ≡ runWork (now (image .entry)) (length (now (work .entry))) function (now (values .entry)) budget (length (now (outcome .entry))) ⌝ }
+{
+    if is_bad_call(values, outcome) {
+        clear_words(outcome);
+        clear(work);
+        return 429496729600;
+    }
+    let answer = rl_runner::run(image, work, function, arguments_of(values), budget);
+    match answer {
+        RunAnswer::Refused { cause, place } => {
+            clear_words(outcome);
+            pack(cause, place)
+        }
+        RunAnswer::Ran { outcome: o, steps } => {
+            put_outcome(outcome, o, steps);
+            0
+        }
+    }
 }

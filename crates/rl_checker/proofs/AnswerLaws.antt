@@ -30,7 +30,7 @@ use Rattle.rl_theorems.specs.Found.{found-is-image}
 use Rattle.rl_theorems.specs.Limits.{size-within, texts-within, parameters-within, all-bytes}
 use Rattle.rl_theorems.specs.Starts.{section-size, sizes-are-counts}
 use Rattle.rl_checker.specs.Entries.{Limited, ProvesOne, ProvesAll, fittingAt, keptAt}
-use Rattle.rl_checker.proofs.ReadLaws.{zeros-unless, refused-work}
+use Rattle.rl_theorems.specs.Refusals.{zeros-unless, refused-work}
 
 -- ---- a slice of zeros shows nothing, and one that is long enough shows all
 

@@ -27,7 +27,7 @@ use Rattle.rl_arena.specs.Find.{lookup}
 use Rattle.rl_memory.proofs.Names.{cleared-right}
 use Rattle.rl_fold.specs.Folding.{foldedAt, Folds}
 use Rattle.rl_theorems.specs.Found.{found-is-image}
-use Rattle.rl_checker.proofs.ReadLaws.{zeros-unless, refused-work}
+use Rattle.rl_theorems.specs.Refusals.{zeros-unless, refused-work}
 
 -- without names and memory
 pub fold-alone : (im : Image) (cs w : List ℕ) (n k : ℕ) (r : Folded) (out : List ℕ) → Folds im cs w 0 n (replicate k 0) r out → r ≡ foldedAt im [] n

@@ -1,4 +1,3 @@
-pub mod ReadLaws
 pub mod FoldLaws
 pub mod ProveLaws
 pub mod AnswerLaws

@@ -34,7 +34,7 @@ pub fn value_text(image: &[u8], counts: Counts, v: ConstVal) -> &[u8]
     }
 }
 
-fn unary_folded(operator: u8, v: Folded) -> Folded
+pub fn unary_folded(operator: u8, v: Folded) -> Folded
     ensures { λ r. ⌜ foldedOf r ≡ unaryFolded operator (foldedOf v) ⌝ }
 {
     match v {
@@ -55,7 +55,7 @@ fn values_folded(image: &[u8], counts: Counts, operator: u8, a: ConstVal, b: Con
     )
 }
 
-fn binary_folded(image: &[u8], counts: Counts, operator: u8, a: Folded, b: Folded) -> Folded
+pub fn binary_folded(image: &[u8], counts: Counts, operator: u8, a: Folded, b: Folded) -> Folded
     ensures { λ r. ⌜ ((p : List ℕ) → foldedOf r ≡ binaryFolded (textOf (imageFound (now (image .entry)) p counts)) operator (foldedOf a) (foldedOf b)) ⌝ }
 {
     match a {

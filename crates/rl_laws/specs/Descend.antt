@@ -9,6 +9,7 @@ use borrow.Author.Tests.{ltb-true, lt-ltb, le-ltb}
 use Rattle.rl_spec.specs.Bytes.{pick}
 use Rattle.rl_spec.specs.Image.{Image}
 use Rattle.rl_spec.specs.Tree.{Expr, other, below, descendBy, descend, formOf, treeBy, exprTree}
+use Rattle.rl_spec.specs.Statement.{aStatement, otherStatement, statementOf, itemBy, itemTree}
 
 below-same : {X : Type 0} (i : ℕ) (d : X) (f g : ℕ → X) → ((j : ℕ) → j < i → f j ≡ g j) → below i d f ≡ below i d g
 below-same {X} i d f g h = fun-ext (λ j. go j (ltb j i) refl)
@@ -33,8 +34,19 @@ pub tree-is : (im : Image) (i : ℕ) → exprTree im i ≡ treeBy (formOf im i) 
 unfolding exprTree
 tree-is im i = descend-is other (λ n tree. treeBy (formOf im n) tree) i
 
+-- THEOREM: the item of a statement is its form with the items of the statements before it
+pub item-is : (im : Image) (i : ℕ) → itemTree im i ≡ itemBy im (statementOf im i) (below i (aStatement otherStatement) (itemTree im))
+unfolding itemTree
+item-is im i = descend-is (aStatement otherStatement) (λ n item. itemBy im (statementOf im n) item) i
+
+pub under-earlier : {X : Type 0} (d : X) (g : ℕ → X) (i j : ℕ) → j < i → below i d g j ≡ g j
+under-earlier d g i j h = rw (lt-ltb j i h) refl
+
+pub under-later : {X : Type 0} (d : X) (g : ℕ → X) (i j : ℕ) → i ≤ j → below i d g j ≡ d
+under-later d g i j h = rw (le-ltb j i h) refl
+
 pub below-earlier : (im : Image) (i j : ℕ) → j < i → below i other (exprTree im) j ≡ exprTree im j
-below-earlier im i j h = rw (lt-ltb j i h) refl
+below-earlier im i j h = under-earlier other (exprTree im) i j h
 
 pub below-later : (im : Image) (i j : ℕ) → i ≤ j → below i other (exprTree im) j ≡ other
-below-later im i j h = rw (le-ltb j i h) refl
+below-later im i j h = under-later other (exprTree im) i j h

@@ -21,5 +21,9 @@ pub fn number_of(cause: Cause) -> u64
         Cause::NoSuchNode => 16,
         Cause::NoSuchCall => 17,
         Cause::ReportsTooShort => 18,
+        Cause::NoSuchFunction => 11,
+        Cause::WrongValues => 19,
+        Cause::NoSuchText => 20,
+        Cause::BudgetOverLimit => 21,
     }
 }

@@ -1,3 +1,4 @@
 pub mod TextLaws
 pub mod ContractLaws
 pub mod FormLaws
+pub mod StatementLaws

@@ -1,7 +1,8 @@
-// The records of an image by what they mean: texts, list entries, the forms of expressions, contracts and calls. Every function
+// The records of an image by what they mean: texts, list entries, the forms of expressions and statements, contracts and calls. Every function
 // answers for every argument, by the image that bytes, starts and counts give (`imageFound`); a record that is not there is all 0.
 mod contracts;
 mod forms;
+mod statements;
 mod texts;
 
 pub use contracts::call_at;
@@ -9,5 +10,6 @@ pub use contracts::clause_at;
 pub use contracts::function_at;
 pub use contracts::param_at;
 pub use forms::form_at;
+pub use statements::statement_at;
 pub use texts::entry_at;
 pub use texts::text_at;

@@ -18,3 +18,4 @@ pub mod Statement
 pub mod Run
 pub mod Reading
 pub mod Functions
+pub mod Runner

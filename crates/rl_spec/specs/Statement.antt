@@ -5,6 +5,8 @@ use mathlib.Core.Option.{Option, none, some}
 use lib.Dec.{eqb}
 use Rattle.rl_spec.specs.declared.Section.the-variants.{Statements}
 use Rattle.rl_spec.specs.declared.Interval.{Interval}
+use Rattle.rl_spec.specs.declared.StatementForm.{StatementForm}
+use Rattle.rl_spec.specs.declared.StatementForm.the-variants.{Declaration, Expression, Return, ReturnAlone, Conditional, Branch as ABranch, While, Loop, Break, Continue, Other}
 use Rattle.rl_spec.specs.Bytes.{pick}
 use Rattle.rl_spec.specs.Image.{Rec, Image, recordOf, fieldOf, entryOf}
 use Rattle.rl_spec.specs.Tree.{Expr, number, descend, exprTree}
@@ -84,22 +86,40 @@ conditionBy im n = pick (eqb n 65535) none (some (exprTree im n))
 abbrev pub elseBy : (ℕ → Item) → ℕ → Else ℕ
 elseBy item n = pick (eqb n 65535) noElse (asElse (item n))
 
--- a record with the items of the statements before it; field 0 is the span
-unfoldable pub itemBy : Image → Rec → (ℕ → Item) → Item
-itemBy im r item =
-    pick (eqb (r .kind) 64) (aStatement (declaration (number r 1) (exprTree im (number r 3))))
-    (pick (eqb (r .kind) 65) (aStatement (expression (exprTree im (number r 1))))
-    (pick (eqb (r .kind) 66) (aStatement (return (exprTree im (number r 1))))
-    (pick (eqb (r .kind) 67) (aStatement returnAlone)
-    (pick (eqb (r .kind) 68) (aStatement (conditional (asBranch (item (number r 1))) (elseBy item (number r 2))))
-    (pick (eqb (r .kind) 69) (aBranch (branch (conditionBy im (number r 1)) (bodyBy im item (interval (fieldOf r 2)))))
-    (pick (eqb (r .kind) 70) (aStatement (while (exprTree im (number r 1)) (bodyBy im item (interval (fieldOf r 2)))))
-    (pick (eqb (r .kind) 71) (aStatement (loop (bodyBy im item (interval (fieldOf r 1)))))
-    (pick (eqb (r .kind) 77) (aStatement break)
-    (pick (eqb (r .kind) 78) (aStatement continue) (aStatement otherStatement))))))))))
+-- ---- the form of a record; field 0 is the span
+
+unfoldable pub statementBy : Rec → StatementForm
+statementBy r =
+    pick (eqb (r .kind) 64) (Declaration (number r 1) (number r 3))
+    (pick (eqb (r .kind) 65) (Expression (number r 1))
+    (pick (eqb (r .kind) 66) (Return (number r 1))
+    (pick (eqb (r .kind) 67) ReturnAlone
+    (pick (eqb (r .kind) 68) (Conditional (number r 1) (number r 2))
+    (pick (eqb (r .kind) 69) (ABranch (number r 1) (interval (fieldOf r 2)))
+    (pick (eqb (r .kind) 70) (While (number r 1) (interval (fieldOf r 2)))
+    (pick (eqb (r .kind) 71) (Loop (interval (fieldOf r 1)))
+    (pick (eqb (r .kind) 77) Break
+    (pick (eqb (r .kind) 78) Continue Other)))))))))
+
+abbrev pub statementOf : Image → ℕ → StatementForm
+statementOf im i = statementBy (recordOf im Statements i)
+
+-- a form with the items of the statements before it
+abbrev pub itemBy : Image → StatementForm → (ℕ → Item) → Item
+itemBy im (Declaration x n) item = aStatement (declaration x (exprTree im n))
+itemBy im (Expression n) item = aStatement (expression (exprTree im n))
+itemBy im (Return n) item = aStatement (return (exprTree im n))
+itemBy im ReturnAlone item = aStatement returnAlone
+itemBy im (Conditional b e) item = aStatement (conditional (asBranch (item b)) (elseBy item e))
+itemBy im (ABranch n list) item = aBranch (branch (conditionBy im n) (bodyBy im item list))
+itemBy im (While n list) item = aStatement (while (exprTree im n) (bodyBy im item list))
+itemBy im (Loop list) item = aStatement (loop (bodyBy im item list))
+itemBy im Break item = aStatement break
+itemBy im Continue item = aStatement continue
+itemBy im Other item = aStatement otherStatement
 
 unfoldable pub itemTree : Image → ℕ → Item
-itemTree im = descend (aStatement otherStatement) (λ i item. itemBy im (recordOf im Statements i) item)
+itemTree im = descend (aStatement otherStatement) (λ i item. itemBy im (statementOf im i) item)
 
 abbrev pub bodyTree : Image → Interval → Body ℕ
 bodyTree im list = bodyBy im (itemTree im) list

@@ -40,6 +40,10 @@ pub enum Cause {
     NoSuchNode,
     NoSuchCall,
     ReportsTooShort,
+    NoSuchFunction,
+    WrongValues,
+    NoSuchText,
+    BudgetOverLimit,
 }
 
 // What the reader answers.
@@ -239,4 +243,56 @@ pub struct Call {
     pub callee: u16,
     pub span: u32,
     pub args: Interval,
+}
+
+// What a record of the section of statements is to the runner; its parts by their indices, 65,535 for none.
+pub enum StatementForm {
+    Declaration { name: u16, value: u16 },
+    Expression(u16),
+    Return(u16),
+    ReturnAlone,
+    Conditional { branch: u16, other: u16 },
+    Branch { condition: u16, body: Interval },
+    While { condition: u16, body: Interval },
+    Loop(Interval),
+    Break,
+    Continue,
+    Other,
+}
+
+// A folded value or Null.
+pub enum Plain {
+    Null,
+    Const(ConstVal),
+}
+
+// A value of the runner.
+pub enum Value {
+    Plain(Plain),
+    Ok(Plain),
+    Err(Plain),
+}
+
+pub struct Argument {
+    pub value: Value,
+}
+
+// The values of the parameters: the first `count` of these.
+pub struct Arguments {
+    pub values: [Argument; 16],
+    pub count: u32,
+}
+
+// How a run ends.
+pub enum Outcome {
+    Returned(Value),
+    Stopped(Plain),
+    Fault(u8),
+    Spent,
+}
+
+// What the runner answers.
+pub enum RunAnswer {
+    Ran { outcome: Outcome, steps: u32 },
+    Refused { cause: Cause, place: usize },
 }

@@ -36,4 +36,6 @@ pub mod Texts
 pub mod TextRuns
 pub mod RunExamples
 pub mod Limits
+pub mod Heights
+pub mod Refusals
 pub mod Theorems

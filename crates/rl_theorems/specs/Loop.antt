@@ -64,7 +64,7 @@ keep-none c Calls w = refl
 -- ---- heights, and where records start
 
 module _ (im : Image) (o : Section) where
-  heights-kept : (rs : List Rec) (h : List ℕ) (n : ℕ) → n < length h → getD (heightsFrom im o rs h) n 0 ≡ getD h n 0
+  pub heights-kept : (rs : List Rec) (h : List ℕ) (n : ℕ) → n < length h → getD (heightsFrom im o rs h) n 0 ≡ getD h n 0
   unfolding heightsFrom
   heights-kept [] h n p = refl
   heights-kept (r ∷ rs) h n p =

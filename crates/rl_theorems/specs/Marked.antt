@@ -1,6 +1,6 @@
 -- The marked cases as one list, from the bytes of small images; and the printer's example.
 -- Assumes nothing.
-use Prim.Native.Nat.{ℕ, _-_, _≤_, _<_}
+use Prim.Native.Nat.{ℕ, _+_, _-_, _≤_, _<_}
 use Prim.Native.String.{String}
 use mathlib.Core.Path.{_≡_, refl, subst, _∙_}
 use mathlib.Core.Bool.{true}
@@ -26,16 +26,22 @@ use Rattle.rl_spec.specs.Bytes.{numAt, u16At, u32At, past}
 use Rattle.rl_spec.specs.Fields.{zeros, kindOfStatement, allowed, childHeight, entryAt, rangeOf, partOf, byteIn, operandSortOf, referTo, referOrNone, entriesFrom, listOf, operandOf, valueOf, fieldAt, fieldsFrom, recordAt}
 use Rattle.rl_spec.specs.Read.{countsOf, countsFrom, headerOf, recordsFrom, sectionsFrom, endOf, bodyOf, readOf, answerOf}
 use Rattle.rl_spec.specs.Image.{Image, textOf, sizeOf, bytesOf, encodeFields, encodeRecord, encodeRecords, encodeSections, encodeCounts, encode, imageOf, sectionsIn, recordsIn, recordIn, nextAt, endAt, fieldsAt, widthsOf, WellFormed}
+use Rattle.rl_spec.specs.Values as value
 use Rattle.rl_spec.specs.Values.{int, compareValues, compareFloats, compareBools, lessText, sameText, arithValues, negate}
 use Rattle.rl_spec.specs.Tree.{ascii, formBy, descendBy, descend, exprTree}
 use Rattle.rl_spec.specs.Fold.{Binding, unaryValue, unaryFolded, binaryValue, binaryFolded, lookup, constEval, foldOf}
 use Rattle.rl_spec.specs.Records.{paramAt, clauseAt, functionAt, callAt}
 use Rattle.rl_spec.specs.Contracts.{paramOf, clauseOf, upFrom, contractsOf, anyRefined, isCallee, calleeAmong, calleeOf, argumentsOf}
 use Rattle.rl_spec.specs.Prove.{bindArguments, refineBound, refutes, failsAt, failedRefinements, failedRequires, proveCall, violationsOf, reportEntries, callEntries, allEntries, proveOf, reportsOf, proveAllOf, allReportsOf}
+use Rattle.rl_spec.specs.Statement.{statementBy, itemTree}
+use Rattle.rl_spec.specs.Run.{folded, plain, Outcome, returned, find, eval}
+use Rattle.rl_spec.specs.Reading.{checks, stmt, top, reading}
+use Rattle.rl_spec.specs.Functions.{mapExpr, mapBody, refinementChecks, contractFunction}
 use Rattle.rl_spec.specs.Message.{decimalBy, decimal, messageBy, opening, messageOf}
 use Rattle.rl_theorems.specs.Known.{counts}
 use Rattle.rl_theorems.specs.Answers.{proved-encoded, reports-encoded, all-proved-encoded, all-reports-encoded, fitting-room, slice-room, areBytes, well-formed-by, folded-longer}
-use Rattle.rl_theorems.specs.MarkedImages.{integer, uint, byte, string, bool, float, binary, unary, grouping, plus, minus, slash, compare, less, textBytes, textRecords, nodes, lastNode, named-before, named-behind, flow}
+use Rattle.rl_theorems.specs.Budget.{reading-steady}
+use Rattle.rl_theorems.specs.MarkedImages.{integer, uint, byte, string, bool, float, binary, unary, grouping, plus, minus, slash, compare, less, textBytes, textRecords, nodes, lastNode, named-before, named-behind, returns-true, flow}
 
 -- ---- what a case says
 
@@ -52,6 +58,12 @@ pub record Reports (im : Image) (call : ℕ) (v : Violation) (report : List ℕ)
   pub image : imageOf (encode im) ≡ im
   pub answer : (k room : ℕ) → 8192 ≤ k → 4 ≤ room → proveOf (encode im) k call room ≡ Proved 1
   pub slice : (k room : ℕ) → 8192 ≤ k → 4 ≤ room → reportsOf (encode im) k call room ≡ report ++ replicate (room - 4) 0
+
+pub record ReadsAs (im : Image) (f : ℕ) (o : Outcome (List ℕ)) (steps : ℕ) : Type 0 where
+  -- the image is the one that its bytes stand for
+  pub image : imageOf (encode im) ≡ im
+  -- with any budget that is enough, the contract reading of the function comes to this outcome in so many steps
+  pub outcome : (k : ℕ) → reading (λ t. t) (ascii "ret") (contractFunction im f) [] (steps + k) ≡ (o, steps)
 
 -- the names found in the first pass over a call of the f-th function
 abbrev pub namesFound : Image → ℕ → ℕ → List (Binding ℕ)
@@ -84,7 +96,8 @@ pub record MarkedCases : Type 0 where
   pub case12 : (lookup (textOf named-before) (namesFound named-before 0 0) 2 ≡ some (int (pos 1))) × Reports named-before 0 (Requires 0) (0 ∷ 10 ∷ 1 ∷ 0 ∷ []) "contract violation (proven at compile time): b is 1"
   -- 13. f(y, 5), parameters x > 9 and y: reported
   pub case13 : Reports named-behind 0 (Refinement 0) (0 ∷ 10 ∷ 0 ∷ 0 ∷ []) "contract violation (proven at compile time): refinement failed: x > 9"
-  -- 14: to come with the runner
+  -- 14. `return true` under ensures `ret`: 9 steps
+  pub case14 : ReadsAs returns-true 0 (returned (plain (folded (value.bool true)))) 9
 
 -- ---- the printer's example: its two reports, and no others
 
@@ -116,11 +129,11 @@ module _ (im : Image) (b : areBytes (encode im) ≡ true) (a : answerOf (encode 
             rw (reports-encoded im well-formed k long call room l, c, slice-room room report (omega arith), n);
       }
 
--- ---- by computation. What it opens of reading, of folding and of proving:
+-- ---- by computation. What it opens of decoding, of folding, of proving and of reading contracts:
 
-reading : Unit {0}
+decoding : Unit {0}
 unfolding textBytes textRecords ascii encode encodeCounts encodeSections encodeRecords encodeRecord encodeFields bytesOf fieldsOf fieldsIn schema sortOf answerOf readOf headerOf countsFrom limits countsOf bodyOf endOf sectionsFrom sections recordsFrom recordAt inSection fieldsFrom fieldAt valueOf referTo referOrNone allowed kindOfStatement childHeight entryAt entriesFrom listOf rangeOf partOf byteIn operandSortOf operandOf zeros past u16At u32At numAt utf8 octets charWidth widthBy begins utf8Char within imageOf sectionsIn recordsIn recordIn nextAt endAt fieldsAt widthsOf
-reading = tt
+decoding = tt
 
 folding : Unit {0}
 unfolding formBy descendBy descend exprTree foldOf unaryValue unaryFolded binaryValue binaryFolded lookup constEval compareValues compareFloats compareBools lessText sameText arithValues negate F.ofInt F.round F.ofBits F.ofFields F.odd F.units F.size F.climb F.span F.eq F.lt F.isNan F.neg
@@ -130,9 +143,13 @@ proving : Unit {0}
 unfolding paramAt clauseAt functionAt callAt paramOf clauseOf upFrom contractsOf anyRefined isCallee calleeAmong calleeOf argumentsOf bindArguments refineBound refutes failsAt failedRefinements failedRequires proveCall violationsOf reportEntries callEntries allEntries decimalBy decimal messageBy opening messageOf
 proving = tt
 
+running : Unit {0}
+unfolding statementBy itemTree mapExpr mapBody refinementChecks contractFunction find eval checks stmt top reading
+running = tt
+
 -- THEOREMS
 pub marked-cases : MarkedCases
-unfolding reading folding proving
+unfolding decoding folding proving running
 marked-cases =
     record {
       case1 = folds refl refl refl;
@@ -146,10 +163,15 @@ marked-cases =
       case9 = folds refl refl refl;
       case12 = (refl, reports named-before refl refl refl (lit< tt) refl refl refl refl);
       case13 = reports named-behind refl refl refl (lit< tt) refl refl refl refl;
+      case14 =
+          record {
+            image = refl;
+            outcome = λ k. reading-steady (λ t. t) (ascii "ret") (contractFunction returns-true 0) [] 9 k tt;
+          };
     }
 
 pub printer-example : PrinterExample
-unfolding reading folding proving
+unfolding decoding folding proving
 printer-example =
     record {
       first = reports flow refl refl refl (lit< tt) refl refl refl refl;

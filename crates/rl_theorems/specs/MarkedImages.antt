@@ -172,6 +172,21 @@ named-behind =
       calls = call 0 10 (pair 0 2) ∷ [];
     }
 
+-- f(), whose body is `return true`, ensures `ret` without a message
+abbrev pub returns-true : Image
+returns-true =
+    build
+    record {
+      texts = "f" ∷ "ret" ∷ [];
+      lists = 0 ∷ [];
+      expressions = bool 1 ∷ identifier 1 ∷ [];
+      statements = made 66 (num 5 ∷ num 0 ∷ []) ∷ [];
+      parameters = [];
+      clauses = clause 1 65535 ∷ [];
+      functions = function 0 1 (pair 0 0) (pair 0 1) (pair 0 0) (pair 0 1) ∷ [];
+      calls = [];
+    }
+
 -- open(flow), flow >= 1, requires flow < 4096 else "flow id range", calls open(0) and open(5000): the image of samples/flow.txt
 abbrev pub flow : Image
 flow =

@@ -57,7 +57,9 @@ use Rattle.rl_theorems.specs.Budget as Budget
 use Rattle.rl_theorems.specs.Texts as Texts
 use Rattle.rl_theorems.specs.TextRuns as TextRuns
 use Rattle.rl_theorems.specs.RunExamples as RunExamples
+use Rattle.rl_theorems.specs.Heights as Heights
 use Rattle.rl_theorems.specs.Marked as Marked
+use Rattle.rl_laws.specs.Heights.{exprHeight}
 
 -- ---- text (Utf8): the syntax of RFC 3629 admits the encodings of scalars and nothing else
 
@@ -83,6 +85,11 @@ accepted-work = Well.accepted-work
 -- with a work slice of 8,192 entries or more, accepted are exactly the encodings of well-formed images
 pub accepted-exactly : (s : List ℕ) (k : ℕ) → AllBytes s → 8192 ≤ k → ((a : ArenaNo) × (c : Counts) × (answerOf s k ≡ Accepted a c)) ↔ ((im : Image) × WellFormed im × (encode im ≡ s))
 accepted-exactly = Well.accepted-exactly
+
+-- ---- no expression of a well-formed image stands for a tree of more than 68 levels (Heights)
+
+pub trees-low : (im : Image) → WellFormed im → (i : ℕ) → exprHeight (exprTree im i) ≤ 68
+trees-low = Heights.trees-low
 
 -- ---- the encoding of a well-formed image is accepted and stands for that image (Encoded; EncodedExample has one). `counts im` are the
 -- sizes of its sections

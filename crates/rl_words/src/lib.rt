@@ -1,5 +1,6 @@
 // Values as two words, a sort and a payload, and back.
 mod literals;
+mod values;
 
 pub use literals::float32;
 pub use literals::float64;
@@ -9,6 +10,9 @@ pub use literals::unsigned64;
 use rl_spec::ConstVal;
 use rl_spec::Folded;
 use rl_values::magnitude;
+pub use values::value_of_words;
+pub use values::value_payload;
+pub use values::value_sort;
 ghost use mathlib.Core.Path.{_≡_};
 ghost use lib.Ieee.{toBits, ofBits, binary64};
 ghost use Rattle.rl_spec.specs.Tree.{signed};

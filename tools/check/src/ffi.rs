@@ -29,6 +29,18 @@ extern "C" {
         reports: *mut u32,
         reports_len: usize,
     ) -> u64;
+    fn rl_run(
+        image: *const u8,
+        image_len: usize,
+        work: *mut u16,
+        work_len: usize,
+        function: u32,
+        values: *const u64,
+        values_len: usize,
+        budget: u32,
+        outcome: *mut u64,
+        outcome_len: usize,
+    ) -> u64;
 }
 
 /// A refusal's number, 0 without one, and the low half of the answer: the
@@ -94,6 +106,31 @@ pub fn prove_all(image: &[u8], work: &mut [u16], reports: &mut [u32]) -> Answer 
             work.len(),
             reports.as_mut_ptr(),
             reports.len(),
+        )
+    })
+}
+
+/// Runs a function; `work` and `outcome` are overwritten whole.
+pub fn run(
+    image: &[u8],
+    work: &mut [u16],
+    function: u32,
+    values: &[u64],
+    budget: u32,
+    outcome: &mut [u64],
+) -> Answer {
+    Answer::of(unsafe {
+        rl_run(
+            image.as_ptr(),
+            image.len(),
+            work.as_mut_ptr(),
+            work.len(),
+            function,
+            values.as_ptr(),
+            values.len(),
+            budget,
+            outcome.as_mut_ptr(),
+            outcome.len(),
         )
     })
 }

@@ -2,6 +2,8 @@
 
 pub mod ffi;
 pub mod images;
+pub mod runs;
+pub mod slices;
 pub mod timing;
 
 use ffi::Answer;

@@ -6,8 +6,10 @@ use crate::schema::Section;
 use std::collections::HashMap;
 use Folded::{Bool, Float, Int, Str};
 
-/// A folded value; a text by its number.
+/// A folded value; a text by its number. The tag has a word of its own, so
+/// that values are copied by words.
 #[derive(Debug, Clone, Copy, PartialEq)]
+#[repr(u64)]
 pub enum Folded {
     Int(i64),
     Float(f64),
@@ -58,7 +60,8 @@ fn value(image: &Image, names: &Names, before: &[Option<Folded>], node: &Record)
     }
 }
 
-fn unary(operator: u64, operand: Folded) -> Option<Folded> {
+/// What a unary operator makes of a value.
+pub fn unary(operator: u64, operand: Folded) -> Option<Folded> {
     match (operator, operand) {
         (2, Int(value)) => i64::try_from(-i128::from(value)).ok().map(Int),
         (2, Float(value)) => Some(Float(-value)),
@@ -67,7 +70,8 @@ fn unary(operator: u64, operand: Folded) -> Option<Folded> {
     }
 }
 
-fn binary(image: &Image, operator: u64, left: Folded, right: Folded) -> Option<Folded> {
+/// What a binary operator makes of two values.
+pub fn binary(image: &Image, operator: u64, left: Folded, right: Folded) -> Option<Folded> {
     match operator {
         1..=4 => arithmetic(operator, left, right),
         6..=11 => verdict(image, operator, left, right).map(Bool),
@@ -116,6 +120,17 @@ pub fn verdict(image: &Image, operator: u64, left: Folded, right: Folded) -> Opt
         10 => order.is_gt(),
         _ => order.is_ge(),
     })
+}
+
+/// A value as a lent slice has it, its sort first; zeros for none.
+pub fn words(value: Option<Folded>) -> [u64; 2] {
+    match value {
+        None => [0, 0],
+        Some(Int(value)) => [1, value as u64],
+        Some(Float(value)) => [2, value.to_bits()],
+        Some(Str(text)) => [3, u64::from(text)],
+        Some(Bool(value)) => [4, u64::from(value)],
+    }
 }
 
 impl Folded {

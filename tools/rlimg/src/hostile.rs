@@ -39,7 +39,7 @@ fn double(builder: &mut Builder, mut node: u16, times: usize) -> u16 {
 }
 
 /// Joins all by an operator, as flat as it can be.
-fn joined(builder: &mut Builder, operator: u16, mut nodes: Vec<u16>) -> u16 {
+pub(crate) fn joined(builder: &mut Builder, operator: u16, mut nodes: Vec<u16>) -> u16 {
     while nodes.len() > 1 {
         let mut above = Vec::new();
         for pair in nodes.chunks(2) {
@@ -119,19 +119,19 @@ pub fn worst_call() -> Image {
     builder.image
 }
 
-/// 2,048 texts of 14,336 bytes, of which no two differ before the last 2,048.
-fn long() -> Builder {
+/// So many texts, as long as can be, that differ in as many last bytes alone.
+pub(crate) fn long(count: usize) -> Builder {
     let mut builder = Builder::new(1);
-    let length = LIMITS[0] - LIMITS[1];
-    builder.image.text = ["a".repeat(length), "b".repeat(LIMITS[1])].concat().into_bytes();
-    builder.image.texts = (0..LIMITS[1]).map(|text| (text as u16, length as u16)).collect();
+    let length = LIMITS[0] - count;
+    builder.image.text = ["a".repeat(length), "b".repeat(count)].concat().into_bytes();
+    builder.image.texts = (0..count).map(|text| (text as u16, length as u16)).collect();
     builder
 }
 
 /// A worst call over one sum of so many names, at most 1,024; the parameters'
 /// names are long texts.
 pub fn long_names(count: usize) -> Image {
-    let mut builder = long();
+    let mut builder = long(LIMITS[1]);
     let names: Vec<u16> = (0..MOST as u16).collect();
     let name = |leaf: usize| builder.node(0, "Identifier", &[names[leaf % BOUND].into()]);
     let leaves = (0..count).map(name).collect();
@@ -142,7 +142,7 @@ pub fn long_names(count: usize) -> Image {
 
 /// A worst call over so many comparisons of long texts, at most 1,024.
 pub fn long_texts(count: usize) -> Image {
-    let mut builder = long();
+    let mut builder = long(LIMITS[1]);
     let mut string = |text: usize| builder.node(0, "String", &[(text as u16).into()]);
     let strings: Vec<u16> = (0..=count).map(&mut string).collect();
     let pairs = strings.windows(2);

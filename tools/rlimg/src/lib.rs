@@ -1,9 +1,12 @@
-//! The image format: records, bytes, text form, an independent reader, folder
-//! and prover, and generators of accepted and damaged images and of contracts.
+//! The image format: records, bytes, text form, an independent reader, folder,
+//! prover and runner, and generators of accepted and damaged images, of
+//! contracts and of functions to be run.
 
 pub mod builder;
+pub mod code;
 pub mod damage;
 pub mod decode;
+pub mod deep;
 pub mod edges;
 pub mod encode;
 pub mod fold;
@@ -14,5 +17,7 @@ pub mod random;
 pub mod reader;
 pub mod rng;
 pub mod rules;
+pub mod run;
+pub mod runs;
 pub mod schema;
 pub mod text;

@@ -5,7 +5,7 @@
 mod nodes;
 mod values;
 
-pub use values::{literals, Literal, EDGES, NANS, SORTS};
+pub use values::{float, integer, literals, Literal, EDGES, NANS, SORTS};
 
 use crate::builder::{Builder, Function, Operand};
 use crate::image::{Image, Value, EXPRESSION_HEIGHT};

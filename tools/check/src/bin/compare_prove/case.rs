@@ -77,7 +77,7 @@ impl Case {
             None => refused(16),
             Some(value) => {
                 let answer = Answer { number: 0, place: 0 };
-                Expected { answer, output: words_of(*value).to_vec() }
+                Expected { answer, output: fold::words(*value).to_vec() }
             }
         }
     }
@@ -99,16 +99,5 @@ impl Case {
         }
         let answer = Answer { number: 0, place: reports.len() as u32 };
         Expected { answer, output: reports.concat() }
-    }
-}
-
-/// A value as the lent slice has it.
-fn words_of(value: Option<Folded>) -> [u64; 2] {
-    match value {
-        None => [0, 0],
-        Some(Folded::Int(value)) => [1, value as u64],
-        Some(Folded::Float(value)) => [2, value.to_bits()],
-        Some(Folded::Str(text)) => [3, u64::from(text)],
-        Some(Folded::Bool(value)) => [4, u64::from(value)],
     }
 }

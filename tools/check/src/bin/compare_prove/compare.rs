@@ -4,15 +4,12 @@
 use crate::case::{Case, Expected};
 use check::ffi::{self, Answer};
 use check::said;
+use check::slices::{check_slice, lend, Lent, GARBAGE};
 use rlimg::image::WORK;
 use rlimg::rng::Rng;
 use std::collections::BTreeMap;
 use std::fmt::Debug;
 
-/// Entries behind a lent slice, which must stay as they are.
-const GUARD: usize = 16;
-/// What the lent slices hold before each call.
-const GARBAGE: (u16, u32, u64) = (0xabcd, 0xabcd_ef01, 0xabcd_ef01_2345_6789);
 /// The most nodes that the original may visit for an image.
 const STEPS: u64 = 100_000;
 
@@ -231,12 +228,6 @@ impl Comparison {
     }
 }
 
-/// Fills a slice of that length, and what stands behind it.
-fn lend<T: Copy>(slice: &mut Vec<T>, length: usize, garbage: T) {
-    slice.clear();
-    slice.resize(length + GUARD, garbage);
-}
-
 /// Gives the value's sort; a NaN may have any bits, so they become those that
 /// are expected.
 fn same_nan(expected: &[u64], value: &mut [u64]) -> usize {
@@ -253,8 +244,6 @@ fn same_nan(expected: &[u64], value: &mut [u64]) -> usize {
     }
 }
 
-type Lent<'a, T> = (&'a Vec<T>, usize, T);
-
 fn check_output<T: Copy + PartialEq + Default + Debug>(
     expected: &Expected<T>,
     answer: Answer,
@@ -266,27 +255,4 @@ fn check_output<T: Copy + PartialEq + Default + Debug>(
         return Err(format!("{ours}, expected {number} with {place}"));
     }
     check_slice("output", &expected.output, lent)
-}
-
-/// The slice starts as expected, is zero from there on, and nothing has been
-/// written behind it.
-fn check_slice<T: Copy + PartialEq + Default + Debug>(
-    name: &str,
-    expected: &[T],
-    (slice, length, garbage): Lent<T>,
-) -> Result<(), String> {
-    let (used, rest) = slice.split_at(expected.len());
-    let (zeros, guard) = rest.split_at(length - used.len());
-    if used != expected {
-        let differs = used.iter().zip(expected).position(|(ours, theirs)| ours != theirs);
-        let at = differs.unwrap_or_default();
-        return Err(format!("{name}: {:?}, expected {:?}, entry {at}", used[at], expected[at]));
-    }
-    if zeros.iter().any(|entry| *entry != T::default()) {
-        return Err(format!("{name}: not zero from entry {} on", used.len()));
-    }
-    if guard.iter().any(|entry| *entry != garbage) {
-        return Err(format!("{name}: written behind its end"));
-    }
-    Ok(())
 }

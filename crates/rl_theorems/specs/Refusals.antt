@@ -9,7 +9,7 @@ use borrow.Author.Tests.{ne-eqb}
 use Rattle.rl_spec.specs.declared.Answer.{Answer}
 use Rattle.rl_spec.specs.declared.Answer.the-variants.{Accepted, Refused}
 use Rattle.rl_spec.specs.declared.Cause.{Cause}
-use Rattle.rl_spec.specs.declared.Cause.the-variants.{ImageTooLong, WorkTooShort, BytesEnd, WrongKind, CountOverLimit, BadText, BadValue, BadReference, TooHigh, BytesLeft, OtherArena, NoSuchNode, NoSuchCall, ReportsTooShort}
+use Rattle.rl_spec.specs.declared.Cause.the-variants.{ImageTooLong, WorkTooShort, BytesEnd, WrongKind, CountOverLimit, BadText, BadValue, BadReference, TooHigh, BytesLeft, OtherArena, NoSuchNode, NoSuchCall, ReportsTooShort, NoSuchFunction, WrongValues, NoSuchText, BudgetOverLimit}
 use Rattle.rl_spec.specs.Read.{Out, good, bad, numberOf, answerBy, workBy, readOf, answerOf, workOf}
 use Rattle.rl_spec.specs.Fold.{workUnless}
 
@@ -28,6 +28,10 @@ not-zero OtherArena e = omega arith
 not-zero NoSuchNode e = omega arith
 not-zero NoSuchCall e = omega arith
 not-zero ReportsTooShort e = omega arith
+not-zero NoSuchFunction e = omega arith
+not-zero WrongValues e = omega arith
+not-zero NoSuchText e = omega arith
+not-zero BudgetOverLimit e = omega arith
 
 -- what is refused leaves zeros
 pub zeros-unless : (q : Cause) (s : List ℕ) (k : ℕ) → replicate k 0 ≡ workUnless (numberOf q) s k

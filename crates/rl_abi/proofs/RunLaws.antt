@@ -1,0 +1,114 @@
+-- The ways out of `rl_run`. Assumes nothing.
+use Prim.Native.Nat.{ℕ, _-_, _≤_}
+use mathlib.Core.Path.{_≡_, refl, ap, _∙_, sym, subst}
+use mathlib.Core.Bool.{Bool, true, false, not, _||_}
+use mathlib.Core.List.{List, _++_}
+use native.Mathlib.Omega.{arith}
+use lib.Dec.{ltb}
+use lib.ListN.{replicate}
+use borrow.Author.Tests.{ltb-false}
+use Rattle.rl_spec.specs.declared.Answer.{Answer}
+use Rattle.rl_spec.specs.declared.Answer.the-variants as read
+use Rattle.rl_spec.specs.declared.Arguments.{Arguments}
+use Rattle.rl_spec.specs.declared.Cause.{Cause}
+use Rattle.rl_spec.specs.declared.Cause.the-variants.{NoSuchFunction, WrongValues, NoSuchText, BudgetOverLimit}
+use Rattle.rl_spec.specs.declared.Outcome.{Outcome}
+use Rattle.rl_spec.specs.declared.RunAnswer.{RunAnswer}
+use Rattle.rl_spec.specs.declared.RunAnswer.the-variants.{Ran, Refused}
+use Rattle.rl_spec.specs.Bytes.{pick}
+use Rattle.rl_spec.specs.Read.{numberOf, answerOf}
+use Rattle.rl_spec.specs.Image.{imageOf}
+use Rattle.rl_spec.specs.Fold.{workUnless}
+use Rattle.rl_spec.specs.Records.{functionAt}
+use Rattle.rl_spec.specs.Runner.{isFor, allHave, given, ranIn, runBy, runOf, runNumber}
+use Rattle.rl_abi.specs.Boundary.{above, areValues, argumentsOf, outcomeWords, isBadCall, runAnswer, runOutcome, runWork}
+use Rattle.rl_theorems.specs.Places.{place-small}
+
+-- ---- which calls are bad
+
+pub bad-values : (words : List ℕ) (room : ℕ) (b : Bool) → b ≡ areValues words → b ≡ false → true ≡ isBadCall words room
+bad-values words room b e f = sym (ap (λ x. not x || ltb room 4) (sym e ∙ f))
+
+pub short-outcome : (words : List ℕ) (room : ℕ) (b : Bool) → b ≡ areValues words → b ≡ true → ltb room 4 ≡ isBadCall words room
+short-outcome words room b e f = sym (ap (λ x. not x || ltb room 4) (sym e ∙ f))
+
+or-false : (b c : Bool) → (b || c) ≡ false → c ≡ false
+or-false true c e = absurd (subst IsTrue e tt)
+  where
+    IsTrue : Bool → Type 0
+    IsTrue true = Unit {0}
+    IsTrue false = ⊥
+or-false false c e = e
+
+-- ---- the place of a refusal
+
+run-place : (s : List ℕ) (k f : ℕ) (args : Arguments) (budget : ℕ) (q : Cause) (p : ℕ) → runOf s k f args budget ≡ Refused q p → p ≤ 65535
+unfolding runOf ranIn
+run-place s k f args budget q p h = go (answerOf s k) refl h
+  where
+    place : RunAnswer → ℕ
+    place (Ran o n) = 0
+    place (Refused c n) = n
+
+    chosen : (w x y z : Bool) (r : RunAnswer) → place r ≡ 0
+        → place (pick w (Refused NoSuchFunction 0) (pick x (Refused WrongValues 0) (pick y (Refused NoSuchText 0) (pick z (Refused BudgetOverLimit 0) r)))) ≡ 0
+    chosen true x y z r e = refl
+    chosen false true y z r e = refl
+    chosen false false true z r e = refl
+    chosen false false false true r e = refl
+    chosen false false false false r e = e
+
+    go : (a : Answer) → answerOf s k ≡ a → runBy s f args budget a ≡ Refused q p → p ≤ 65535
+    go (read.Refused c n) e g = let m : n ≡ p = ap place g in omega (arith, place-small s k c n e)
+    go (read.Accepted m c) e g =
+        let z : 0 ≡ p = sym (chosen (not (ltb f (c .functions))) (not (isFor (args .count) (functionAt (imageOf s) f .params .count))) (not (allHave c (given args))) (ltb 1000000 budget) (ranIn (imageOf s) f (given args) budget) refl) ∙ ap place g in
+        omega arith
+
+-- ---- the ways out
+
+module _ (s : List ℕ) (k f : ℕ) (words : List ℕ) (budget room : ℕ) (b : Bool) (g : b ≡ isBadCall words room) where
+  module _ (h : b ≡ true) where
+    pub run-bad : 429496729600 ≡ runAnswer s k f words budget room
+    unfolding runAnswer
+    run-bad = rw (sym g ∙ h) refl
+
+    pub run-bad-outcome : (l : List ℕ) → l ≡ replicate room 0 → l ≡ runOutcome s k f words budget room
+    unfolding runOutcome
+    run-bad-outcome l e = rw (sym g ∙ h) e
+
+    pub run-bad-work : (w : List ℕ) → w ≡ replicate k 0 → w ≡ runWork s k f words budget room
+    unfolding runWork
+    run-bad-work w e = rw (sym g ∙ h) e
+
+  module _ (h : b ≡ false) where
+    pub run-room : 4 ≤ room
+    run-room = ltb-false room 4 (or-false (not (areValues words)) (ltb room 4) (sym g ∙ h))
+
+    module _ (args : Arguments) (d : args ≡ argumentsOf words) (a : RunAnswer) (e : a ≡ runOf s k f args budget) where
+      abbrev whole : a ≡ runOf s k f (argumentsOf words) budget
+      whole = e ∙ ap (λ x. runOf s k f x budget) d
+
+      pub run-work : (w : List ℕ) → w ≡ workUnless (runNumber (runOf s k f args budget)) s k → w ≡ runWork s k f words budget room
+      unfolding runWork
+      run-work w y = rw (sym g ∙ h) (y ∙ ap (λ x. workUnless (runNumber (runOf s k f x budget)) s k) d)
+
+      module _ (q : Cause) (p : ℕ) (y : a ≡ Refused q p) where
+        pub run-refused-place : p ≤ 65535
+        run-refused-place = run-place s k f args budget q p (sym e ∙ y)
+
+        pub run-refused : (r : ℕ) → r ≡ above (numberOf q) p → r ≡ runAnswer s k f words budget room
+        unfolding runAnswer
+        run-refused r z = rw (sym g ∙ h, ← whole, y) z
+
+        pub run-refused-outcome : (l : List ℕ) → l ≡ replicate room 0 → l ≡ runOutcome s k f words budget room
+        unfolding runOutcome
+        run-refused-outcome l z = rw (sym g ∙ h, ← whole, y) z
+
+      module _ (o : Outcome) (n : ℕ) (y : a ≡ Ran o n) where
+        pub run-ran : 0 ≡ runAnswer s k f words budget room
+        unfolding runAnswer
+        run-ran = rw (sym g ∙ h, ← whole, y) refl
+
+        pub run-ran-outcome : (l : List ℕ) → l ≡ outcomeWords o n ++ replicate (room - 4) 0 → l ≡ runOutcome s k f words budget room
+        unfolding runOutcome
+        run-ran-outcome l z = rw (sym g ∙ h, ← whole, y) z

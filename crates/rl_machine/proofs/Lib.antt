@@ -1,0 +1,4 @@
+pub mod Results
+pub mod EnterLaws
+pub mod ResumeLaws
+pub mod BeginLaws

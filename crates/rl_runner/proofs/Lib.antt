@@ -1,0 +1,5 @@
+pub mod Arrays
+pub mod AdmissionLaws
+pub mod BoundLaws
+pub mod EndLaws
+pub mod RunLaws

@@ -1,0 +1,6 @@
+// The runner: reads an image, and runs one of its functions within a budget of steps.
+mod admission;
+mod bound;
+mod running;
+
+pub use running::run;
