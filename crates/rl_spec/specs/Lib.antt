@@ -19,3 +19,5 @@ pub mod Run
 pub mod Reading
 pub mod Functions
 pub mod Runner
+pub mod Make
+pub mod Lower

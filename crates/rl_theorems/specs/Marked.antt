@@ -131,15 +131,15 @@ module _ (im : Image) (b : areBytes (encode im) ≡ true) (a : answerOf (encode 
 
 -- ---- by computation. What it opens of decoding, of folding, of proving and of reading contracts:
 
-decoding : Unit {0}
+unfoldable pub decoding : Unit {0}
 unfolding textBytes textRecords ascii encode encodeCounts encodeSections encodeRecords encodeRecord encodeFields bytesOf fieldsOf fieldsIn schema sortOf answerOf readOf headerOf countsFrom limits countsOf bodyOf endOf sectionsFrom sections recordsFrom recordAt inSection fieldsFrom fieldAt valueOf referTo referOrNone allowed kindOfStatement childHeight entryAt entriesFrom listOf rangeOf partOf byteIn operandSortOf operandOf zeros past u16At u32At numAt utf8 octets charWidth widthBy begins utf8Char within imageOf sectionsIn recordsIn recordIn nextAt endAt fieldsAt widthsOf
 decoding = tt
 
-folding : Unit {0}
+unfoldable pub folding : Unit {0}
 unfolding formBy descendBy descend exprTree foldOf unaryValue unaryFolded binaryValue binaryFolded lookup constEval compareValues compareFloats compareBools lessText sameText arithValues negate F.ofInt F.round F.ofBits F.ofFields F.odd F.units F.size F.climb F.span F.eq F.lt F.isNan F.neg
 folding = tt
 
-proving : Unit {0}
+unfoldable pub proving : Unit {0}
 unfolding paramAt clauseAt functionAt callAt paramOf clauseOf upFrom contractsOf anyRefined isCallee calleeAmong calleeOf argumentsOf bindArguments refineBound refutes failsAt failedRefinements failedRequires proveCall violationsOf reportEntries callEntries allEntries decimalBy decimal messageBy opening messageOf
 proving = tt
 

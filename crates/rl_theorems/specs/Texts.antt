@@ -66,12 +66,12 @@ cond-at g {b = b} {x′ = x′} {y′ = y′} e p q = ap (λ c. cond c x′ y′
 -- ---- operators on values
 
 module _ {A B : Type 0} (f : A → B) where
-  abbrev mapMaybe : Option (ConstVal A) → Option (ConstVal B)
+  abbrev pub mapMaybe : Option (ConstVal A) → Option (ConstVal B)
   mapMaybe o = mapOption f (mapConst f) o
 
   -- the second is the first, mapped
-  record Maps (x : Option (ConstVal A)) (x′ : Option (ConstVal B)) : Type 0 where
-    is : x′ ≡ mapMaybe x
+  pub record Maps (x : Option (ConstVal A)) (x′ : Option (ConstVal B)) : Type 0 where
+    pub is : x′ ≡ mapMaybe x
 
   picks : (b : Bool) {x y : Option (ConstVal A)} {x′ y′ : Option (ConstVal B)} → Maps x x′ → Maps y y′ → Maps (pick b x y) (pick b x′ y′)
   picks true p q = p
@@ -128,7 +128,7 @@ module _ {A B : Type 0} (f : A → B) where
   negate-same (value.str x) = refl
   negate-same (value.bool x) = refl
 
-  unary-same : (op : ℕ) (x : ConstVal A) → unaryValue op (mapConst f x) ≡ mapMaybe (unaryValue op x)
+  pub unary-same : (op : ℕ) (x : ConstVal A) → unaryValue op (mapConst f x) ≡ mapMaybe (unaryValue op x)
   unfolding unaryValue
   unary-same op x = picks (eqb op 5) (record { is = bang-same x }) (picks (eqb op 2) (record { is = negate-same x }) nones) .is
 
@@ -168,7 +168,7 @@ module _ {A B : Type 0} (f : A → B) (bytesA : A → List ℕ) (bytesB : B → 
   ariths : (op : ArithOp) (x y : ConstVal A) → Maps f (arithValues op x y) (arithValues op (mapConst f x) (mapConst f y))
   ariths op x y = record { is = arith-same f op x y }
 
-  binaries : (op : ℕ) (x y : ConstVal A) → Maps f (binaryValue bytesA op x y) (binaryValue bytesB op (mapConst f x) (mapConst f y))
+  pub binaries : (op : ℕ) (x y : ConstVal A) → Maps f (binaryValue bytesA op x y) (binaryValue bytesB op (mapConst f x) (mapConst f y))
   unfolding binaryValue
   binaries op x y =
       picks f (eqb op 6) (verdicts eq x y)

@@ -3,6 +3,7 @@
 use Prim.Native.Nat.{ℕ, _+_, _-_, _*_, _^_, _≤_, _<_}
 use mathlib.Core.Path.{_≡_}
 use mathlib.Core.Bool.{Bool, true, false}
+use mathlib.Core.Option.{some}
 use mathlib.Core.List.{List, [], _++_, map}
 use mathlib.Core.Logic.{_⊎_, _↔_}
 use lib.ListN.{length, getD, take, drop, replicate}
@@ -30,13 +31,14 @@ use Rattle.rl_spec.specs.Read.{answerOf, workOf, startsOf}
 use Rattle.rl_spec.specs.Image.{Image, encode, imageOf, entryOf, textOf, sizeOf, heights, AllBytes, WellFormed}
 use Rattle.rl_spec.specs.Found.{imageFound}
 use Rattle.rl_spec.specs.Folded.{asFolded}
-use Rattle.rl_spec.specs.Tree.{Expr, exprTree}
+use Rattle.rl_spec.specs.Tree.{Expr, ascii, exprTree}
 use Rattle.rl_spec.specs.Fold.{constEval, foldOf}
-use Rattle.rl_spec.specs.Prove.{callEntries, allEntries, fitting, sliceBy, proveOf, reportsOf, proveAllOf, allReportsOf}
+use Rattle.rl_spec.specs.Prove.{callEntries, allEntries, fitting, sliceBy, proveOf, reportsOf, proveAllOf, allReportsOf, violationsOf}
 use Rattle.rl_spec.specs.Statement.{Stmt, Body}
-use Rattle.rl_spec.specs.Functions.{mapExpr, mapStmt, mapBody}
-use Rattle.rl_spec.specs.Run.{Value, Env, tick, _>>_, eval}
-use Rattle.rl_spec.specs.Reading.{Check, Function, Mode, repeat, loopTurn, whileTurn, checks, stmt, body, top, runFunction, reading}
+use Rattle.rl_spec.specs.Contracts.{calleeOf, argumentsOf}
+use Rattle.rl_spec.specs.Functions.{mapExpr, mapStmt, mapBody, contractFunction}
+use Rattle.rl_spec.specs.Run.{Value, Env, got, tick, _>>_, eval}
+use Rattle.rl_spec.specs.Reading.{Check, Function, Mode, repeat, loopTurn, whileTurn, checks, stmt, body, top, runFunction, entering, reading}
 use Rattle.rl_theorems.specs.Utf8 as Utf8
 use Rattle.rl_theorems.specs.Decode as Decode
 use Rattle.rl_theorems.specs.Accepted as Well
@@ -57,7 +59,11 @@ use Rattle.rl_theorems.specs.Budget as Budget
 use Rattle.rl_theorems.specs.Texts as Texts
 use Rattle.rl_theorems.specs.TextRuns as TextRuns
 use Rattle.rl_theorems.specs.RunExamples as RunExamples
+use Rattle.rl_theorems.specs.FoldsCalls as FoldsCalls
+use Rattle.rl_theorems.specs.FoldsEntry as FoldsEntry
 use Rattle.rl_theorems.specs.Heights as Heights
+use Rattle.rl_theorems.specs.LowerTrees as LowerTrees
+use Rattle.rl_theorems.specs.LoweredRuns as LoweredRuns
 use Rattle.rl_theorems.specs.Marked as Marked
 use Rattle.rl_laws.specs.Heights.{exprHeight}
 
@@ -279,6 +285,20 @@ module _ {A B : Type 0} (f : A → B) (bytesA : A → List ℕ) (bytesB : B → 
 
 pub runs-end-so : map RunExamples.actual RunExamples.cases ≡ map RunExamples.expected RunExamples.cases
 runs-end-so = RunExamples.runs-end-so
+
+-- ---- on trees, the plain run of a lowered function is its contract reading: outcome, value, message or number, and steps (LoweredRuns;
+-- LowerTrees has the lowering on trees, LoweredRunExamples functions that meet the premises and, for each premise, one that does not
+-- and differs)
+
+pub lowered-runs : (f : Function (List ℕ)) (vs : List (Value (List ℕ))) (budget : ℕ) → LoweredRuns.Premises f → runFunction (λ t. t) (ascii "ret") (LowerTrees.lowered f) vs budget ≡ reading (λ t. t) (ascii "ret") f vs budget
+lowered-runs = LoweredRuns.lowered-runs
+
+-- ---- a call that has a report never passes its callee's entry checks (FoldsCalls; FoldsExamples has two such calls). `Asked`: the callee's
+-- parameter names are distinct, no identifier stands in the arguments and no assignment in its conditions, and an argument that folds
+-- has that value
+
+pub reported-never-enters : (im : Image) (call f : ℕ) (vs : List (Value (List ℕ))) → calleeOf im call ≡ some f → FoldsCalls.Asked im f (argumentsOf im call) vs → FoldsEntry.NonEmpty (violationsOf im call) → (budget : ℕ) (env : Env (List ℕ)) (left : ℕ) → entering (λ t. t) (ascii "ret") (contractFunction im f) vs [] budget ≡ got tt env left → ⊥
+reported-never-enters im = FoldsCalls.reported-never-enters im
 
 -- ---- the marked cases, and the printer's example (Marked has both lists, MarkedImages the images)
 

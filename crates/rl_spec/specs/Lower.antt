@@ -1,0 +1,354 @@
+-- Lowering on records: rl-resolver's contracts.rs, function by function. What is made is appended to the image, in the order in which
+-- the Rust makes it; a statement is made when the Rust has finished it, after all that stands inside it.
+use Prim.Native.Nat.{ℕ, _-_}
+use mathlib.Core.Bool.{Bool, true, false, not, _&&_, _||_}
+use mathlib.Core.List.{List, [], _∷_, _++_, map}
+use mathlib.Core.Option.{Option, none, some}
+use lib.Dec.{eqb, ltb}
+use lib.ListN.{length, getD, set, take}
+use Rattle.rl_spec.specs.declared.Section.the-variants.{Expressions, Statements, Functions}
+use Rattle.rl_spec.specs.declared.Target.{Target}
+use Rattle.rl_spec.specs.declared.Target.the-variants.{Text, Expression, Statement, Branch, ElseBranch, Arm}
+use Rattle.rl_spec.specs.declared.Sort.{Sort}
+use Rattle.rl_spec.specs.declared.Sort.the-variants.{Raw, Byte, Scalar, Part, One, Maybe, Many, Range, OperandSort, Operand}
+use Rattle.rl_spec.specs.declared.Clause.{Clause}
+use Rattle.rl_spec.specs.Bytes.{pick}
+use Rattle.rl_spec.specs.Schema.{sortOf, fieldsOf}
+use Rattle.rl_spec.specs.Image.{Field, num, Rec, Image, recordsOf, recordOf, fieldOf, first, entryOf, textOf, encode}
+use Rattle.rl_spec.specs.Values.{RefineOp, gt, ge, lt, le, eq, ne}
+use Rattle.rl_spec.specs.Tree.{ascii, number, descend}
+use Rattle.rl_spec.specs.Words.{bits64}
+use Rattle.rl_spec.specs.Records.{clauseAt, functionAt}
+use Rattle.rl_spec.specs.Contracts.{RefineOperand, integer, str, bool, param, ParamRefinement, Param, paramOf, numbersIn, anyRefined, isEmpty}
+use Rattle.rl_spec.specs.Message.{decimal, refinementText}
+use Rattle.rl_spec.specs.Make.{Context, Make, _>>=_, give, fail, self, takeTemp, each, flatMap, withRecords, append, made, newText, newList, stmt, newStmt, absent, entriesOf}
+
+-- ---- Ctx: expr to msg_expr. The texts of a new record come before it, those of a path before its list.
+
+unfoldable pub expr : ℕ → List Field → Make ℕ
+expr kind fields ctx = append Expressions (made kind (num (ctx .span) ∷ fields) ∷ []) ctx
+
+unfoldable pub ident : List ℕ → Make ℕ
+ident name = do
+  t ← newText name
+  expr 30 (num t ∷ [])
+
+unfoldable pub strLit : List ℕ → Make ℕ
+strLit s = do
+  t ← newText s
+  expr 25 (num t ∷ [])
+
+unfoldable pub errLit : ℕ → Make ℕ
+errLit msg = expr 50 (num msg ∷ [])
+
+-- `std::res::NAME(x)`
+unfoldable pub resCall : List ℕ → ℕ → Make ℕ
+resCall name x = do
+  ts ← each newText (ascii "std" ∷ ascii "res" ∷ name ∷ [])
+  path ← newList ts
+  args ← newList (x ∷ [])
+  expr 41 (path ∷ args ∷ [])
+
+abbrev pub unwrapCall : ℕ → Make ℕ
+unwrapCall = resCall (ascii "result_unwrap")
+
+abbrev pub isErrCall : ℕ → Make ℕ
+isErrCall = resCall (ascii "is_err")
+
+-- a clause's own message is shared, not copied
+abbrev pub msgExpr : Clause → List ℕ → Make ℕ
+msgExpr clause default = pick (eqb (clause .message) 65535) (strLit default) (give (clause .message))
+
+-- ---- deep_clone_expr: the children field by field, then the node with its kind, its span and what else it has. No kind has a node
+-- behind a list of nodes, so the list comes after all the children.
+
+abbrev pub isNode : Target → Bool
+isNode Text = false
+isNode Expression = true
+isNode Statement = false
+isNode Branch = false
+isNode ElseBranch = false
+isNode Arm = false
+
+-- the entries of a list, by turns a left and a right; a text is kept
+unfoldable pub cloneEntries : (ℕ → Make ℕ) → Target → Target → List ℕ → Make (List ℕ)
+cloneEntries clone l r [] = give []
+cloneEntries clone l r (n ∷ ns) = do
+  m ← pick (isNode l) (clone n) (give n)
+  ms ← cloneEntries clone r l ns
+  give (m ∷ ms)
+
+-- a path and a method, lists of texts, are kept. Only statements and clauses have a node or none.
+abbrev pub cloneField : (ℕ → Make ℕ) → Sort → Field → Make Field
+cloneField clone (Raw n) f = give f
+cloneField clone (Byte low high) f = give f
+cloneField clone Scalar f = give f
+cloneField clone Part f = give f
+cloneField clone (One t) f = pick (isNode t) (clone (first f) >>= λ n. give (num n)) (give f)
+cloneField clone (Maybe t) f = give f
+cloneField clone (Many l r n) f =
+    pick (isNode l || isNode r) (self >>= λ ctx. cloneEntries clone l r (entriesOf (ctx .image) f) >>= newList) (give f)
+cloneField clone (Range o) f = give f
+cloneField clone OperandSort f = give f
+cloneField clone Operand f = give f
+
+unfoldable pub cloneFields : (ℕ → Make ℕ) → List ℕ → List Field → Make (List Field)
+cloneFields clone [] fs = give []
+cloneFields clone (c ∷ cs) [] = give []
+cloneFields clone (c ∷ cs) (f ∷ fs) = do
+  g ← cloneField clone (sortOf c) f
+  gs ← cloneFields clone cs fs
+  give (g ∷ gs)
+
+-- the id of a Lambda or a ResolvedLambda is returned
+abbrev pub isLambda : ℕ → Bool
+isLambda kind = eqb kind 56 || eqb kind 57
+
+abbrev pub cloneRecord : (ℕ → Make ℕ) → ℕ → Rec → Make ℕ
+cloneRecord clone id r =
+    pick (isLambda (r .kind)) (give id)
+    (cloneFields clone (fieldsOf (r .kind)) (r .fields) >>= λ fs. append Expressions (made (r .kind) fs ∷ []))
+
+-- `fail` stands for a child that is no earlier node: there is none in a well-formed image
+unfoldable pub deepCloneExpr : ℕ → Make ℕ
+deepCloneExpr = descend fail (λ id clone. self >>= λ ctx. cloneRecord clone id (recordOf (ctx .image) Expressions id))
+
+-- ---- Ctx: violation to refine_predicate
+
+unfoldable pub violation : ℕ → Make ℕ
+violation msg = do
+  err ← errLit msg
+  ctx ← self
+  pick (ctx .isResult) (newStmt 66 (num err ∷ [])) (unwrapCall err >>= λ abort. newStmt 65 (num abort ∷ []))
+
+-- `if (condition) { s }`: the list, the branch with needs_scope false, the conditional
+unfoldable pub onlyIf : ℕ → ℕ → Make ℕ
+onlyIf condition s = do
+  body ← newList (s ∷ [])
+  branch ← newStmt 69 (num condition ∷ body ∷ num 0 ∷ [])
+  newStmt 68 (num branch ∷ absent ∷ [])
+
+-- operator 5 is Bang
+unfoldable pub guard : ℕ → ℕ → Make ℕ
+guard pred msg = do
+  copy ← deepCloneExpr pred
+  neg ← expr 33 (num 5 ∷ num copy ∷ [])
+  s ← violation msg
+  onlyIf neg s
+
+abbrev pub clauseGuard : List ℕ → Clause → Make ℕ
+clauseGuard default clause = do
+  msg ← msgExpr clause default
+  guard (clause .condition) msg
+
+-- `dec name = value`, of the type Infer
+unfoldable pub declare : List ℕ → ℕ → Make ℕ
+declare name value = do
+  t ← newText name
+  newStmt 64 (num t ∷ num 0 ∷ num value ∷ num 0 ∷ [])
+
+unfoldable pub returnOf : List ℕ → Make ℕ
+returnOf temp = do
+  n ← ident temp
+  newStmt 66 (num n ∷ [])
+
+-- of a result function: `if (std::res::is_err(temp)) { return temp }`
+abbrev pub skipErr : List ℕ → Make (List ℕ)
+skipErr temp = do
+  n ← ident temp
+  check ← isErrCall n
+  s ← returnOf temp
+  skip ← onlyIf check s
+  give (skip ∷ [])
+
+-- under the temporary's name
+unfoldable pub wrapAs : List ℕ → Bool → ℕ → List Clause → Make (List ℕ)
+wrapAs temp isResult value ensures = do
+  dec ← declare temp value
+  skip ← pick isResult (skipErr temp) (give [])
+  n ← ident temp
+  inner ← pick isResult (unwrapCall n) (give n)
+  ret ← declare (ascii "ret") inner
+  guards ← each (clauseGuard (ascii "ensures violated")) ensures
+  s ← returnOf temp
+  give (dec ∷ skip ++ ret ∷ guards ++ s ∷ [])
+
+unfoldable pub wrapReturn : ℕ → List Clause → Make (List ℕ)
+wrapReturn value ensures = do
+  n ← takeTemp
+  ctx ← self
+  wrapAs (ascii "__ensure_ret_" ++ decimal n) (ctx .isResult) value ensures
+
+-- Greater, GreaterEqual, Less, LessEqual, Compare, BangEqual
+abbrev pub tokenOf : RefineOp → ℕ
+tokenOf gt = 10
+tokenOf ge = 11
+tokenOf lt = 8
+tokenOf le = 9
+tokenOf eq = 6
+tokenOf ne = 7
+
+abbrev pub operandExpr : Image → RefineOperand ℕ → Make ℕ
+operandExpr im (integer v) = expr 17 (num (bits64 v) ∷ [])
+operandExpr im (str s) = strLit (textOf im s)
+operandExpr im (bool b) = expr 26 (num (pick b 1 0) ∷ [])
+operandExpr im (param p) = ident (textOf im p)
+
+-- the right operand is made first
+unfoldable pub refinePredicate : Image → ℕ → ParamRefinement ℕ → Make ℕ
+refinePredicate im name refinement = do
+  right ← operandExpr im (refinement .operand)
+  left ← ident (textOf im name)
+  expr 32 (num left ∷ num (tokenOf (refinement .op)) ∷ num right ∷ [])
+
+-- ---- transform_returns, transform_branch, transform_statement: `walk` transforms the statements before the one at hand. What is
+-- rebuilt keeps its span, its texts, its nodes and its inner statement.
+
+module _ (walk : ℕ → Make (List ℕ)) where
+  abbrev pub transformReturns : List ℕ → Make (List ℕ)
+  transformReturns stmts = flatMap walk stmts
+
+  -- a record's list, as a new list
+  abbrev pub transformList : Field → Make Field
+  transformList list = do
+    ctx ← self
+    ss ← transformReturns (entriesOf (ctx .image) list)
+    newList ss
+
+  -- a 68 as an else branch passes untouched; needs_scope is false
+  abbrev pub transformBranchBy : ℕ → Rec → Make ℕ
+  transformBranchBy s r =
+      pick (eqb (r .kind) 69)
+      (transformList (fieldOf r 2) >>= λ body. stmt 69 (number r 0) (fieldOf r 1 ∷ body ∷ num 0 ∷ [])) (give s)
+
+  unfoldable pub transformBranch : ℕ → Make ℕ
+  transformBranch s = self >>= λ ctx. transformBranchBy s (recordOf (ctx .image) Statements s)
+
+  abbrev pub transformElse : ℕ → Make ℕ
+  transformElse s = pick (eqb s 65535) (give s) (transformBranch s)
+
+  -- an arm is finished before the next one is begun
+  abbrev pub transformArmBy : Rec → Make ℕ
+  transformArmBy r = transformList (fieldOf r 2) >>= λ body. stmt 76 (number r 0) (fieldOf r 1 ∷ body ∷ [])
+
+  unfoldable pub transformArm : ℕ → Make ℕ
+  transformArm s = self >>= λ ctx. transformArmBy (recordOf (ctx .image) Statements s)
+
+  abbrev pub conditional : Rec → Make ℕ
+  conditional r = do
+    branch ← transformBranch (number r 1)
+    other ← transformElse (number r 2)
+    stmt 68 (number r 0) (num branch ∷ num other ∷ [])
+
+  abbrev pub match : Rec → Make ℕ
+  match r = do
+    ctx ← self
+    ss ← each transformArm (entriesOf (ctx .image) (fieldOf r 2))
+    arms ← newList ss
+    stmt 75 (number r 0) (fieldOf r 1 ∷ arms ∷ [])
+
+  -- a loop: its fields before its list, which is the last, are kept
+  abbrev pub loop : Rec → List Field → Field → Make ℕ
+  loop r kept list = do
+    body ← transformList list
+    stmt (r .kind) (number r 0) (kept ++ body ∷ [])
+
+  abbrev pub only : Make ℕ → Make (List ℕ)
+  only m = m >>= λ s. give (s ∷ [])
+
+  abbrev pub transformStatementBy : List Clause → ℕ → Rec → Make (List ℕ)
+  transformStatementBy ensures s r =
+      pick (eqb (r .kind) 66) (wrapReturn (number r 1) ensures)
+      (pick (eqb (r .kind) 67) (expr 16 [] >>= λ null. wrapReturn null ensures)
+      (pick (eqb (r .kind) 68) (only (conditional r))
+      (pick (eqb (r .kind) 70) (only (loop r (fieldOf r 1 ∷ []) (fieldOf r 2)))
+      (pick (eqb (r .kind) 71) (only (loop r [] (fieldOf r 1)))
+      (pick (eqb (r .kind) 72) (only (loop r (fieldOf r 1 ∷ fieldOf r 2 ∷ fieldOf r 3 ∷ []) (fieldOf r 4)))
+      (pick (eqb (r .kind) 73) (only (loop r (fieldOf r 1 ∷ fieldOf r 2 ∷ []) (fieldOf r 3)))
+      (pick (eqb (r .kind) 74) (only (loop r (fieldOf r 1 ∷ fieldOf r 2 ∷ []) (fieldOf r 3)))
+      (pick (eqb (r .kind) 75) (only (match r)) (give (s ∷ []))))))))))
+
+unfoldable pub transformStatement : List Clause → ℕ → Make (List ℕ)
+transformStatement ensures =
+    descend fail (λ s walk. self >>= λ ctx. transformStatementBy walk ensures s (recordOf (ctx .image) Statements s))
+
+-- ---- desugar_fn_contracts
+
+abbrev pub refinementGuard : Image → ℕ → Option (ParamRefinement ℕ) → Make (List ℕ)
+refinementGuard im name none = give []
+refinementGuard im name (some refinement) = do
+  pred ← refinePredicate im name refinement
+  msg ← strLit (refinementText im name (some refinement))
+  s ← guard pred msg
+  give (s ∷ [])
+
+-- the last statement of a body
+abbrev pub lastOf : Image → List ℕ → Rec
+lastOf im body = recordOf im Statements (getD body (length body - 1) 0)
+
+-- a bare last expression is wrapped after the returns before it, and comes ahead of the other statements
+unfoldable pub wrapTrailing : List Clause → List ℕ → Make (List ℕ)
+wrapTrailing ensures body = do
+  ctx ← self
+  pick (not (isEmpty body) && eqb (lastOf (ctx .image) body .kind) 65)
+      (wrapReturn (number (lastOf (ctx .image) body) 1) ensures >>= λ seq. give (seq ++ take (length body - 1) body))
+      (give body)
+
+abbrev pub ensuredBody : List Clause → List ℕ → Make (List ℕ)
+ensuredBody ensures body = do
+  ss ← transformReturns (transformStatement ensures) body
+  wrapTrailing ensures ss
+
+unfoldable pub desugarFnContracts : List (Param ℕ) → List ℕ → List Clause → List Clause → Make (List ℕ)
+desugarFnContracts params body requires ensures = do
+  ctx ← self
+  refined ← flatMap (λ p. refinementGuard (ctx .image) (p .name) (p .refinement)) params
+  required ← each (clauseGuard (ascii "requires violated")) requires
+  rest ← pick (isEmpty ensures) (give body) (ensuredBody ensures body)
+  give (refined ++ required ++ rest)
+
+-- ---- THE LOWERED IMAGE
+
+abbrev pub paramsIn : Image → ℕ → List (Param ℕ)
+paramsIn im f = map (paramOf im) (numbersIn (functionAt im f .params))
+
+abbrev pub requiresIn : Image → ℕ → List Clause
+requiresIn im f = map (clauseAt im) (numbersIn (functionAt im f .required))
+
+abbrev pub ensuresIn : Image → ℕ → List Clause
+ensuresIn im f = map (clauseAt im) (numbersIn (functionAt im f .ensured))
+
+abbrev pub bodyIn : Image → ℕ → List ℕ
+bodyIn im f = map (entryOf im) (numbersIn (functionAt im f .body))
+
+unfoldable pub hasContracts : Image → ℕ → Bool
+hasContracts im f = not (isEmpty (requiresIn im f)) || not (isEmpty (ensuresIn im f)) || anyRefined (paramsIn im f)
+
+-- the new body list comes last
+unfoldable pub newBody : Image → ℕ → Make Field
+newBody im f = do
+  ss ← desugarFnContracts (paramsIn im f) (bodyIn im f) (requiresIn im f) (ensuresIn im f)
+  newList ss
+
+abbrev pub start : Image → ℕ → Context
+start im f = record { image = im; span = functionAt im f .span; isResult = functionAt im f .result; tempCounter = 0 }
+
+-- the body is field 4 of a function
+abbrev pub bodied : Rec → Field → Rec
+bodied r list = made (r .kind) (set (r .fields) 4 list)
+
+abbrev pub withBody : Image → ℕ → Field → Image
+withBody im f list = withRecords im Functions (set (recordsOf im Functions) f (bodied (recordOf im Functions f) list))
+
+-- the sixth limit, of the image's bytes, is tested on the finished image: nothing that is made takes bytes away
+unfoldable pub fitting : Image → Option Image
+fitting im = pick (ltb 65535 (length (encode im))) none (some im)
+
+abbrev pub finished : ℕ → Option (Field × Context) → Option Image
+finished f none = none
+finished f (some r) = fitting (withBody (r .1 .image) f (r .0))
+
+-- of an accepted image and one of its functions; none is refusal 14. `lowerOf s k f room`, with refusals 11 to 14 behind those of
+-- `answerOf`, comes with the declared answer.
+unfoldable pub lowered : Image → ℕ → Option Image
+lowered im f = pick (hasContracts im f) (finished f (newBody im f (start im f))) (some im)
