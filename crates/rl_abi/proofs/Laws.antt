@@ -13,7 +13,7 @@ use mir.Syntax.{w64}
 use Rattle.rl_spec.specs.declared.ArenaNo.{ArenaNo}
 use Rattle.rl_spec.specs.declared.Counts.{Counts}
 use Rattle.rl_spec.specs.declared.Cause.{Cause}
-use Rattle.rl_spec.specs.declared.Cause.the-variants.{ImageTooLong, WorkTooShort, BytesEnd, WrongKind, CountOverLimit, BadText, BadValue, BadReference, TooHigh, BytesLeft, OtherArena, NoSuchNode, NoSuchCall, ReportsTooShort, NoSuchFunction, WrongValues, NoSuchText, BudgetOverLimit}
+use Rattle.rl_spec.specs.declared.Cause.the-variants.{ImageTooLong, WorkTooShort, BytesEnd, WrongKind, CountOverLimit, BadText, BadValue, BadReference, TooHigh, BytesLeft, OtherArena, NoSuchNode, NoSuchCall, ReportsTooShort, NoSuchFunction, HeightOverLimit, OutputTooShort, LimitPassed, WrongValues, NoSuchText, BudgetOverLimit}
 use Rattle.rl_spec.specs.declared.Answer.{Answer}
 use Rattle.rl_spec.specs.declared.Answer.the-variants.{Accepted, Refused}
 use Rattle.rl_spec.specs.declared.FoldAnswer.{FoldAnswer}
@@ -49,6 +49,9 @@ number-small NoSuchNode = omega arith
 number-small NoSuchCall = omega arith
 number-small ReportsTooShort = omega arith
 number-small NoSuchFunction = omega arith
+number-small HeightOverLimit = omega arith
+number-small OutputTooShort = omega arith
+number-small LimitPassed = omega arith
 number-small WrongValues = omega arith
 number-small NoSuchText = omega arith
 number-small BudgetOverLimit = omega arith

@@ -12,7 +12,8 @@ use Rattle.rl_spec.specs.Statement.{Stmt, declaration, expression, retur
 use Rattle.rl_spec.specs.Records.{paramAt, functionAt}
 use Rattle.rl_spec.specs.Contracts.{RefineOperand, integer, str, bool, param, ParamRefinement, Param, ContractClause, paramOf, clauseOf, numbersIn}
 use Rattle.rl_spec.specs.Message.{refinementText}
-use Rattle.rl_spec.specs.Reading.{Check, Function}
+use Rattle.rl_spec.specs.Run.{Plain, nothing, folded, Value, plain, ok, err, Outcome, returned, stopped, fault, spent}
+use Rattle.rl_spec.specs.Reading.{Check, Function, reading}
 
 -- ---- another account of the texts
 
@@ -26,6 +27,21 @@ module _ {A B : Type 0} (f : A → B) where
   mapConst (value.float x) = value.float x
   mapConst (value.str t) = value.str (f t)
   mapConst (value.bool b) = value.bool b
+
+  abbrev pub mapPlain : Plain A → Plain B
+  mapPlain nothing = nothing
+  mapPlain (folded v) = folded (mapConst v)
+
+  abbrev pub mapValue : Value A → Value B
+  mapValue (plain p) = plain (mapPlain p)
+  mapValue (ok p) = ok (mapPlain p)
+  mapValue (err p) = err (mapPlain p)
+
+  abbrev pub mapOutcome : Outcome A → Outcome B
+  mapOutcome (returned v) = returned (mapValue v)
+  mapOutcome (stopped p) = stopped (mapPlain p)
+  mapOutcome (fault k) = fault k
+  mapOutcome spent = spent
 
   unfoldable pub mapExpr : Expr A → Expr B
   mapExpr null = null
@@ -138,3 +154,7 @@ contractFunction im f =
       ensures = map (λ i. clauseCheck im (ascii "ensures violated") (clauseOf im i)) (numbersIn (functionAt im f .ensured));
       body = mapBody (textOf im) (bodyTree im (functionAt im f .body));
     }
+
+-- THE CONTRACT READING of a function of an image, on values whose texts are the image's
+unfoldable pub readingIn : Image → ℕ → List (Value ℕ) → ℕ → Outcome Text × ℕ
+readingIn im f vs budget = reading (λ t. t) (ascii "ret") (contractFunction im f) (map (mapValue (textOf im)) vs) budget

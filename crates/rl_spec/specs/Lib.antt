@@ -21,3 +21,4 @@ pub mod Functions
 pub mod Runner
 pub mod Make
 pub mod Lower
+pub mod Lowerer

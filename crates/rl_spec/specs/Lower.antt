@@ -348,7 +348,6 @@ abbrev pub finished : ℕ → Option (Field × Context) → Option Image
 finished f none = none
 finished f (some r) = fitting (withBody (r .1 .image) f (r .0))
 
--- of an accepted image and one of its functions; none is refusal 14. `lowerOf s k f room`, with refusals 11 to 14 behind those of
--- `answerOf`, comes with the declared answer.
+-- of an accepted image and one of its functions; none is refusal 14
 unfoldable pub lowered : Image → ℕ → Option Image
 lowered im f = pick (hasContracts im f) (finished f (newBody im f (start im f))) (some im)

@@ -30,7 +30,7 @@ use Rattle.rl_spec.specs.Words.{sortWordOf, payloadWordOf, wordsValue}
 use Rattle.rl_spec.specs.Records.{functionAt}
 use Rattle.rl_spec.specs.Run as run
 use Rattle.rl_spec.specs.Reading.{runFunction}
-use Rattle.rl_spec.specs.Functions.{plainFunction}
+use Rattle.rl_spec.specs.Functions.{mapOutcome, Text, plainFunction}
 
 -- ---- the declared values and outcomes, as those of the definitions; a text is its index
 
@@ -57,6 +57,16 @@ asOutcome (run.returned v) = Returned (asValue v)
 asOutcome (run.stopped p) = Stopped (asPlain p)
 asOutcome (run.fault k) = Fault k
 asOutcome run.spent = Spent
+
+abbrev pub outcomeOf : Outcome → run.Outcome ℕ
+outcomeOf (Returned v) = run.returned (valueOf v)
+outcomeOf (Stopped p) = run.stopped (plainOf p)
+outcomeOf (Fault k) = run.fault k
+outcomeOf Spent = run.spent
+
+-- an outcome whose texts are an image's, with their bytes
+abbrev pub outcomeIn : Image → Outcome → run.Outcome Text
+outcomeIn im o = mapOutcome (textOf im) (outcomeOf o)
 
 -- ---- arguments
 

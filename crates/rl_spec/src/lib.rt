@@ -41,6 +41,9 @@ pub enum Cause {
     NoSuchCall,
     ReportsTooShort,
     NoSuchFunction,
+    HeightOverLimit,
+    OutputTooShort,
+    LimitPassed,
     WrongValues,
     NoSuchText,
     BudgetOverLimit,
@@ -294,5 +297,11 @@ pub enum Outcome {
 // What the runner answers.
 pub enum RunAnswer {
     Ran { outcome: Outcome, steps: u32 },
+    Refused { cause: Cause, place: usize },
+}
+
+// What lowering answers: the length of the image written.
+pub enum LowerAnswer {
+    Lowered(u32),
     Refused { cause: Cause, place: usize },
 }

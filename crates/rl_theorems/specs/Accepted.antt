@@ -119,6 +119,9 @@ module _ (s : List ℕ) (k : ℕ) (a : ArenaNo) (c : Counts) (e : answerOf s k �
       let q = not-refused s a c (ltb k 8192) WorkTooShort 0 _ (not-refused s a c (ltb 65535 (length s)) ImageTooLong 0 _ e .1) in
       (ltb-false k 8192 (q .0), q .1)
 
+  pub accepted-long : 8192 ≤ k
+  accepted-long = work-passed .0
+
   sections-read : (m : ℕ) × (v : List ℕ) × (q : List ℕ) × (sectionsFrom s (countsOf s) sections (sectionsAt s) (replicate k 0) (replicate mostStarts 0) ≡ good m v q)
   unfolding bodyOf
   sections-read =

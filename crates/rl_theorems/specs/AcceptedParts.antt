@@ -26,12 +26,12 @@ use Rattle.rl_theorems.specs.Fits.{number-below}
 
 -- ---- bytes
 
-take-bytes : (n : ℕ) (s : List ℕ) → AllBytes s → AllBytes (take n s)
+pub take-bytes : (n : ℕ) (s : List ℕ) → AllBytes s → AllBytes (take n s)
 take-bytes zero s h = tt
 take-bytes (suc n) [] h = tt
 take-bytes (suc n) (b ∷ s) h = (h .0, take-bytes n s (h .1))
 
-drop-bytes : (n : ℕ) (s : List ℕ) → AllBytes s → AllBytes (drop n s)
+pub drop-bytes : (n : ℕ) (s : List ℕ) → AllBytes s → AllBytes (drop n s)
 drop-bytes zero s h = h
 drop-bytes (suc n) [] h = tt
 drop-bytes (suc n) (b ∷ s) h = drop-bytes n s (h .1)

@@ -1,4 +1,4 @@
--- What folding and proving answer for the bytes of a well-formed image; and of bytes that are accepted by computation.
+-- What folding, proving and lowering answer for the bytes of a well-formed image; and of bytes that are accepted by computation.
 -- Assumes nothing.
 use Prim.Native.Nat.{ℕ, _-_, _/_, _≤_, _<_}
 use mathlib.Core.Path.{_≡_, refl, sym, _∙_}
@@ -14,7 +14,7 @@ use Rattle.rl_spec.specs.declared.Id.{Id}
 use Rattle.rl_spec.specs.declared.Answer.the-variants.{Accepted}
 use Rattle.rl_spec.specs.declared.FoldAnswer.the-variants.{Found}
 use Rattle.rl_spec.specs.declared.ProveAnswer.the-variants.{Proved}
-use Rattle.rl_spec.specs.declared.Section.the-variants.{Expressions, Calls}
+use Rattle.rl_spec.specs.declared.Section.the-variants.{Expressions, Functions, Calls}
 use Rattle.rl_spec.specs.Bytes.{pick}
 use Rattle.rl_spec.specs.Read.{answerOf}
 use Rattle.rl_spec.specs.Image.{Image, sizeOf, textOf, encode, imageOf, AllBytes, WellFormed}
@@ -22,6 +22,8 @@ use Rattle.rl_spec.specs.Folded.{asFolded}
 use Rattle.rl_spec.specs.Tree.{exprTree}
 use Rattle.rl_spec.specs.Fold.{constEval, foldOf}
 use Rattle.rl_spec.specs.Prove.{callEntries, allEntries, fitting, sliceBy, proveOf, reportsOf, proveAllOf, allReportsOf}
+use Rattle.rl_spec.specs.Lower.{lowered}
+use Rattle.rl_spec.specs.Lowerer.{tooTall, orLimit, lowerOf}
 use Rattle.rl_theorems.specs.Decode.{accepted-encodes}
 use Rattle.rl_theorems.specs.Header.{counts-are}
 use Rattle.rl_theorems.specs.Encoded.{encoded-accepted, encoded-image}
@@ -60,6 +62,12 @@ module _ (im : Image) (wf : WellFormed im) (k : ℕ) (long : 8192 ≤ k) where
     unfolding allReportsOf
     all-reports-encoded = rw (all-proved-encoded, counts-are im wf, encoded-image im wf)
 
+  -- lowering a function, with an output slice that is long enough
+  pub lowered-encoded : (f room : ℕ) → f < sizeOf im Functions → tooTall im ≡ false → 65535 ≤ room → lowerOf (encode im) k f room ≡ orLimit (lowered im f)
+  unfolding lowerOf
+  lowered-encoded f room l low long′ =
+      rw (encoded-accepted im k wf long, lt-ltb f (sizeOf im Functions) l, encoded-image im wf, low, le-ltb room 65535 long′)
+
 -- a slice that has room for the entries
 module _ (room : ℕ) (e : List ℕ) (l : length e ≤ room) where
   pub fitting-room : fitting room e ≡ Proved (length e / 4)
@@ -74,7 +82,7 @@ abbrev pub areBytes : List ℕ → Bool
 areBytes [] = true
 areBytes (b ∷ s) = pick (ltb b 256) (areBytes s) false
 
-bytes-by : (s : List ℕ) → areBytes s ≡ true → AllBytes s
+pub bytes-by : (s : List ℕ) → areBytes s ≡ true → AllBytes s
 bytes-by [] e = tt
 bytes-by (b ∷ s) e =
     by-ltb b 256 (λ l. (l, bytes-by s (rw (lt-ltb b 256 l) at e)))

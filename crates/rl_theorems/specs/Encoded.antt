@@ -40,7 +40,7 @@ module _ (im : Image) (wf : WellFormed im) where
 
 -- ---- the work slice
 
-heights-all : (im : Image) (o : Section) → length (heights im o) ≡ sizeOf im o
+pub heights-all : (im : Image) (o : Section) → length (heights im o) ≡ sizeOf im o
 unfolding heights
 heights-all im o = length-heights im o (recordsOf im o) [] ∙ zero-add (sizeOf im o)
 

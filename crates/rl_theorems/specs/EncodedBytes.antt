@@ -14,7 +14,7 @@ use Rattle.rl_spec.specs.Image.{Field, num, pair, Rec, Image, recordsOf, noReco
 use Rattle.rl_theorems.specs.Suits.{kind-range}
 use Rattle.rl_theorems.specs.Header.{records-are}
 
-append-bytes : (x y : List ℕ) → AllBytes x → AllBytes y → AllBytes (x ++ y)
+pub append-bytes : (x y : List ℕ) → AllBytes x → AllBytes y → AllBytes (x ++ y)
 append-bytes [] y a b = b
 append-bytes (n ∷ x) y a b = (a .0, append-bytes x y (a .1) b)
 

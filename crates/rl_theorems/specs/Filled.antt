@@ -7,7 +7,7 @@ use native.Mathlib.Omega.{arith}
 use lib.ListN.{length, drop, replicate, length-append, length-drop, length-replicate}
 use lib.Seq.{sets, sets-eq, take-at, drop-at, drop-drop}
 
-drop-replicate : (n k x : ℕ) → drop n (replicate k x) ≡ replicate (k - n) x
+pub drop-replicate : (n k x : ℕ) → drop n (replicate k x) ≡ replicate (k - n) x
 drop-replicate zero k x = let e : k - 0 ≡ k = omega arith in rw e
 drop-replicate (suc n) zero x = let e : 0 - suc n ≡ 0 = omega arith in rw e
 drop-replicate (suc n) (suc k) x = let e : suc k - suc n ≡ k - n = omega arith in rw e (drop-replicate n k x)

@@ -1,4 +1,5 @@
 -- DEMAND 3, SECOND HALF, on definitions: a call that has a report never passes its callee's entry checks.
+-- Assumes nothing.
 use Prim.Native.Nat.{ℕ}
 use mathlib.Core.Path.{_≡_, refl, ap, subst, subst⁻¹}
 use mathlib.Core.Bool.{Bool}
@@ -38,12 +39,12 @@ checked f ret r cs names refused h = over
 
 module _ (im : Image) where
   -- what is asked of a call with these arguments and values: the parameters' names differ, no argument holds an identifier, no
-  -- condition of a requires holds an assignment, and the values are those that the arguments fold to, where they fold
+  -- condition of a requires holds an assignment, and a parameter has the value that its argument folds to, where it folds
   pub record Asked (f : ℕ) (args : List (Expr ℕ)) (vs : List (Value Text)) : Type 0 where
     pub distinct : Distinct (textOf im) (contractsOf im f .params)
     pub closed : AllNoNames args
     pub clean : Clean (contractsOf im f .requires)
-    pub values : Values (textOf im) args vs
+    pub values : Values (textOf im) (contractsOf im f .params) args vs
 
   pub entering-over : (ret : Text) (f : ℕ) (args : List (Expr ℕ)) (vs : List (Value Text)) → Asked f args vs → NonEmpty (proveCall (textOf im) (contractsOf im f) args) →
       (budget : ℕ) → Over (entering same ret (contractFunction im f) vs [] budget)

@@ -1,5 +1,6 @@
 -- The names that the arguments of a call give, and the bindings that a run of the callee begins with: where the parameters' names
 -- differ and no argument holds an identifier, the bindings give every name that folding knows its value.
+-- Assumes nothing.
 use Prim.Native.Nat.{ℕ}
 use mathlib.Core.Path.{_≡_, refl, ap, ap₂, sym, _∙_, subst, subst⁻¹}
 use mathlib.Core.Bool.{Bool, true, false, cond, true≢false}
@@ -74,12 +75,12 @@ module _ (f : ℕ → Text) where
   Distinct [] = Unit {0}
   Distinct (p ∷ ps) = Apart (p .name) ps × Distinct ps
 
-  -- an argument has a value, one each, and that is what it folds to, where it folds
-  abbrev pub Values : List (Expr ℕ) → List (Value Text) → Type 0
-  Values [] [] = Unit {0}
-  Values [] (v ∷ vs) = ⊥
-  Values (a ∷ args) [] = ⊥
-  Values (a ∷ args) (v ∷ vs) = ((w : ConstVal ℕ) → constEval f [] a ≡ some w → v ≡ folds (mapConst f w)) × Values args vs
+  -- a parameter that has an argument has the value that the argument folds to, where it folds; the other values are free
+  abbrev pub Values : List (Param ℕ) → List (Expr ℕ) → List (Value Text) → Type 0
+  Values [] args vs = Unit {0}
+  Values (p ∷ ps) [] vs = Unit {0}
+  Values (p ∷ ps) (a ∷ args) [] = ⊥
+  Values (p ∷ ps) (a ∷ args) (v ∷ vs) = ((w : ConstVal ℕ) → constEval f [] a ≡ some w → v ≡ folds (mapConst f w)) × Values ps args vs
 
   abbrev Fresh : List (Binding ℕ) → List (Param ℕ) → Type 0
   Fresh names [] = Unit {0}
@@ -157,12 +158,21 @@ module _ (f : ℕ → Text) where
   enters-if true env n k h = h
   enters-if false env n k h = refused
 
-  pub enters : (names : List (Binding ℕ)) (ps : List (Param ℕ)) (args : List (Expr ℕ)) (vs : List (Value Text)) → Distinct ps → Fresh names ps → AllNoNames args → Values args vs →
+  -- parameters without an argument bind names that folding does not know
+  others-enter : (names : List (Binding ℕ)) (ps : List (Param ℕ)) (vs : List (Value Text)) → Fresh names ps → (env : Env Text) (n : ℕ) →
+      Agrees same (mapNames f names) env → Enters names (bindAll (map (λ p. f (p .name)) ps) vs env n)
+  others-enter names [] vs u env n g = entered g
+  others-enter names (p ∷ ps) [] u env n g = entered g
+  others-enter names (p ∷ ps) (v ∷ vs) u env n g =
+      enters-if (ltb (length env) 128) (named (f (p .name)) v ∷ env) n (bindAll (map (λ p. f (p .name)) ps) vs)
+      (others-enter names ps vs (u .1) (named (f (p .name)) v ∷ env) n
+      (grows names env (p .name) v none (u .0) (λ w e. absurd (none≢some e)) g))
+
+  pub enters : (names : List (Binding ℕ)) (ps : List (Param ℕ)) (args : List (Expr ℕ)) (vs : List (Value Text)) → Distinct ps → Fresh names ps → AllNoNames args → Values ps args vs →
       (env : Env Text) (n : ℕ) → Agrees same (mapNames f names) env → Enters (bindArguments f names ps args) (bindAll (map (λ p. f (p .name)) ps) vs env n)
   unfolding bindArguments
   enters names [] args vs d u h z env n g = entered g
-  enters names (p ∷ ps) [] [] d u h z env n g = entered g
-  enters names (p ∷ ps) [] (v ∷ vs) d u h z env n g = absurd z
+  enters names (p ∷ ps) [] vs d u h z env n g = others-enter names (p ∷ ps) vs u env n g
   enters names (p ∷ ps) (a ∷ args) [] d u h z env n g = absurd z
   enters names (p ∷ ps) (a ∷ args) (v ∷ vs) d u h z env n g =
       enters-if (ltb (length env) 128) (named (f (p .name)) v ∷ env) n (bindAll (map (λ p. f (p .name)) ps) vs)

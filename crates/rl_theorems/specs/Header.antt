@@ -60,7 +60,7 @@ abbrev numbers : Image → List ℕ
 numbers im = length (im .bytes) ∷ map length (im .records)
 
 module _ (im : Image) (limited : AllWithin (numbers im) limits) where
-  size-within : (o : Section) → sizeOf im o ≤ getD limits (suc (orderOf o)) 0
+  pub size-within : (o : Section) → sizeOf im o ≤ getD limits (suc (orderOf o)) 0
   size-within o =
       rw (List·getD-map length (im .records) (orderOf o) [])
       at (within-at (numbers im) limits limited (suc (orderOf o)))

@@ -39,10 +39,10 @@ module _ (im : Image) (o : Section) where
   tallestOf g r = tallestChild im o g (fieldsOf (r .kind)) (r .fields)
 
   -- `earlier` has the first i heights of `all`, and the next is that of r
-  record Next (all : List ℕ) (i : ℕ) (r : Rec) : Type 0 where
-    earlier : List ℕ
-    same : (n : ℕ) → n < i → getD all n 0 ≡ getD earlier n 0
-    here : getD all i 0 ≡ tallestOf earlier r + 1
+  pub record Next (all : List ℕ) (i : ℕ) (r : Rec) : Type 0 where
+    pub earlier : List ℕ
+    pub same : (n : ℕ) → n < i → getD all n 0 ≡ getD earlier n 0
+    pub here : getD all i 0 ≡ tallestOf earlier r + 1
 
   next-from : (rs : List Rec) (h : List ℕ) (j i : ℕ) → i ≡ length h + j → j < length rs → Next (heightsFrom im o rs h) i (getD rs j noRecord)
   unfolding heightsFrom
@@ -57,13 +57,13 @@ module _ (im : Image) (o : Section) where
       }
   next-from (r ∷ rs) h (suc j) i e p = next-from rs (h ++ (tallestOf h r + 1) ∷ []) j i (rw length-append (omega arith)) (omega arith)
 
-  next-at : (i : ℕ) → i < sizeOf im o → Next (heights im o) i (recordOf im o i)
+  pub next-at : (i : ℕ) → i < sizeOf im o → Next (heights im o) i (recordOf im o i)
   unfolding heights
   next-at i p = next-from (recordsOf im o) [] i i (omega arith) p
 
 -- ---- the fields that the trees look at
 
-abbrev FieldIs : ℕ → ℕ → Sort → Type 0
+abbrev pub FieldIs : ℕ → ℕ → Sort → Type 0
 FieldIs k j o = (j < length (fieldsOf k)) × (sortOf (getD (fieldsOf k) j 0) ≡ o)
 
 binary-left : FieldIs 32 1 (One Expression)

@@ -1,4 +1,4 @@
--- Small functions lowered, by computation: marked cases 10 and 11, and images whole or in the part that tells.
+-- Small functions lowered, by computation: images whole or in the part that tells, those of marked cases 10 and 11 first.
 -- Assumes nothing.
 use Prim.Native.Nat.{ℕ}
 use Prim.Native.String.{String}
@@ -64,7 +64,7 @@ kinds o none = []
 kinds o (some im) = map (λ (r : Rec). r .kind) (recordsOf im o)
 
 -- what computation opens
-lowering : Unit {0}
+unfoldable pub lowering : Unit {0}
 unfolding textBytes textRecords ascii limits sortOf fieldsOf fieldsIn schema bytesOf encodeFields encodeRecord encodeRecords encodeSections encodeCounts encode descendBy descend paramAt clauseAt functionAt upFrom paramOf anyRefined decimalBy decimal each flatMap append appendBytes newText newList stmt expr ident strLit errLit resCall cloneEntries cloneFields deepCloneExpr violation onlyIf guard declare returnOf wrapAs wrapReturn refinePredicate transformBranch transformArm transformStatement wrapTrailing desugarFnContracts hasContracts newBody fitting lowered
 lowering = tt
 
@@ -80,20 +80,19 @@ requires-identifier =
     (clause 0 65535 ∷ [])
     (function 0 (pair 0 0) (pair 0 1) (pair 0 0))
 
--- 1 String, 2 Identifier, 3 Unary, 4 ErrLiteral, 5 Call
-pub case10 : kinds Expressions (lowered requires-identifier 0) ≡ 30 ∷ 25 ∷ 30 ∷ 33 ∷ 50 ∷ 41 ∷ []
-unfolding lowering
-case10 = refl
-
 -- the whole image: the copy keeps its text and its span
-pub case10-whole : lowered requires-identifier 0 ≡ some (image
+abbrev pub requires-lowered : Image
+requires-lowered =
+    image
     ("f" ∷ "p" ∷ "requires violated" ∷ "std" ∷ "res" ∷ "result_unwrap" ∷ [])
     (3 ∷ 4 ∷ 5 ∷ 4 ∷ 0 ∷ 2 ∷ [])
     (identifier 1 ∷ new 25 (num 2 ∷ []) ∷ identifier 1 ∷ new 33 (num 5 ∷ num 2 ∷ []) ∷ new 50 (num 1 ∷ [])
     ∷ new 41 (pair 0 3 ∷ pair 3 1 ∷ []) ∷ [])
     (new 65 (num 5 ∷ []) ∷ new 69 (num 3 ∷ pair 4 1 ∷ num 0 ∷ []) ∷ new 68 (num 1 ∷ absent ∷ []) ∷ [])
     (clause 0 65535 ∷ [])
-    (function 0 (pair 5 1) (pair 0 1) (pair 0 0)))
+    (function 0 (pair 5 1) (pair 0 1) (pair 0 0))
+
+pub case10-whole : lowered requires-identifier 0 ≡ some requires-lowered
 unfolding lowering
 case10-whole = refl
 
@@ -110,11 +109,9 @@ returns-ok =
     (function 1 (pair 0 1) (pair 0 0) (pair 0 1))
 
 -- 10 new nodes behind the three
-pub case11 : kinds Expressions (lowered returns-ok 0) ≡ 26 ∷ 49 ∷ 30 ∷ 30 ∷ 41 ∷ 30 ∷ 30 ∷ 41 ∷ 25 ∷ 30 ∷ 33 ∷ 50 ∷ 30 ∷ []
-unfolding lowering
-case11 = refl
-
-pub case11-whole : lowered returns-ok 0 ≡ some (image
+abbrev pub returns-lowered : Image
+returns-lowered =
+    image
     ("f" ∷ "ret" ∷ "__ensure_ret_0" ∷ "__ensure_ret_0" ∷ "std" ∷ "res" ∷ "is_err" ∷ "__ensure_ret_0" ∷ "__ensure_ret_0"
     ∷ "std" ∷ "res" ∷ "result_unwrap" ∷ "ret" ∷ "ensures violated" ∷ "__ensure_ret_0" ∷ [])
     (0 ∷ 4 ∷ 5 ∷ 6 ∷ 3 ∷ 2 ∷ 9 ∷ 10 ∷ 11 ∷ 6 ∷ 6 ∷ 1 ∷ 4 ∷ 5 ∷ 8 ∷ 9 ∷ [])
@@ -129,7 +126,9 @@ pub case11-whole : lowered returns-ok 0 ≡ some (image
     ∷ new 64 (num 12 ∷ num 0 ∷ num 7 ∷ num 0 ∷ []) ∷ new 66 (num 11 ∷ []) ∷ new 69 (num 10 ∷ pair 10 1 ∷ num 0 ∷ [])
     ∷ new 68 (num 7 ∷ absent ∷ []) ∷ new 66 (num 12 ∷ []) ∷ [])
     (clause 2 65535 ∷ [])
-    (function 1 (pair 11 5) (pair 0 0) (pair 0 1)))
+    (function 1 (pair 11 5) (pair 0 0) (pair 0 1))
+
+pub case11-whole : lowered returns-ok 0 ≡ some returns-lowered
 unfolding lowering
 case11-whole = refl
 
@@ -146,7 +145,9 @@ loop-and-last =
     (function 0 (pair 1 2) (pair 0 0) (pair 0 1))
 
 -- the loop keeps its span; the clause's own message, node 0, is shared by both guards
-pub loop-and-last-whole : lowered loop-and-last 0 ≡ some (image
+abbrev pub loop-and-last-lowered : Image
+loop-and-last-lowered =
+    image
     ("f" ∷ "ret" ∷ "__ensure_ret_0" ∷ "__ensure_ret_0" ∷ "ret" ∷ "std" ∷ "res" ∷ "result_unwrap" ∷ "__ensure_ret_0"
     ∷ "__ensure_ret_1" ∷ "__ensure_ret_1" ∷ "ret" ∷ "std" ∷ "res" ∷ "result_unwrap" ∷ "__ensure_ret_1" ∷ [])
     (0 ∷ 1 ∷ 2 ∷ 5 ∷ 6 ∷ 7 ∷ 6 ∷ 5 ∷ 3 ∷ 4 ∷ 7 ∷ 8 ∷ 12 ∷ 13 ∷ 14 ∷ 12 ∷ 12 ∷ 10 ∷ 11 ∷ 14 ∷ 15 ∷ 9 ∷ [])
@@ -162,7 +163,9 @@ pub loop-and-last-whole : lowered loop-and-last 0 ≡ some (image
     ∷ new 64 (num 9 ∷ num 0 ∷ num 0 ∷ num 0 ∷ []) ∷ new 64 (num 11 ∷ num 0 ∷ num 9 ∷ num 0 ∷ []) ∷ new 65 (num 13 ∷ [])
     ∷ new 69 (num 11 ∷ pair 16 1 ∷ num 0 ∷ []) ∷ new 68 (num 13 ∷ absent ∷ []) ∷ new 66 (num 14 ∷ []) ∷ [])
     (clause 1 0 ∷ [])
-    (function 0 (pair 17 5) (pair 0 0) (pair 0 1)))
+    (function 0 (pair 17 5) (pair 0 0) (pair 0 1))
+
+pub loop-and-last-whole : lowered loop-and-last 0 ≡ some loop-and-last-lowered
 unfolding lowering
 loop-and-last-whole = refl
 
@@ -373,7 +376,7 @@ too-long = refl
 
 -- ---- what the reader and the runner make of them
 
-decoding : Unit {0}
+unfoldable pub decoding : Unit {0}
 unfolding answerOf readOf headerOf countsFrom countsOf bodyOf endOf sectionsFrom sections recordsFrom recordAt inSection fieldsFrom fieldAt valueOf referTo referOrNone allowed kindOfStatement childHeight entryAt entriesHold listOf rangeOf partOf byteIn operandSortOf operandOf zeros past u16At u32At numAt utf8 octets charWidth widthBy begins utf8Char within
 decoding = tt
 
@@ -390,7 +393,7 @@ pub accepted : map (λ im. readBy (lowered im 0)) lowerable ≡ 0 ∷ 0 ∷ 0 �
 unfolding lowering decoding
 accepted = refl
 
-running : Unit {0}
+unfoldable pub running : Unit {0}
 unfolding clauseOf sameText compareValues bang formBy callForm isResPath exprTree unaryValue binaryValue statementBy itemTree find update eval checks turns reading.stmt reading.body reading.branchOr reading.orElse top runFunction reading.reading mapExpr mapStmt mapBody mapBranch mapElse refinementChecks contractFunction
 running = tt
 

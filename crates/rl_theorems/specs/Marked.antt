@@ -2,9 +2,9 @@
 -- Assumes nothing.
 use Prim.Native.Nat.{ℕ, _+_, _-_, _≤_, _<_}
 use Prim.Native.String.{String}
-use mathlib.Core.Path.{_≡_, refl, subst, _∙_}
-use mathlib.Core.Bool.{true}
-use mathlib.Core.List.{List, [], _∷_, _++_}
+use mathlib.Core.Path.{_≡_, refl, ap, subst, _∙_}
+use mathlib.Core.Bool.{true, false}
+use mathlib.Core.List.{List, [], _∷_, _++_, map}
 use mathlib.Core.Option.{some}
 use native.Mathlib.Omega.{arith}
 use lib.Dec.{lit<}
@@ -17,7 +17,7 @@ use Rattle.rl_spec.specs.declared.Folded.{Folded}
 use Rattle.rl_spec.specs.declared.Folded.the-variants.{Value, Nothing}
 use Rattle.rl_spec.specs.declared.FoldAnswer.the-variants.{Found}
 use Rattle.rl_spec.specs.declared.ProveAnswer.the-variants.{Proved}
-use Rattle.rl_spec.specs.declared.Section.the-variants.{Calls}
+use Rattle.rl_spec.specs.declared.Section.the-variants.{Expressions, Functions, Calls}
 use Rattle.rl_spec.specs.declared.Violation.{Violation}
 use Rattle.rl_spec.specs.declared.Violation.the-variants.{Refinement, Requires}
 use Rattle.rl_spec.specs.Schema.{limits, sections, inSection, sortOf, fieldsOf, fieldsIn, schema}
@@ -25,7 +25,7 @@ use Rattle.rl_spec.specs.Utf8.{within, utf8Char, begins, widthBy, charWidth, oc
 use Rattle.rl_spec.specs.Bytes.{numAt, u16At, u32At, past}
 use Rattle.rl_spec.specs.Fields.{zeros, kindOfStatement, allowed, childHeight, entryAt, rangeOf, partOf, byteIn, operandSortOf, referTo, referOrNone, entriesFrom, listOf, operandOf, valueOf, fieldAt, fieldsFrom, recordAt}
 use Rattle.rl_spec.specs.Read.{countsOf, countsFrom, headerOf, recordsFrom, sectionsFrom, endOf, bodyOf, readOf, answerOf}
-use Rattle.rl_spec.specs.Image.{Image, textOf, sizeOf, bytesOf, encodeFields, encodeRecord, encodeRecords, encodeSections, encodeCounts, encode, imageOf, sectionsIn, recordsIn, recordIn, nextAt, endAt, fieldsAt, widthsOf, WellFormed}
+use Rattle.rl_spec.specs.Image.{Rec, Image, recordsOf, textOf, sizeOf, tallestEntry, tallestChild, heightsFrom, heights, bytesOf, encodeFields, encodeRecord, encodeRecords, encodeSections, encodeCounts, encode, imageOf, sectionsIn, recordsIn, recordIn, nextAt, endAt, fieldsAt, widthsOf, WellFormed}
 use Rattle.rl_spec.specs.Values as value
 use Rattle.rl_spec.specs.Values.{int, compareValues, compareFloats, compareBools, lessText, sameText, arithValues, negate}
 use Rattle.rl_spec.specs.Tree.{ascii, formBy, descendBy, descend, exprTree}
@@ -36,11 +36,14 @@ use Rattle.rl_spec.specs.Prove.{bindArguments, refineBound, refutes, failsAt, f
 use Rattle.rl_spec.specs.Statement.{statementBy, itemTree}
 use Rattle.rl_spec.specs.Run.{folded, plain, Outcome, returned, find, eval}
 use Rattle.rl_spec.specs.Reading.{checks, stmt, top, reading}
-use Rattle.rl_spec.specs.Functions.{mapExpr, mapBody, refinementChecks, contractFunction}
+use Rattle.rl_spec.specs.Functions.{mapExpr, mapBody, refinementChecks, contractFunction, readingIn}
 use Rattle.rl_spec.specs.Message.{decimalBy, decimal, messageBy, opening, messageOf}
+use Rattle.rl_spec.specs.Lower.{lowered}
+use Rattle.rl_spec.specs.Lowerer.{made, anyOver, tooTall, orLimit, lowerOf}
 use Rattle.rl_theorems.specs.Known.{counts}
-use Rattle.rl_theorems.specs.Answers.{proved-encoded, reports-encoded, all-proved-encoded, all-reports-encoded, fitting-room, slice-room, areBytes, well-formed-by, folded-longer}
+use Rattle.rl_theorems.specs.Answers.{lowered-encoded, proved-encoded, reports-encoded, all-proved-encoded, all-reports-encoded, fitting-room, slice-room, areBytes, well-formed-by, folded-longer}
 use Rattle.rl_theorems.specs.Budget.{reading-steady}
+use Rattle.rl_theorems.specs.LowerExamples.{requires-identifier, requires-lowered, case10-whole, returns-ok, returns-lowered, case11-whole}
 use Rattle.rl_theorems.specs.MarkedImages.{integer, uint, byte, string, bool, float, binary, unary, grouping, plus, minus, slash, compare, less, textBytes, textRecords, nodes, lastNode, named-before, named-behind, returns-true, flow}
 
 -- ---- what a case says
@@ -59,11 +62,18 @@ pub record Reports (im : Image) (call : ℕ) (v : Violation) (report : List ℕ)
   pub answer : (k room : ℕ) → 8192 ≤ k → 4 ≤ room → proveOf (encode im) k call room ≡ Proved 1
   pub slice : (k room : ℕ) → 8192 ≤ k → 4 ≤ room → reportsOf (encode im) k call room ≡ report ++ replicate (room - 4) 0
 
+-- from the image's bytes, with any slices that are long enough, lowering a function makes an image with nodes of these kinds
+pub record Lowers (im : Image) (f : ℕ) (kinds : List ℕ) : Type 0 where
+  pub lowered : Image
+  pub nodes : map (λ (r : Rec). r .kind) (recordsOf lowered Expressions) ≡ kinds
+  pub image : imageOf (encode im) ≡ im
+  pub answer : (k room : ℕ) → 8192 ≤ k → 65535 ≤ room → lowerOf (encode im) k f room ≡ made lowered
+
 pub record ReadsAs (im : Image) (f : ℕ) (o : Outcome (List ℕ)) (steps : ℕ) : Type 0 where
   -- the image is the one that its bytes stand for
   pub image : imageOf (encode im) ≡ im
   -- with any budget that is enough, the contract reading of the function comes to this outcome in so many steps
-  pub outcome : (k : ℕ) → reading (λ t. t) (ascii "ret") (contractFunction im f) [] (steps + k) ≡ (o, steps)
+  pub outcome : (k : ℕ) → readingIn im f [] (steps + k) ≡ (o, steps)
 
 -- the names found in the first pass over a call of the f-th function
 abbrev pub namesFound : Image → ℕ → ℕ → List (Binding ℕ)
@@ -90,8 +100,10 @@ pub record MarkedCases : Type 0 where
   pub case8 : Folds (nodes [] (bool 1 ∷ bool 0 ∷ binary 0 less 1 ∷ [])) Nothing × Folds (nodes ("a" ∷ "b" ∷ []) (string 0 ∷ string 1 ∷ binary 0 less 1 ∷ [])) (Value (Truth true))
   -- 9. Byte 5: none
   pub case9 : Folds (nodes [] (byte 5 ∷ [])) Nothing
-  -- 10, 11: to come with lowering
-
+  -- 10. Node 0 an Identifier as requires without message, empty plain body: 1 String, 2 Identifier, 3 Unary, 4 ErrLiteral, 5 Call
+  pub case10 : Lowers requires-identifier 0 (30 ∷ 25 ∷ 30 ∷ 33 ∷ 50 ∷ 41 ∷ [])
+  -- 11. Result function, one-node ensures without message, one kind 66: 10 new nodes, behind the original's three
+  pub case11 : Lowers returns-ok 0 (26 ∷ 49 ∷ 30 ∷ 30 ∷ 41 ∷ 30 ∷ 30 ∷ 41 ∷ 25 ∷ 30 ∷ 33 ∷ 50 ∷ 30 ∷ [])
   -- 12. f(1, a), parameters a, b: b, the text 2, is 1 after the first pass, and of requires b != 1 and b == 1 the first is reported
   pub case12 : (lookup (textOf named-before) (namesFound named-before 0 0) 2 ≡ some (int (pos 1))) × Reports named-before 0 (Requires 0) (0 ∷ 10 ∷ 1 ∷ 0 ∷ []) "contract violation (proven at compile time): b is 1"
   -- 13. f(y, 5), parameters x > 9 and y: reported
@@ -129,6 +141,16 @@ module _ (im : Image) (b : areBytes (encode im) ≡ true) (a : answerOf (encode 
             rw (reports-encoded im well-formed k long call room l, c, slice-room room report (omega arith), n);
       }
 
+  lowers : {f : ℕ} {kinds : List ℕ} (im′ : Image) → f < sizeOf im Functions → tooTall im ≡ false → lowered im f ≡ some im′ →
+      map (λ (r : Rec). r .kind) (recordsOf im′ Expressions) ≡ kinds → Lowers im f kinds
+  lowers {f} im′ l low e q =
+      record {
+        lowered = im′;
+        nodes = q;
+        image = d;
+        answer = λ k room long fit. lowered-encoded im well-formed k long f room l low fit ∙ ap orLimit e;
+      }
+
 -- ---- by computation. What it opens of decoding, of folding, of proving and of reading contracts:
 
 unfoldable pub decoding : Unit {0}
@@ -144,8 +166,20 @@ unfolding paramAt clauseAt functionAt callAt paramOf clauseOf upFrom contractsOf
 proving = tt
 
 running : Unit {0}
-unfolding statementBy itemTree mapExpr mapBody refinementChecks contractFunction find eval checks stmt top reading
+unfolding statementBy itemTree mapExpr mapBody refinementChecks contractFunction readingIn find eval checks stmt top reading
 running = tt
+
+unfoldable pub measuring : Unit {0}
+unfolding tooTall anyOver heights heightsFrom tallestChild tallestEntry
+measuring = tt
+
+lowers-10 : Lowers requires-identifier 0 (30 ∷ 25 ∷ 30 ∷ 33 ∷ 50 ∷ 41 ∷ [])
+unfolding decoding measuring
+lowers-10 = lowers requires-identifier refl refl refl requires-lowered (lit< tt) refl case10-whole refl
+
+lowers-11 : Lowers returns-ok 0 (26 ∷ 49 ∷ 30 ∷ 30 ∷ 41 ∷ 30 ∷ 30 ∷ 41 ∷ 25 ∷ 30 ∷ 33 ∷ 50 ∷ 30 ∷ [])
+unfolding decoding measuring
+lowers-11 = lowers returns-ok refl refl refl returns-lowered (lit< tt) refl case11-whole refl
 
 -- THEOREMS
 pub marked-cases : MarkedCases
@@ -161,6 +195,8 @@ marked-cases =
       case7 = (folds refl refl refl, folds refl refl refl);
       case8 = (folds refl refl refl, folds refl refl refl);
       case9 = folds refl refl refl;
+      case10 = lowers-10;
+      case11 = lowers-11;
       case12 = (refl, reports named-before refl refl refl (lit< tt) refl refl refl refl);
       case13 = reports named-behind refl refl refl (lit< tt) refl refl refl refl;
       case14 =

@@ -9,7 +9,7 @@ use borrow.Author.Tests.{ne-eqb}
 use Rattle.rl_spec.specs.declared.Answer.{Answer}
 use Rattle.rl_spec.specs.declared.Answer.the-variants.{Accepted, Refused}
 use Rattle.rl_spec.specs.declared.Cause.{Cause}
-use Rattle.rl_spec.specs.declared.Cause.the-variants.{ImageTooLong, WorkTooShort, BytesEnd, WrongKind, CountOverLimit, BadText, BadValue, BadReference, TooHigh, BytesLeft, OtherArena, NoSuchNode, NoSuchCall, ReportsTooShort, NoSuchFunction, WrongValues, NoSuchText, BudgetOverLimit}
+use Rattle.rl_spec.specs.declared.Cause.the-variants.{ImageTooLong, WorkTooShort, BytesEnd, WrongKind, CountOverLimit, BadText, BadValue, BadReference, TooHigh, BytesLeft, OtherArena, NoSuchNode, NoSuchCall, ReportsTooShort, NoSuchFunction, HeightOverLimit, OutputTooShort, LimitPassed, WrongValues, NoSuchText, BudgetOverLimit}
 use Rattle.rl_spec.specs.Read.{Out, good, bad, numberOf, answerBy, workBy, readOf, answerOf, workOf}
 use Rattle.rl_spec.specs.Fold.{workUnless}
 
@@ -29,6 +29,9 @@ not-zero NoSuchNode e = omega arith
 not-zero NoSuchCall e = omega arith
 not-zero ReportsTooShort e = omega arith
 not-zero NoSuchFunction e = omega arith
+not-zero HeightOverLimit e = omega arith
+not-zero OutputTooShort e = omega arith
+not-zero LimitPassed e = omega arith
 not-zero WrongValues e = omega arith
 not-zero NoSuchText e = omega arith
 not-zero BudgetOverLimit e = omega arith

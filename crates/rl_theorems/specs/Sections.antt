@@ -47,7 +47,7 @@ abbrev pub startsIn : Image → Section → List ℕ
 startsIn im o = starts (placeOf im o) (recordsOf im o)
 
 module _ (im : Image) (wf : WellFormed im) where
-  sized-at : (o : Section) (i : ℕ) → i < sizeOf im o → SizedRecord (recordOf im o i)
+  pub sized-at : (o : Section) (i : ℕ) → i < sizeOf im o → SizedRecord (recordOf im o i)
   sized-at o i l = record-sized im (bounded im (wf .counts)) o i (omega (arith, bounded im (wf .counts) .sizes o)) (recordOf im o i) (wf .fits o i l)
 
   section-sized : (o : Section) → AllSizedRecords (recordsOf im o)
@@ -57,10 +57,10 @@ module _ (im : Image) (wf : WellFormed im) where
 
   -- the records of a section of one kind
   module _ (o : Section) (e : lowest o ≡ highest o) (i : ℕ) (l : i < sizeOf im o) where
-    kind-at : recordOf im o i .kind ≡ lowest o
+    pub kind-at : recordOf im o i .kind ≡ lowest o
     kind-at = omega (arith, kind-range o (recordOf im o i .kind) (wf .fits o i l .kind))
 
-    length-at : length (encodeRecord (recordOf im o i)) ≡ suc (widthsOf (fieldsOf (lowest o)))
+    pub length-at : length (encodeRecord (recordOf im o i)) ≡ suc (widthsOf (fieldsOf (lowest o)))
     length-at = rw (length-record (recordOf im o i) (sized-at o i l), kind-at)
 
   -- the sections from one on

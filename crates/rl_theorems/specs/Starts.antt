@@ -173,7 +173,7 @@ module _ (s : List ℕ) {p : List ℕ} (r : Reads s p) where
       ap (λ (x : List ℕ). getD x i 0) starts-are
       ∙ List·getD-append (placesOf s Expressions) _ 0 i (rw (length-places s Expressions) h) ∙ getD-places s Expressions i h
 
-  start-statement : (i : ℕ) → i < countsOf s .statements → getD p (countsOf s .expressions + i) 0 ≡ endAt s i (sectionAt s Statements)
+  pub start-statement : (i : ℕ) → i < countsOf s .statements → getD p (countsOf s .expressions + i) 0 ≡ endAt s i (sectionAt s Statements)
   start-statement i h =
       ap (λ (x : List ℕ). getD x (countsOf s .expressions + i) 0) starts-are
       ∙ getD-second (placesOf s Expressions) (placesOf s Statements) _ (countsOf s .expressions) i (length-places s Expressions) (rw (length-places s Statements) h)

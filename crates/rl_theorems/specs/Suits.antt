@@ -60,11 +60,11 @@ and-right true b e = e
 and-right false b e = absurd (false≢true e)
 
 -- a test of n numbers from k on
-abbrev all : (ℕ → Bool) → ℕ → ℕ → Bool
+abbrev pub all : (ℕ → Bool) → ℕ → ℕ → Bool
 all f k zero = true
 all f k (suc n) = f k && all f (suc k) n
 
-all-at : (f : ℕ → Bool) (n k j : ℕ) → all f k n ≡ true → k ≤ j → j < k + n → f j ≡ true
+pub all-at : (f : ℕ → Bool) (n k j : ℕ) → all f k n ≡ true → k ≤ j → j < k + n → f j ≡ true
 all-at f zero k j e p q = absurd (omega arith)
 all-at f (suc n) k j e p q =
     by-ltb k j (λ d. all-at f n (suc k) j (and-right (f k) (all f (suc k) n) e) d (omega arith))

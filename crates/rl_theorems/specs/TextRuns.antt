@@ -1,4 +1,5 @@
 -- Statements, bodies and functions with their texts mapped run as they did, mapped: the texts keep their bytes, and `ret` is mapped.
+-- Assumes nothing.
 use Prim.Native.Nat.{ℕ, zero, suc}
 use mathlib.Core.Path.{_≡_, refl, ap, ap₂, _∙_, subst⁻¹}
 use mathlib.Core.Bool.{Bool, true, false}
@@ -6,10 +7,10 @@ use mathlib.Core.List.{List, [], _∷_, map}
 use mathlib.Core.Option.{Option, none, some}
 use Rattle.rl_spec.specs.Tree.{Expr}
 use Rattle.rl_spec.specs.Statement.{Stmt, declaration, expression, return, returnAlone, conditional, while, loop, break, continue, otherStatement, Body, nil, _▸_, Branch, branch, Else, noElse, elseBranch, elseConditional}
-use Rattle.rl_spec.specs.Functions.{mapOption, mapExpr, mapStmt, mapBody, mapBranch, mapElse}
+use Rattle.rl_spec.specs.Functions.{mapOption, mapValue, mapOutcome, mapExpr, mapStmt, mapBody, mapBranch, mapElse}
 use Rattle.rl_spec.specs.Run.{nothing, Value, plain, ok, err, named, hidden, Outcome, returned, stopped, fault, Result, got, ended, Run, give, bind, eval}
 use Rattle.rl_spec.specs.Reading.{Check, Function, Mode, plainly, checked, modeOf, bare, onlyReturned, withReturn, bodyUnder, Flow, onward, breaks, continues, followed, followedTop, again, turns, repeat, loopTurn, when, unless, bindAll, content, subject, violated, check, checks, checkedReturn, returning, returningNull, taken, whileTurn, stmt, body, branchOr, orElse, lastOr, top, finish, entering, runFunction, reading}
-use Rattle.rl_theorems.specs.Texts.{mapValue, mapOutcome, mapResult, Alike, same, then, gives, halts, ticks, charges, binds, scopes, truths, plainOfs, evals}
+use Rattle.rl_theorems.specs.Texts.{mapResult, Alike, same, then, gives, halts, ticks, charges, binds, scopes, truths, plainOfs, evals}
 
 -- ---- functions and outcomes with their texts mapped
 

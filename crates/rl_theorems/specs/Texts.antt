@@ -1,5 +1,6 @@
 -- Running commutes with another account of the texts that keeps their bytes: the run of a mapped tree in mapped bindings is the run,
 -- mapped.
+-- Assumes nothing.
 use Prim.Native.Nat.{ℕ, zero, suc, _-_, _^_}
 use mathlib.Core.Path.{_≡_, refl, ap, ap₂, _∙_, subst⁻¹}
 use mathlib.Core.Bool.{Bool, true, false, cond, _||_}
@@ -16,37 +17,22 @@ use Rattle.rl_spec.specs.Values as value
 use Rattle.rl_spec.specs.Values.{ConstVal, RefineOp, gt, ge, lt, le, eq, ne, ArithOp, plus, minus, star, slash, compareBy, sameText, lessText, compareValues, arithInts, roundedOnce, arithFloats, arithValues, bang, negate}
 use Rattle.rl_spec.specs.Fold.{boolean, unaryValue, binaryValue}
 use Rattle.rl_spec.specs.Tree.{Expr, null, literal, identifier, unary, binary, grouping, assign, okLiteral, errLiteral, isErr, resultUnwrap, other}
-use Rattle.rl_spec.specs.Functions.{mapOption, mapConst, mapExpr}
-use Rattle.rl_spec.specs.Run.{Plain, nothing, folded, Value, plain, ok, err, Bound, named, hidden, Env, Outcome, returned, stopped, fault, spent, Result, got, ended, Run, andThen, _>>=_, give, halt, orFault, tick, charge, bind, leaving, scoped, truth, plainOf, errOf, unwrapped, operand, find, behind, update, look, store, unaryOn, binaryOn, eval}
+use Rattle.rl_spec.specs.Functions.{mapOption, mapConst, mapPlain, mapValue, mapOutcome, mapExpr}
+use Rattle.rl_spec.specs.Run.{nothing, folded, Value, plain, ok, err, Bound, named, hidden, Env, Outcome, stopped, fault, Result, got, ended, Run, andThen, _>>=_, give, halt, orFault, tick, charge, bind, leaving, scoped, truth, plainOf, errOf, unwrapped, operand, find, behind, update, look, store, unaryOn, binaryOn, eval}
 
--- ---- values, bindings and results with their texts mapped
+-- ---- bindings and results with their texts mapped
 
 module _ {A B : Type 0} (f : A → B) where
-  abbrev pub mapPlain : Plain A → Plain B
-  mapPlain nothing = nothing
-  mapPlain (folded v) = folded (mapConst f v)
-
-  abbrev pub mapValue : Value A → Value B
-  mapValue (plain p) = plain (mapPlain p)
-  mapValue (ok p) = ok (mapPlain p)
-  mapValue (err p) = err (mapPlain p)
-
   abbrev pub mapBound : Bound A → Bound B
-  mapBound (named x v) = named (f x) (mapValue v)
-  mapBound (hidden v) = hidden (mapValue v)
+  mapBound (named x v) = named (f x) (mapValue f v)
+  mapBound (hidden v) = hidden (mapValue f v)
 
   abbrev pub mapEnv : Env A → Env B
   mapEnv env = map mapBound env
 
-  abbrev pub mapOutcome : Outcome A → Outcome B
-  mapOutcome (returned v) = returned (mapValue v)
-  mapOutcome (stopped p) = stopped (mapPlain p)
-  mapOutcome (fault k) = fault k
-  mapOutcome spent = spent
-
   abbrev pub mapResult : {X Y : Type 0} → (X → Y) → Result A X → Result B Y
   mapResult g (got x env n) = got (g x) (mapEnv env) n
-  mapResult g (ended o n) = ended (mapOutcome o) n
+  mapResult g (ended o n) = ended (mapOutcome f o) n
 
   -- the second run in the mapped bindings is the first, mapped
   pub record Alike {X Y : Type 0} (g : X → Y) (m : Run A X) (m′ : Run B Y) : Type 0 where

@@ -20,14 +20,18 @@ use Rattle.rl_spec.specs.declared.Cause.the-variants.{BytesEnd, BadText, BadRef
 use Rattle.rl_spec.specs.declared.Answer.the-variants.{Accepted, Refused}
 use Rattle.rl_spec.specs.declared.Section.{Section}
 use Rattle.rl_spec.specs.declared.FoldAnswer.the-variants.{Found}
-use Rattle.rl_spec.specs.declared.Section.the-variants.{Expressions, Statements, Calls}
+use Rattle.rl_spec.specs.declared.ProveAnswer.the-variants.{Proved}
+use Rattle.rl_spec.specs.declared.Arguments.{Arguments}
+use Rattle.rl_spec.specs.declared.Outcome.{Outcome as Ending}
+use Rattle.rl_spec.specs.declared.RunAnswer.the-variants as run
+use Rattle.rl_spec.specs.declared.Section.the-variants.{Expressions, Statements, Functions, Calls}
 use Rattle.rl_spec.specs.declared.Sort.the-variants.{Part}
 use Rattle.rl_spec.specs.declared.Step.the-variants.{Next, Stop}
 use Rattle.rl_spec.specs.Bytes.{u16At}
 use Rattle.rl_spec.specs.Schema.{textBytesAt, countOf, tallest, widthOf, fieldsOf}
 use Rattle.rl_spec.specs.Utf8.{utf8, isScalar, encodeText}
 use Rattle.rl_spec.specs.Fields.{entryAt, fieldsFrom, recordAt}
-use Rattle.rl_spec.specs.Read.{answerOf, workOf, startsOf}
+use Rattle.rl_spec.specs.Read.{countsOf, answerOf, workOf, startsOf}
 use Rattle.rl_spec.specs.Image.{Image, encode, imageOf, entryOf, textOf, sizeOf, heights, AllBytes, WellFormed}
 use Rattle.rl_spec.specs.Found.{imageFound}
 use Rattle.rl_spec.specs.Folded.{asFolded}
@@ -36,7 +40,10 @@ use Rattle.rl_spec.specs.Fold.{constEval, foldOf}
 use Rattle.rl_spec.specs.Prove.{callEntries, allEntries, fitting, sliceBy, proveOf, reportsOf, proveAllOf, allReportsOf, violationsOf}
 use Rattle.rl_spec.specs.Statement.{Stmt, Body}
 use Rattle.rl_spec.specs.Contracts.{calleeOf, argumentsOf}
-use Rattle.rl_spec.specs.Functions.{mapExpr, mapStmt, mapBody, contractFunction}
+use Rattle.rl_spec.specs.Functions.{mapValue, mapExpr, mapStmt, mapBody, plainFunction, contractFunction, readingIn}
+use Rattle.rl_spec.specs.Lower.{lowered}
+use Rattle.rl_spec.specs.Lowerer.{made, refused, tooTall, orLimit, lowerOf, lowerOut}
+use Rattle.rl_spec.specs.Runner.{outcomeIn, allHave, given, valuesOf, runOf}
 use Rattle.rl_spec.specs.Run.{Value, Env, got, tick, _>>_, eval}
 use Rattle.rl_spec.specs.Reading.{Check, Function, Mode, repeat, loopTurn, whileTurn, checks, stmt, body, top, runFunction, entering, reading}
 use Rattle.rl_theorems.specs.Utf8 as Utf8
@@ -54,6 +61,10 @@ use Rattle.rl_theorems.specs.Causes as Causes
 use Rattle.rl_theorems.specs.Distance.{Same, apart}
 use Rattle.rl_theorems.specs.Nearest as Nearest
 use Rattle.rl_theorems.specs.Answers as Answers
+use Rattle.rl_theorems.specs.LowerBodies as LowerBodies
+use Rattle.rl_theorems.specs.LowerFrame as LowerFrame
+use Rattle.rl_theorems.specs.LoweredTo as LoweredTo
+use Rattle.rl_theorems.specs.LoweredTrees as LoweredTrees
 use Rattle.rl_theorems.specs.Steps as Steps
 use Rattle.rl_theorems.specs.Budget as Budget
 use Rattle.rl_theorems.specs.Texts as Texts
@@ -64,6 +75,14 @@ use Rattle.rl_theorems.specs.FoldsEntry as FoldsEntry
 use Rattle.rl_theorems.specs.Heights as Heights
 use Rattle.rl_theorems.specs.LowerTrees as LowerTrees
 use Rattle.rl_theorems.specs.LoweredRuns as LoweredRuns
+use Rattle.rl_theorems.specs.Grows.{eight-sections}
+use Rattle.rl_theorems.specs.Followed as Followed
+use Rattle.rl_theorems.specs.FunctionReady.{Under}
+use Rattle.rl_theorems.specs.LoweredWellFormed as LoweredWellFormed
+use Rattle.rl_theorems.specs.LowerAnswers as LowerAnswers
+use Rattle.rl_theorems.specs.LoweredBytes as LoweredBytes
+use Rattle.rl_theorems.specs.FirstHalf as FirstHalf
+use Rattle.rl_theorems.specs.SecondHalf as SecondHalf
 use Rattle.rl_theorems.specs.Marked as Marked
 use Rattle.rl_laws.specs.Heights.{exprHeight}
 
@@ -181,7 +200,7 @@ module _ (i : ℤ) (h : mag i < 2 ^ 63) where
     pub nearest-even : apart i (ofInt binary64 i) * den x ≡ apart i x * den (ofInt binary64 i) → (Same x (ofInt binary64 i) → ⊥) → Nearest.LastDigit 53 0 (ofInt binary64 i) × Nearest.LastDigit 53 1 x
     nearest-even = Nearest.nearest-even i h x finite-x fits-x
 
--- ---- what folding and proving answer for the bytes of a well-formed image (Answers)
+-- ---- what folding, proving and lowering answer for the bytes of a well-formed image (Answers)
 
 module _ (im : Image) (wf : WellFormed im) (k : ℕ) (long : 8192 ≤ k) where
   pub folded-encoded : (n : ℕ) → n < sizeOf im Expressions → foldOf (encode im) k (record { arena = record { 0 = im .arena }; node = record { 0 = n } }) ≡ Found (asFolded (constEval (textOf im) [] (exprTree im n)))
@@ -200,6 +219,10 @@ module _ (im : Image) (wf : WellFormed im) (k : ℕ) (long : 8192 ≤ k) where
 
   pub all-reports-encoded : (room : ℕ) → allReportsOf (encode im) k room ≡ sliceBy room (allEntries im (sizeOf im Calls) 0) (fitting room (allEntries im (sizeOf im Calls) 0))
   all-reports-encoded = Answers.all-reports-encoded im wf k long
+
+  -- lowering a function of an image that is not too tall, with an output slice that is long enough
+  pub lowered-encoded : (f room : ℕ) → f < sizeOf im Functions → tooTall im ≡ false → 65535 ≤ room → lowerOf (encode im) k f room ≡ orLimit (lowered im f)
+  lowered-encoded = Answers.lowered-encoded im wf k long
 
 -- ---- the steps of a run (Steps). Spends: what is left is at most the budget that was given, and nothing where that is spent
 
@@ -261,7 +284,7 @@ module _ {Text : Type 0} (bytes : Text → List ℕ) (ret : Text) where
 -- ---- another account of the texts that keeps their bytes (Texts, TextRuns): a mapped tree in mapped bindings runs as the tree does, mapped
 
 module _ {A B : Type 0} (f : A → B) (bytesA : A → List ℕ) (bytesB : B → List ℕ) (keeps : (t : A) → bytesB (f t) ≡ bytesA t) where
-  pub eval-mapped : (e : Expr A) (env : Env A) (n : ℕ) → eval bytesB (mapExpr f e) (Texts.mapEnv f env) n ≡ Texts.mapResult f (Texts.mapValue f) (eval bytesA e env n)
+  pub eval-mapped : (e : Expr A) (env : Env A) (n : ℕ) → eval bytesB (mapExpr f e) (Texts.mapEnv f env) n ≡ Texts.mapResult f (mapValue f) (eval bytesA e env n)
   eval-mapped e = Texts.evals f bytesA bytesB keeps e .runs
 
   -- statements and bodies plainly and checked; `ret` is mapped too
@@ -272,13 +295,13 @@ module _ {A B : Type 0} (f : A → B) (bytesA : A → List ℕ) (bytesB : B → 
     pub body-mapped : (m : Mode A) (b : Body A) (env : Env A) (n : ℕ) → body bytesB retB (TextRuns.mapMode f m) (mapBody f b) (Texts.mapEnv f env) n ≡ Texts.mapResult f Texts.same (body bytesA retA m b env n)
     body-mapped m b = TextRuns.bodies f bytesA bytesB keeps retA retB ret-same m b .runs
 
-    pub top-mapped : (m : Mode A) (b : Body A) (env : Env A) (n : ℕ) → top bytesB retB (TextRuns.mapMode f m) (mapBody f b) (Texts.mapEnv f env) n ≡ Texts.mapResult f (Texts.mapValue f) (top bytesA retA m b env n)
+    pub top-mapped : (m : Mode A) (b : Body A) (env : Env A) (n : ℕ) → top bytesB retB (TextRuns.mapMode f m) (mapBody f b) (Texts.mapEnv f env) n ≡ Texts.mapResult f (mapValue f) (top bytesA retA m b env n)
     top-mapped m b = TextRuns.tops f bytesA bytesB keeps retA retB ret-same m b .runs
 
-    pub run-mapped : (g : Function A) (vs : List (Value A)) (budget : ℕ) → runFunction bytesB retB (TextRuns.mapFunction f g) (map (Texts.mapValue f) vs) budget ≡ TextRuns.mapEnded f (runFunction bytesA retA g vs budget)
+    pub run-mapped : (g : Function A) (vs : List (Value A)) (budget : ℕ) → runFunction bytesB retB (TextRuns.mapFunction f g) (map (mapValue f) vs) budget ≡ TextRuns.mapEnded f (runFunction bytesA retA g vs budget)
     run-mapped = TextRuns.run-mapped f bytesA bytesB keeps retA retB ret-same
 
-    pub reading-mapped : (g : Function A) (vs : List (Value A)) (budget : ℕ) → reading bytesB retB (TextRuns.mapFunction f g) (map (Texts.mapValue f) vs) budget ≡ TextRuns.mapEnded f (reading bytesA retA g vs budget)
+    pub reading-mapped : (g : Function A) (vs : List (Value A)) (budget : ℕ) → reading bytesB retB (TextRuns.mapFunction f g) (map (mapValue f) vs) budget ≡ TextRuns.mapEnded f (reading bytesA retA g vs budget)
     reading-mapped = TextRuns.reading-mapped f bytesA bytesB keeps retA retB ret-same
 
 -- ---- closed runs and readings (RunExamples has the list): each statement kind, each fault, each outcome, and marked case 14
@@ -293,12 +316,80 @@ runs-end-so = RunExamples.runs-end-so
 pub lowered-runs : (f : Function (List ℕ)) (vs : List (Value (List ℕ))) (budget : ℕ) → LoweredRuns.Premises f → runFunction (λ t. t) (ascii "ret") (LowerTrees.lowered f) vs budget ≡ reading (λ t. t) (ascii "ret") f vs budget
 lowered-runs = LoweredRuns.lowered-runs
 
--- ---- a call that has a report never passes its callee's entry checks (FoldsCalls; FoldsExamples has two such calls). `Asked`: the callee's
--- parameter names are distinct, no identifier stands in the arguments and no assignment in its conditions, and an argument that folds
--- has that value
+-- ---- the lowered image: the original's records followed by the new ones, one function's body list changed (Followed). Where no expression
+-- of the original is taller than 64 and no statement taller than 32 it is well formed, and the reader accepts its bytes
+-- (LoweredWellFormed; LoweredWellFormedExample meets the premises)
+
+pub lowered-followed : (im im′ : Image) (f : ℕ) → WellFormed im → lowered im f ≡ some im′ → Followed.Followed im f im′
+lowered-followed im im′ f wf = Followed.lowered-followed im im′ f (eight-sections im wf)
+
+module _ (im im′ : Image) (f : ℕ) (wf : WellFormed im) (there : f < sizeOf im Functions) (low : Under 64 (heights im Expressions))
+    (lower : Under 32 (heights im Statements)) (e : lowered im f ≡ some im′) where
+  pub lowered-well-formed : WellFormed im′
+  lowered-well-formed = LoweredWellFormed.lowered-well-formed im im′ f wf there low lower e
+
+  pub lowered-accepted : (k : ℕ) → 8192 ≤ k → (answerOf (encode im′) k ≡ Accepted (record { 0 = im′ .arena }) (counts im′)) × (imageOf (encode im′) ≡ im′)
+  lowered-accepted k = LoweredWellFormed.lowered-accepted im im′ f k wf there low lower e
+
+-- ---- on records, the function of a lowered image, its texts as bytes, is what the function's tree is lowered to, and so its plain run is the
+-- contract reading (LoweredTrees; LoweredTo says when a tree is lowered to another, whatever the temporaries are called;
+-- LoweredTreesExample has a function that meets the premises)
+
+module _ (im im′ : Image) (f : ℕ) (wf : WellFormed im) (there : f < sizeOf im Functions) (e : lowered im f ≡ some im′)
+    (ensured : LowerBodies.Ensured (contractFunction im f .ensures) (contractFunction im f .body)) where
+  pub lowered-trees : LoweredTo.LoweredTo (contractFunction im f) (TextRuns.mapFunction (textOf im′) (plainFunction im′ f))
+  lowered-trees = LoweredTrees.lowered-trees im im′ f wf there e ensured
+
+  pub lowered-reads : LowerFrame.CleanChecks (contractFunction im f .ensures) → (vs : List (Value (List ℕ))) (budget : ℕ) → runFunction (λ t. t) (ascii "ret") (TextRuns.mapFunction (textOf im′) (plainFunction im′ f)) vs budget ≡ reading (λ t. t) (ascii "ret") (contractFunction im f) vs budget
+  lowered-reads = LoweredTrees.lowered-reads im im′ f wf there e ensured
+
+-- ---- a call that has a report never passes its callee's entry checks (FoldsCalls; SecondHalfExamples has two such calls). `Asked`: the callee's
+-- parameter names are distinct, no identifier stands in the arguments and no assignment in its conditions, and a parameter whose argument
+-- folds has that value
 
 pub reported-never-enters : (im : Image) (call f : ℕ) (vs : List (Value (List ℕ))) → calleeOf im call ≡ some f → FoldsCalls.Asked im f (argumentsOf im call) vs → FoldsEntry.NonEmpty (violationsOf im call) → (budget : ℕ) (env : Env (List ℕ)) (left : ℕ) → entering (λ t. t) (ascii "ret") (contractFunction im f) vs [] budget ≡ got tt env left → ⊥
 reported-never-enters im = FoldsCalls.reported-never-enters im
+
+-- ---- DEMAND 3, from bytes to bytes
+
+-- what lowering refuses it refuses for its cause: the reader's, or 11, 12, 13 or 14 (LowerAnswers)
+pub lowering-refused-for : (s : List ℕ) (k f room : ℕ) (q : Cause) (n : ℕ) → lowerOf s k f room ≡ refused q n → LowerAnswers.Refusal s k f room q n
+lowering-refused-for = LowerAnswers.refused-for
+
+module _ (s : List ℕ) (k f room : ℕ) (im′ : Image) (bytes : AllBytes s) (e : lowerOf s k f room ≡ made im′) where
+  -- what it makes is well formed, the reader accepts its bytes, it is the original's records followed by the new ones, and it is what the
+  -- output slice begins with (LoweredBytes)
+  pub made-well-formed : WellFormed im′
+  made-well-formed = LoweredBytes.made-well-formed s k f room im′ bytes e
+
+  pub made-accepted : (answerOf (encode im′) k ≡ Accepted (record { 0 = im′ .arena }) (counts im′)) × (imageOf (encode im′) ≡ im′)
+  made-accepted = LoweredBytes.made-accepted s k f room im′ bytes e
+
+  pub made-followed : Followed.Followed (imageOf s) f im′
+  made-followed = LoweredBytes.made-followed s k f room im′ bytes e
+
+  pub made-written : take (length (encode im′)) (lowerOut room (lowerOf s k f room)) ≡ encode im′
+  made-written = LoweredBytes.made-written s k f room im′ bytes e
+
+  -- FIRST HALF, on values whose texts are the original's (FirstHalf; FirstHalfExamples)
+  module _ (args : Arguments) (budget : ℕ) (texts : allHave (countsOf s) (given args) ≡ true) where
+    -- where the runner refuses the original's run, it refuses the lowered body's by the same number
+    pub first-half-refused : (q : Cause) (p : ℕ) → runOf s k f args budget ≡ run.Refused q p → runOf (encode im′) k f args budget ≡ run.Refused q p
+    first-half-refused = FirstHalf.first-half-refused s k f room im′ bytes e args budget texts
+
+    -- otherwise the lowered body's run and the original's contract reading end alike: no name begins with `__ensure_ret_`, and where
+    -- something is ensured a bare last expression is the only statement
+    pub first-half : LoweredRuns.Premises (contractFunction (imageOf s) f) → (o : Ending) (n : ℕ) → runOf s k f args budget ≡ run.Ran o n → (o′ : Ending) × (n′ : ℕ) × (runOf (encode im′) k f args budget ≡ run.Ran o′ n′) × ((outcomeIn im′ o′, n′) ≡ readingIn (imageOf s) f (valuesOf (given args)) budget)
+    first-half = FirstHalf.first-half s k f room im′ bytes e args budget texts
+
+-- SECOND HALF (SecondHalf; SecondHalfExamples): a call that is reported has a callee, and whatever the budget is and the values that no
+-- argument folds to are, it never passes the callee's entry checks. `Asked` as above
+module _ (s : List ℕ) (k call room n : ℕ) (some-reports : n ≡ 0 → ⊥) (e : proveOf s k call room ≡ Proved n) where
+  pub reported-callee : (f : ℕ) × (calleeOf (imageOf s) call ≡ some f)
+  reported-callee = SecondHalf.reported-callee s k call room n some-reports e
+
+  pub second-half : (f : ℕ) → calleeOf (imageOf s) call ≡ some f → (vs : List (Value (List ℕ))) → FoldsCalls.Asked (imageOf s) f (argumentsOf (imageOf s) call) vs → (budget : ℕ) (env : Env (List ℕ)) (left : ℕ) → entering (λ t. t) (ascii "ret") (contractFunction (imageOf s) f) vs [] budget ≡ got tt env left → ⊥
+  second-half = SecondHalf.second-half s k call room n some-reports e
 
 -- ---- the marked cases, and the printer's example (Marked has both lists, MarkedImages the images)
 

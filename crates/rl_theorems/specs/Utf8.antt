@@ -30,7 +30,7 @@ tail-in : (b : ℕ) → b < 0x40 → within utf8Tail (0x80 + b) ≡ true
 tail-in b p = within-yes 0x80 0xBF (0x80 + b) (omega arith) (omega arith)
 
 -- ---- scalars
-scalar-low : (c : ℕ) → c ≤ 0xD7FF → isScalar c ≡ true
+pub scalar-low : (c : ℕ) → c ≤ 0xD7FF → isScalar c ≡ true
 unfolding isScalar
 scalar-low c p = rw (within-yes 0 0xD7FF c (omega arith) p) refl
 
@@ -56,7 +56,7 @@ three x y z = x * 0x1000 + y * 0x40 + z
 abbrev four : ℕ → ℕ → ℕ → ℕ → ℕ
 four x y z w = x * 0x40000 + y * 0x1000 + z * 0x40 + w
 
-encode-one : (c : ℕ) → c ≤ 0x7F → encodeScalar c ≡ c ∷ []
+pub encode-one : (c : ℕ) → c ≤ 0x7F → encodeScalar c ≡ c ∷ []
 unfolding encodeScalar
 encode-one c p = rw (le-leb c 0x7F p) refl
 
