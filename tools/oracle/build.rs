@@ -1,17 +1,18 @@
 //! Looks for the original's sources below RL_LANG_SRC, or below the default
 //! folder, both seen from the repository's top. Where they are, the cfg
-//! `original` is set and a file says where its two modules are.
+//! `original` is set and a file says where its three modules are.
 
 use std::path::{Path, PathBuf};
 use std::{env, fs};
 
 /// The files that are compiled as they are.
-const FILES: [&str; 5] = [
+const FILES: [&str; 6] = [
     "rl-ast/src/lib.rs",
     "rl-ast/src/arena.rs",
     "rl-ast/src/nodes.rs",
     "rl-ast/src/statements.rs",
     "rl-checker/src/contracts.rs",
+    "rl-resolver/src/contracts.rs",
 ];
 
 fn main() {
@@ -26,7 +27,8 @@ fn main() {
     }
     if files.iter().all(|file| file.exists()) {
         println!("cargo:rustc-cfg=original");
-        let modules = module("ast", &files[0]) + &module("contracts", &files[4]);
+        let modules = [("ast", &files[0]), ("contracts", &files[4]), ("resolver", &files[5])];
+        let modules = modules.map(|(name, file)| module(name, file)).concat();
         let out = PathBuf::from(env::var_os("OUT_DIR").expect("set by cargo"));
         fs::write(out.join("original.rs"), modules).expect("OUT_DIR can be written");
     }

@@ -41,10 +41,21 @@ extern "C" {
         outcome: *mut u64,
         outcome_len: usize,
     ) -> u64;
+    #[cfg(feature = "lower")]
+    fn rl_lower(
+        image: *const u8,
+        image_len: usize,
+        work: *mut u16,
+        work_len: usize,
+        function: u32,
+        out: *mut u8,
+        out_len: usize,
+    ) -> u64;
 }
 
 /// A refusal's number, 0 without one, and the low half of the answer: the
-/// refusal's place or, after proving, how many reports there are.
+/// refusal's place or, after proving, how many reports there are or, after
+/// lowering, how many bytes.
 #[derive(Debug, Clone, Copy, PartialEq, Eq)]
 pub struct Answer {
     pub number: u32,
@@ -131,6 +142,22 @@ pub fn run(
             budget,
             outcome.as_mut_ptr(),
             outcome.len(),
+        )
+    })
+}
+
+/// Lowers a function; `work` and `out` are overwritten whole.
+#[cfg(feature = "lower")]
+pub fn lower(image: &[u8], work: &mut [u16], function: u32, out: &mut [u8]) -> Answer {
+    Answer::of(unsafe {
+        rl_lower(
+            image.as_ptr(),
+            image.len(),
+            work.as_mut_ptr(),
+            work.len(),
+            function,
+            out.as_mut_ptr(),
+            out.len(),
         )
     })
 }

@@ -2,6 +2,8 @@
 
 pub mod ffi;
 pub mod images;
+#[cfg(feature = "lower")]
+pub mod lowerings;
 pub mod runs;
 pub mod slices;
 pub mod timing;

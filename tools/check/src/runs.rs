@@ -13,7 +13,7 @@ pub struct Case {
     pub bytes: Vec<u8>,
     pub image: Result<Image, Refusal>,
     /// What reading leaves at the start of the work slice.
-    heights: Vec<u16>,
+    pub heights: Vec<u16>,
 }
 
 impl Case {

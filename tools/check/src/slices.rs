@@ -5,6 +5,7 @@ use std::fmt::Debug;
 /// Entries behind a lent slice, which must stay as they are.
 const GUARD: usize = 16;
 /// What lent slices hold before each call.
+pub const GARBAGE_BYTE: u8 = 0xab;
 pub const GARBAGE: (u16, u32, u64) = (0xabcd, 0xabcd_ef01, 0xabcd_ef01_2345_6789);
 
 /// A slice with what stands behind it, its length, and what it was filled with.

@@ -1,12 +1,17 @@
-//! What the original Rust reports of an image's calls. Its files are compiled
-//! where they are, unchanged; `stand_ins` has what they lean on.
+//! What the original Rust reports of an image's calls, and what it makes of a
+//! function with contracts. Its files are compiled where they are, unchanged;
+//! `stand_ins` has what they lean on.
 
+#[cfg(original)]
+mod fields;
+pub mod lower;
 pub mod marked;
 pub mod pairs;
 pub mod picked;
 #[cfg(original)]
 mod prove;
 mod rule;
+pub mod shape;
 #[cfg(original)]
 mod stand_ins;
 mod steps;
@@ -24,7 +29,7 @@ extern crate self as rl_lexer;
 extern crate self as rl_utils;
 #[cfg(original)]
 use {
-    ast::{ExprId, arena, nodes, statements},
+    ast::{Ast, ExprId, arena, nodes, statements},
     stand_ins::{TypeChecker, span, tokentypes},
 };
 

@@ -12,7 +12,7 @@ pub mod span {
 }
 
 /// For `rl_lexer::tokentypes`: the tokens that the original matches on, and
-/// one for all others.
+/// one for all others, with the image's number.
 pub mod tokentypes {
     #[derive(Debug, Clone, PartialEq)]
     pub enum TokenType {
@@ -27,7 +27,7 @@ pub mod tokentypes {
         LessEqual,
         Greater,
         GreaterEqual,
-        Other,
+        Other(u8),
     }
 }
 

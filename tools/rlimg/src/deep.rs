@@ -47,14 +47,19 @@ fn tall(code: &mut Code, kind: usize, height: u16) -> u16 {
 /// A return of a tall expression inside as many statements as can be, whose
 /// conditions are tall too.
 pub fn nested(way: usize, kind: usize) -> Image {
+    nested_to(way, kind, [EXPRESSION_HEIGHT, STATEMENT_HEIGHT])
+}
+
+/// The same up to other heights.
+pub fn nested_to(way: usize, kind: usize, [expressions, statements]: [u16; 2]) -> Image {
     code::image(&["x"], |code| {
-        let holds = tall(code, kind, EXPRESSION_HEIGHT);
-        let fails = tall(code, kind, EXPRESSION_HEIGHT - 1);
+        let holds = tall(code, kind, expressions);
+        let fails = tall(code, kind, expressions - 1);
         let fails = code.unary(BANG, fails);
         let mut height = 1;
         let mut inner = code.give(holds);
-        while height < STATEMENT_HEIGHT {
-            let room = STATEMENT_HEIGHT - height;
+        while height < statements {
+            let room = statements - height;
             let made = match way {
                 0 => (code.while_loop(holds, &[inner]), 1),
                 2 if room > 1 => (code.when(holds, &[inner]), 2),

@@ -1,6 +1,6 @@
 //! The image format: records, bytes, text form, an independent reader, folder,
-//! prover and runner, and generators of accepted and damaged images, of
-//! contracts and of functions to be run.
+//! prover, runner and lowering, and generators of accepted and damaged images,
+//! of contracts and of functions to be run and to be lowered.
 
 pub mod builder;
 pub mod code;
@@ -12,6 +12,8 @@ pub mod encode;
 pub mod fold;
 pub mod hostile;
 pub mod image;
+pub mod lower;
+pub mod lowerings;
 pub mod prove;
 pub mod random;
 pub mod reader;

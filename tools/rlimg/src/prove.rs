@@ -101,7 +101,8 @@ pub fn message(image: &Image, [call, _, what, number]: Report) -> Option<String>
     Some(format!("contract violation (proven at compile time): {said}"))
 }
 
-fn refinement(image: &Image, parameter: &Record) -> Option<String> {
+/// What the parameter's refinement says where it fails.
+pub fn refinement(image: &Image, parameter: &Record) -> Option<String> {
     let bits = parameter.number(4);
     let operand = match parameter.number(3) {
         1 => (bits as i64).to_string(),

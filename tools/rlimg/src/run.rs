@@ -2,17 +2,20 @@
 //! become typed nodes once, and a name one number for all texts of its bytes.
 
 mod program;
+mod reading;
 mod values;
 
 pub use program::Program;
-pub use values::{same_nan, Ending, Fault, Outcome, Plain, Value, NULL};
+pub use reading::premises_hold;
+pub use values::{same_nan, shown, Ending, Fault, Outcome, Plain, Shown, Value, NULL};
 
 use crate::decode::decode;
 use crate::fold::{self, Folded};
-use crate::image::{Image, WORK};
+use crate::image::{Image, Record, WORK};
 use crate::reader::Refusal;
 use crate::schema::Section;
 use program::{Node, Statement};
+use reading::Checked;
 
 /// The most bindings at a time.
 pub const BINDINGS: usize = 128;
@@ -58,6 +61,18 @@ pub fn answer_to(image: &Result<Image, Refusal>, call: &Call) -> Result<[u64; OU
 impl Program<'_> {
     /// Runs a function, or gives the number of the refusal.
     pub fn run(&self, function: u32, values: &[Value], budget: u32) -> Result<Outcome, u32> {
+        let (mut runner, function) = self.start(function, values, budget)?;
+        let ending = runner.body(self.list(function, 4));
+        Ok(runner.outcome(ending, budget))
+    }
+
+    /// A runner with the parameters bound, and the function.
+    fn start(
+        &self,
+        function: u32,
+        values: &[Value],
+        budget: u32,
+    ) -> Result<(Runner<'_>, &Record), u32> {
         let function = self.image.of(Section::Function).get(function as usize).ok_or(11u32)?;
         let parameters = self.image.part(Section::Parameter, function.range(2)).unwrap_or(&[]);
         let texts = self.image.texts.len();
@@ -77,10 +92,7 @@ impl Program<'_> {
         let mut bindings = Vec::with_capacity(BINDINGS);
         let names = parameters.iter().map(|parameter| self.name(parameter, 0));
         bindings.extend(names.zip(values.iter().copied()));
-        let mut runner = Runner { program: self, bindings, left: budget };
-        let ending =
-            runner.body(self.list(function, 4)).map_or_else(|ending| ending, Ending::Returned);
-        Ok(Outcome { ending, steps: budget - runner.left })
+        Ok((Runner { program: self, bindings, left: budget, checked: None }, function))
     }
 }
 
@@ -97,6 +109,8 @@ struct Runner<'p> {
     bindings: Vec<(u16, Value)>,
     /// What is left of the budget.
     left: u32,
+    /// What a return has checked, in a contract reading.
+    checked: Option<Checked<'p>>,
 }
 
 fn fault<T>(fault: Fault) -> Result<T, Ending> {
@@ -112,6 +126,11 @@ fn folded(value: Option<Folded>) -> Result<Value, Ending> {
 }
 
 impl<'p> Runner<'p> {
+    fn outcome(&self, ending: Result<Value, Ending>, budget: u32) -> Outcome {
+        let ending = ending.map_or_else(|ending| ending, Ending::Returned);
+        Outcome { ending, steps: budget - self.left }
+    }
+
     fn charge(&mut self) -> Result<(), Ending> {
         self.left = self.left.checked_sub(1).ok_or(Ending::Spent)?;
         Ok(())
@@ -124,7 +143,10 @@ impl<'p> Runner<'p> {
             match self.program.statements[usize::from(*statement)] {
                 Statement::Evaluate(node) if last => {
                     self.charge()?;
-                    return self.value(node);
+                    return match self.checked.filter(|_| position == 0) {
+                        None => self.value(node),
+                        Some(checked) => self.checked_return(Some(node), checked),
+                    };
                 }
                 _ if self.statement(*statement)? != Flow::On => return fault(Fault::NotTaken),
                 _ => (),
@@ -152,16 +174,18 @@ impl<'p> Runner<'p> {
         match self.program.statements[usize::from(statement)] {
             Statement::Declare(name, node) => {
                 let value = self.value(node)?;
-                if self.bindings.len() == BINDINGS {
-                    return fault(Fault::TooManyBindings);
-                }
-                self.bindings.push((name, value));
+                self.bind(name, value)?;
                 Ok(Flow::On)
             }
             Statement::Evaluate(node) => self.value(node).map(|_| Flow::On),
-            Statement::Return(node) => Err(Ending::Returned(self.value(node)?)),
-            Statement::ReturnAlone => Err(Ending::Returned(NULL)),
-            Statement::Conditional(branch, other) => self.conditional(branch, other),
+            Statement::Return(node) => self.give(Some(node)),
+            Statement::ReturnAlone => self.give(None),
+            Statement::Conditional(branch, other) => {
+                let checked = self.checked;
+                let flow = self.conditional(branch, other);
+                self.checked = checked;
+                flow
+            }
             Statement::Repeat(condition, body) => self.repeat(condition, body),
             Statement::Break => Ok(Flow::Break),
             Statement::Continue => Ok(Flow::Continue),
@@ -169,7 +193,25 @@ impl<'p> Runner<'p> {
         }
     }
 
+    fn give(&mut self, node: Option<u16>) -> Result<Flow, Ending> {
+        let value = match (self.checked, node) {
+            (Some(checked), node) => self.checked_return(node, checked)?,
+            (None, Some(node)) => self.value(node)?,
+            (None, None) => NULL,
+        };
+        Err(Ending::Returned(value))
+    }
+
+    fn bind(&mut self, name: u16, value: Value) -> Result<(), Ending> {
+        if self.bindings.len() == BINDINGS {
+            return fault(Fault::TooManyBindings);
+        }
+        self.bindings.push((name, value));
+        Ok(())
+    }
+
     /// Takes the first branch whose condition holds, along all else branches.
+    /// Inside a conditional that stands else, no return is checked.
     fn conditional(&mut self, mut branch: u16, mut other: Option<u16>) -> Result<Flow, Ending> {
         loop {
             if let Statement::Branch(condition, body) = self.program.statements[usize::from(branch)]
@@ -182,7 +224,10 @@ impl<'p> Runner<'p> {
                 return Ok(Flow::On);
             };
             (branch, other) = match self.program.statements[usize::from(next)] {
-                Statement::Conditional(branch, other) => (branch, other),
+                Statement::Conditional(branch, other) => {
+                    self.checked = None;
+                    (branch, other)
+                }
                 _ => (next, None),
             };
         }

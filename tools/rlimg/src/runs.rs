@@ -3,6 +3,7 @@
 //! so that runs go on; now and then something is wrong.
 
 mod calls;
+mod contracts;
 mod expressions;
 
 pub use calls::broken;
@@ -34,6 +35,15 @@ pub struct Run {
 
 /// A run over functions of up to about so many statements a list.
 pub fn any(rng: &mut Rng, size: usize) -> Run {
+    run_of(rng, size, Generator::function)
+}
+
+/// The same with contracts that mostly hold, and with more returns.
+pub fn contracted(rng: &mut Rng, size: usize) -> Run {
+    run_of(rng, size, Generator::contracted)
+}
+
+fn run_of<'r>(rng: &'r mut Rng, size: usize, function: fn(&mut Generator<'r>) -> Vec<u64>) -> Run {
     let mut builder = Builder::new(rng.number() as u32);
     if rng.one_in(2) {
         builder = builder.interning();
@@ -48,9 +58,10 @@ pub fn any(rng: &mut Rng, size: usize) -> Run {
         loops: 0,
         sizes: Vec::new(),
         known: Vec::new(),
+        given: None,
     };
     let functions = generator.rng.pick(&[1, 1, 1, 2]);
-    let words: Vec<Vec<u64>> = (0..functions).map(|_| generator.function()).collect();
+    let words: Vec<Vec<u64>> = (0..functions).map(|_| function(&mut generator)).collect();
     let function = generator.rng.below(functions);
     let image = generator.code.builder.image;
     let words = words[function].clone();
@@ -72,6 +83,8 @@ struct Generator<'r> {
     sizes: Vec<usize>,
     /// Expressions of this function, with their sorts.
     known: Vec<(u16, Sort)>,
+    /// What sort of value a function with a contract mostly gives.
+    given: Option<Sort>,
 }
 
 impl Generator<'_> {
@@ -171,6 +184,11 @@ impl Generator<'_> {
     }
 
     fn statement(&mut self, depth: usize, list: &mut Vec<u16>) {
+        if self.given.is_some() && self.rng.one_in(5) {
+            let made =
+                if depth > 0 && self.rng.one_in(5) { self.passed(depth) } else { self.ending() };
+            return list.push(made);
+        }
         let made = match self.rng.below(26) {
             0..=5 => self.declare(),
             6..=10 => self.set(),
@@ -284,7 +302,7 @@ impl Generator<'_> {
         let ending = match self.rng.one_in(3) {
             true => self.code.statement("ReturnAlone", &[]),
             false => {
-                let sort = self.any_sort();
+                let sort = self.given_sort();
                 let node = self.expression(sort, 2);
                 self.code.give(node)
             }

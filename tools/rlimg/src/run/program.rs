@@ -68,6 +68,11 @@ impl<'a> Program<'a> {
         self.names[record.number(position) as usize]
     }
 
+    /// The name of these bytes, where there is a text of them.
+    pub(super) fn name_of(&self, bytes: &[u8]) -> Option<u16> {
+        (0..self.names.len() as u16).find(|text| self.image.text_of(*text) == Some(bytes))
+    }
+
     pub(super) fn list(&self, record: &Record, position: usize) -> &'a [u16] {
         let (first, count) = record.range(position);
         self.image.list(first, count).expect("a list of the image")

@@ -88,6 +88,19 @@ pub struct Outcome {
     pub steps: u32,
 }
 
+/// An outcome's words, without a text's number, and the text's bytes.
+pub type Shown = ([u64; 4], Vec<u8>);
+
+/// Shows the text in an outcome, whatever its number is.
+pub fn shown(words: [u64; 4], bytes: impl Fn(u16) -> Vec<u8>) -> Shown {
+    let [ending, steps, sort, payload] = words;
+    let value = (1..=2).contains(&ending).then(|| Value::of([sort, payload])).flatten();
+    match value.and_then(Value::plain) {
+        Some(Folded::Str(text)) => ([ending, steps, sort, 0], bytes(text)),
+        _ => (words, Vec::new()),
+    }
+}
+
 impl Outcome {
     /// As the lent slice has it; a NaN has always the same bits.
     pub fn words(self) -> [u64; 4] {

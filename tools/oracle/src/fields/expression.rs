@@ -84,15 +84,14 @@ impl Fields<'_> {
 
     fn other(&self, name: &str) -> ExpressionKind {
         use ExpressionKind::*;
-        let target_type = TypeAnnotation::Infer;
-        let (params, return_type, body) = (Vec::new(), None, Vec::new());
+        let (params, body) = (Vec::new(), Vec::new());
         match name {
             "Index" => Index { target: self.node(1), index: self.node(2) },
             "IndexAssign" => {
                 IndexAssign { target: self.node(1), index: self.node(2), value: self.node(3) }
             }
-            "Cast" => Cast { value: self.node(1), target_type },
-            "Is" => Is { value: self.node(1), target_type },
+            "Cast" => Cast { value: self.node(1), target_type: self.opaque_type(2) },
+            "Is" => Is { value: self.node(1), target_type: self.opaque_type(2) },
             "ErrorLiteral" => ErrorLiteral(self.node(1)),
             "OkLiteral" => OkLiteral(self.node(1)),
             "ErrLiteral" => ErrLiteral(self.node(1)),
@@ -102,11 +101,19 @@ impl Fields<'_> {
                 FieldAssign { target: self.node(1), field: self.text(2), value: self.node(3) }
             }
             "EnumVariant" => EnumVariant { enum_name: self.text(1), variant: self.text(2) },
-            "Lambda" => Lambda { params, return_type, body },
+            "Lambda" => Lambda { params, return_type: Some(self.opaque_type(1)), body },
             "ResolvedLambda" => {
-                ResolvedLambda { params, return_type, body, capture_depth: self.size(1) }
+                ResolvedLambda { params, return_type: None, body, capture_depth: self.size(1) }
             }
             _ => panic!("{name} is no expression"),
+        }
+    }
+
+    /// A type for the number in an opaque field; 0 is Infer.
+    pub fn opaque_type(&self, position: usize) -> TypeAnnotation {
+        match self.number(position) {
+            0 => TypeAnnotation::Infer,
+            number => TypeAnnotation::Record(number.to_string()),
         }
     }
 
@@ -137,7 +144,7 @@ impl Fields<'_> {
             9 => TokenType::LessEqual,
             10 => TokenType::Greater,
             11 => TokenType::GreaterEqual,
-            _ => TokenType::Other,
+            other => TokenType::Other(other as u8),
         }
     }
 }

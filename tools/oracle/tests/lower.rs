@@ -1,0 +1,61 @@
+//! The independent lowering against the original's.
+#![cfg(original)]
+
+use oracle::lower::{differ, steps};
+use oracle::shape::{Part, Shapes};
+use rlimg::image::Image;
+use rlimg::lower::lowered;
+use rlimg::lowerings::limits::{self, NO_LIMITS};
+use rlimg::lowerings::{any, listed};
+use rlimg::rng::Rng;
+use rlimg::schema::Section;
+use std::collections::HashSet;
+
+/// The original is not asked to visit more records.
+const STEPS: u64 = 3_000;
+
+fn images(count: usize) -> impl Iterator<Item = Image> {
+    let mut rng = Rng::new(9);
+    let generated = (0..count).map(move |_| any(&mut rng));
+    let limits = limits::small().into_iter().chain(limits::deepest());
+    listed::all().into_iter().chain(limits).chain(generated)
+}
+
+#[test]
+fn the_lowering_agrees_with_the_original() {
+    let (mut count, mut kinds) = (0, HashSet::new());
+    for image in images(1_500) {
+        for function in 0..image.of(Section::Function).len() {
+            if steps(&image, function) > STEPS {
+                continue;
+            }
+            let lowered = lowered(&image, function, NO_LIMITS).expect("a small function");
+            assert_eq!(differ(&image, &lowered, function), None);
+            let old = image.of(Section::Expression).len();
+            kinds.extend(lowered.of(Section::Expression)[old..].iter().map(|node| node.kind));
+            count += 1;
+        }
+    }
+    // All kinds but the lambdas are copied or made.
+    assert_eq!((count > 2_000, kinds.len()), (true, 40), "{count} {kinds:?}");
+}
+
+/// A changed span, a statement less, another statement.
+#[test]
+fn a_difference_is_seen() {
+    for image in limits::small() {
+        let good = lowered(&image, 0, NO_LIMITS).expect("a small function");
+        let shapes = Shapes::of(&good, 0);
+        for node in image.of(Section::Expression).len()..shapes.nodes.len() {
+            let mut other = Shapes::of(&good, 0);
+            other.nodes[node].span = Some(70_000);
+            assert!(other.differ(&shapes).is_some());
+        }
+        let mut other = Shapes::of(&good, 0);
+        other.body.pop();
+        assert!(other.differ(&shapes).is_some());
+        let mut other = Shapes::of(&good, 0);
+        other.body[0] = Part::Nothing;
+        assert!(other.differ(&shapes).is_some());
+    }
+}
