@@ -104,7 +104,7 @@ narrow c =
     (or (eqb c 22) _ _ (refl, refl)
     (or (eqb c 23) _ _ (refl, refl) (or (eqb c 24) _ _ (refl, refl) (refl, refl))))))))))))))))))))))))
 
-width-small : (c : ℕ) (o : Sort) → o ≡ sortOf c → (m : ℕ) → m ≡ widthOf o → m ≤ 8
+pub width-small : (c : ℕ) (o : Sort) → o ≡ sortOf c → (m : ℕ) → m ≡ widthOf o → m ≤ 8
 width-small c o e m f = rw (f, e) (leb-true (widthOf (sortOf c)) 8 (narrow c .1))
 
 pub width-fits : (c : ℕ) (o : Sort) → o ≡ sortOf c → (m : ℕ) → m ≡ widthOf o → Fits w8 m

@@ -90,7 +90,7 @@ fn field_spot(row: u64, at: u16, j: u8) -> Spot
     Spot::Nothing
 }
 
-fn is_pair(sort: Sort) -> bool
+pub fn is_pair(sort: Sort) -> bool
     ensures { λ r. ⌜ r ≡ isPair sort ⌝ }
 {
     match sort {

@@ -23,7 +23,7 @@ ghost use Rattle.rl_spec.specs.Found.{callsAt, functionsAt, clausesAt, paramete
 // ---- where the sections start
 
 // n bytes before a place, or 0.
-fn before(at: usize, n: usize) -> usize
+pub fn before(at: usize, n: usize) -> usize
     ensures { λ r. ⌜ r ≡ at - n ⌝ }
 {
     if at < n {
@@ -38,7 +38,7 @@ fn calls_at(image: &[u8], counts: Counts) -> usize
     before(image.len(), (counts.calls as usize) * 11)
 }
 
-fn functions_at(image: &[u8], counts: Counts) -> usize
+pub fn functions_at(image: &[u8], counts: Counts) -> usize
     ensures { λ r. ⌜ r ≡ functionsAt (now (image .entry)) counts ⌝ }
 {
     before(calls_at(image, counts), (counts.functions as usize) * 24)
@@ -50,7 +50,7 @@ fn clauses_at(image: &[u8], counts: Counts) -> usize
     before(functions_at(image, counts), (counts.clauses as usize) * 5)
 }
 
-fn parameters_at(image: &[u8], counts: Counts) -> usize
+pub fn parameters_at(image: &[u8], counts: Counts) -> usize
     ensures { λ r. ⌜ r ≡ parametersAt (now (image .entry)) counts ⌝ }
 {
     before(clauses_at(image, counts), (counts.parameters as usize) * 17)

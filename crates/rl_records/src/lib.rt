@@ -5,10 +5,13 @@ mod forms;
 mod statements;
 mod texts;
 
+pub use contracts::before;
 pub use contracts::call_at;
 pub use contracts::clause_at;
 pub use contracts::function_at;
+pub use contracts::functions_at;
 pub use contracts::param_at;
+pub use contracts::parameters_at;
 pub use forms::form_at;
 pub use statements::statement_at;
 pub use texts::entry_at;

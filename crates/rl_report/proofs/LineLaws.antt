@@ -5,7 +5,6 @@ use mathlib.Core.Path.{_≡_, ap, _∙_}
 use mathlib.Core.List.{List, _++_}
 use native.Mathlib.Omega.{arith}
 use lib.ListN.{length, take, drop}
-use lib.Seq.{take-paste, take-length}
 use Rattle.rl_spec.specs.declared.Cause.{Cause}
 use Rattle.rl_spec.specs.declared.Counts.{Counts}
 use Rattle.rl_spec.specs.declared.Violation.{Violation}
@@ -14,8 +13,8 @@ use Rattle.rl_spec.specs.Image.{Image}
 use Rattle.rl_spec.specs.Found.{imageFound}
 use Rattle.rl_spec.specs.Tree.{ascii}
 use Rattle.rl_spec.specs.Message.{decimal, opening, defaultText, ownText, orDefault, messageBy}
-use Rattle.rl_text_out.specs.Put.{fitting, withText, afterText}
-use Rattle.rl_text_out.proofs.Joined.{after-after, with-with}
+use Rattle.rl_text_out.specs.Put.{withText, afterText}
+use Rattle.rl_text_out.proofs.Joined.{after-after, with-with, room-holds}
 use Rattle.rl_report.specs.Line.{refusedLine, lineWith, lineOf}
 
 -- ---- a text after another
@@ -56,13 +55,6 @@ puts-line out t call span w₁ w₂ w₃ w₄ w₅ w₆ w e₁ e₂ e₃ e₄ e�
     (puts-then out 0 _ _ w₂ w₃ e₂ e₃ (puts-then out 0 _ _ w₁ w₂ e₁ e₂ a b) d) f) g) h) k
 
 -- ---- the message, where the default text has room
-
-room-holds : (room t w : List ℕ) (n : ℕ) → length t ≤ length room → n ≡ afterText room 0 t → w ≡ withText room 0 t → take n (drop 0 w) ≡ t
-unfolding withText afterText fitting
-room-holds room t w n h e f =
-    let g : fitting room 0 t ≡ length t = omega arith in
-    let k : n ≡ 0 + length t = omega arith in
-    rw (f, k, g) (take-paste room 0 t (length t) (omega arith) (omega arith) ∙ take-length t)
 
 module _ (im : Image) (f : ℕ) (v : Violation) where
   abbrev default : List ℕ

@@ -105,3 +105,11 @@ module _ (out : List ℕ) (at : ℕ) (a b : List ℕ) where
       past l =
           let h : length out ≤ at = omega arith in
           rw (with-past out at a h, after-past out at a h) (with-past out at b h ∙ sym (with-past out at (a ++ b) h))
+
+-- a text that has room stands at the start
+pub room-holds : (room t w : List ℕ) (n : ℕ) → length t ≤ length room → n ≡ afterText room 0 t → w ≡ withText room 0 t → take n (drop 0 w) ≡ t
+unfolding withText afterText fitting
+room-holds room t w n h e f =
+    let g : fitting room 0 t ≡ length t = omega arith in
+    let k : n ≡ 0 + length t = omega arith in
+    rw (f, k, g) (take-paste room 0 t (length t) (omega arith) (omega arith) ∙ take-length t)

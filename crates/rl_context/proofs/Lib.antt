@@ -1,0 +1,16 @@
+pub mod Composed
+pub mod Regions
+pub mod More
+pub mod Grown
+pub mod Appends
+pub mod Sizes
+pub mod Making
+pub mod Limits
+pub mod Waits
+pub mod Listing
+pub mod TextMade
+pub mod MoreLower
+pub mod NodesMade
+pub mod StatementsMade
+pub mod Rows
+pub mod Temporaries

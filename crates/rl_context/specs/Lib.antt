@@ -1,0 +1,3 @@
+pub mod Additions
+pub mod Does
+pub mod Paths

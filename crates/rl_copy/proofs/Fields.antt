@@ -1,0 +1,55 @@
+-- A field as a word.
+-- Assumes nothing.
+use Prim.Native.Nat.{ℕ, _+_, _*_, _/_, _%_, _<_}
+use mathlib.Core.Path.{_≡_, refl, ap, ap₂, sym, _∙_, subst}
+use mathlib.Core.Bool.{Bool, true, false, _||_}
+use mathlib.Core.List as list
+use native.Mathlib.Omega.{arith}
+use lib.Dec.{T}
+use Rattle.rl_spec.specs.declared.Sort.{Sort}
+use Rattle.rl_spec.specs.declared.Sort.the-variants.{Many}
+use Rattle.rl_spec.specs.declared.Target.{Target}
+use Rattle.rl_spec.specs.Bytes.{pick, numAt, u16At}
+use Rattle.rl_spec.specs.Schema.{sortOf, widthOf}
+use Rattle.rl_spec.specs.Image.{Field, num, pair, first, isPair, fieldIn}
+use Rattle.rl_spec.specs.Lower.{isNode}
+use Rattle.rl_arena.specs.Find.{numberIn}
+use Rattle.rl_arena.proofs.Laws.{first-number}
+use Rattle.rl_encode.specs.Words.{wordField}
+use Rattle.rl_copy.specs.declared.Plan.the-variants.{Keep, Node, List}
+use Rattle.rl_copy.specs.Copies.{planOf}
+
+pub two-words : (x y : ℕ) → x < 65536 → pair ((x + y * 65536) % 65536) ((x + y * 65536) / 65536) ≡ pair x y
+two-words x y h = ap₂ pair a b
+  where
+    a : (x + y * 65536) % 65536 ≡ x
+    a = omega arith
+
+    b : (x + y * 65536) / 65536 ≡ y
+    b = omega arith
+
+module _ (s : list.List ℕ) (code place : ℕ) (o : Sort) (e : o ≡ sortOf code) (b : Bool) (f : b ≡ isPair o) where
+  pub word-pair : (x y : ℕ) → b ≡ true → x < 65536 → x ≡ u16At s place → y ≡ u16At s (place + 2) → wordField (sortOf code) (x + y * 65536) ≡ fieldIn s (sortOf code) place
+  word-pair x y t h p q =
+      rw (← e, ← f, t) (two-words x y h ∙ ap₂ pair p q)
+
+  pub word-number : (m : ℕ) → b ≡ false → m ≡ widthOf o → (r : ℕ) → r ≡ numberIn s place m → wordField (sortOf code) r ≡ fieldIn s (sortOf code) place
+  word-number m t g r h = go (isPair (sortOf code)) (ap isPair (sym e) ∙ sym f ∙ t) (first-number s code place o e b f t m g r h)
+    where
+      go : (d : Bool) → d ≡ false → r ≡ first (pick d (pair (u16At s place) (u16At s (place + 2))) (num (numAt s place (widthOf (sortOf code))))) →
+          pick d (pair (r % 65536) (r / 65536)) (num r) ≡ pick d (pair (u16At s place) (u16At s (place + 2))) (num (numAt s place (widthOf (sortOf code))))
+      go true q k = absurd (subst T q tt)
+      go false q k = ap num k
+
+pub nodes-left : (left right : Target) (b : Bool) → b ≡ isNode left → b ≡ true → true ≡ isNode left || isNode right
+nodes-left left right b e t = rw (← e, t) refl
+
+pub nodes-right : (left right : Target) (b : Bool) → b ≡ isNode left → b ≡ false → (r : Bool) → r ≡ isNode right → r ≡ isNode left || isNode right
+nodes-right left right b e t r h = rw (← e, t) h
+
+module _ (sort : Sort) (left right : Target) (n : ℕ) (e : sort ≡ Many left right n) (b : Bool) (q : b ≡ isNode left || isNode right) where
+  pub plan-list : b ≡ true → List left right ≡ planOf sort
+  plan-list t = sym (ap planOf e ∙ ap (λ z. pick z (List left right) Keep) (sym q ∙ t))
+
+  pub plan-keep : b ≡ false → Keep ≡ planOf sort
+  plan-keep t = sym (ap planOf e ∙ ap (λ z. pick z (List left right) Keep) (sym q ∙ t))

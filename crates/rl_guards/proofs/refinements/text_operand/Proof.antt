@@ -1,0 +1,23 @@
+use borrow.Author.Needs.{needs}
+use mathlib.Core.Path.{refl}
+use Rattle.rl_guards.proofs.refinements.text_operand.Statement.{statement}
+use Rattle.rl_guards.proofs.refinements.text_operand.Tie as tie
+
+-- src/refinements.rt:56:9
+new-text-requires : tie.Need-new-text-requires
+new-text-requires c κs = search needs
+
+-- src/refinements.rt:62:15
+cast-t9 : tie.Need-cast-t9
+cast-t9 c = search needs
+
+-- src/refinements.rt:53:1
+same-length : tie.Need-same-length
+same-length c = search needs
+
+-- src/refinements.rt:53:1
+returns : tie.Need-returns
+returns c = (refl, (refl, λ im w. c .before .before .before .before .new-text .ensures im 0 w))
+
+pub text-operand-spec : {M : Type 1} → statement M
+text-operand-spec = tie.close (tie.spec new-text-requires cast-t9 same-length returns)
