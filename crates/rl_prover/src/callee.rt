@@ -29,7 +29,7 @@ fn is_refined(refinement: ParamRefinement) -> bool
     }
 }
 
-fn any_refined(image: &[u8], counts: Counts, params: Interval) -> bool
+pub fn any_refined(image: &[u8], counts: Counts, params: Interval) -> bool
     ensures { λ r. ⌜ ((p : List ℕ) → r ≡ anyRefined (map (paramOf (imageFound (now (image .entry)) p counts)) (numbersIn params))) ⌝ }
 {
     let first = params.first as u32;

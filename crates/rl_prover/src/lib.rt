@@ -6,5 +6,6 @@ mod reports;
 mod violations;
 
 pub use callee::Callee;
+pub use callee::any_refined;
 pub use callee::find_callee;
 pub use calls::prove_call;

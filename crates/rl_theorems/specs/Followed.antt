@@ -30,7 +30,7 @@ use Rattle.rl_theorems.specs.Good.{Good, good-is, given, stopped, test, 
 infixr 1 _⇒_
 -- ---- under each step of lowering the image grows
 
-abbrev Grown : {A : Type 0} → Context → Option (A × Context) → Type 0
+abbrev pub Grown : {A : Type 0} → Context → Option (A × Context) → Type 0
 Grown ctx o = Good ctx (λ a c. Unit {0}) o
 
 grown : {A : Type 0} {ctx : Context} {P : A → Context → Type 0} {o : Option (A × Context)} → Good ctx P o → Grown ctx o
@@ -44,16 +44,16 @@ done : {A : Type 0} {ctx : Context} {a : A} → Grown ctx (some (a, ctx))
 done = given tt
 
 -- ... of whatever it is about
-abbrev AllGrow : {A : Type 0} → Make A → Type 0
+abbrev pub AllGrow : {A : Type 0} → Make A → Type 0
 AllGrow m = (ctx : Context) → Grown ctx (m ctx)
 
-gives-grow : {A : Type 0} (a : A) → AllGrow (give a)
+pub gives-grow : {A : Type 0} (a : A) → AllGrow (give a)
 gives-grow a ctx = done
 
-by-test : {A : Type 0} (b : Bool) {m n : Make A} → AllGrow m → AllGrow n → AllGrow (pick b m n)
+pub by-test : {A : Type 0} (b : Bool) {m n : Make A} → AllGrow m → AllGrow n → AllGrow (pick b m n)
 by-test b {m} {n} p q ctx = test b m n ctx (λ e. p ctx) (λ e. q ctx)
 
-each-grow : {A B : Type 0} (f : A → Make B) → ((a : A) → AllGrow (f a)) → (l : List A) → AllGrow (each f l)
+pub each-grow : {A B : Type 0} (f : A → Make B) → ((a : A) → AllGrow (f a)) → (l : List A) → AllGrow (each f l)
 unfolding each
 each-grow f h [] ctx = done
 each-grow f h (a ∷ l) ctx = h a ctx ⇒ λ b c. each-grow f h l c ⇒ λ bs d. done
@@ -74,7 +74,7 @@ descend-grow : {A : Type 0} (step : ℕ → (ℕ → Make A) → Make A) →
 unfolding descend
 descend-grow step h i = descend-by step h (suc i) i
 
-ident-grow : (name : List ℕ) → AllGrow (lower.ident name)
+pub ident-grow : (name : List ℕ) → AllGrow (lower.ident name)
 unfolding lower.ident
 ident-grow name ctx = text-good name ctx ⇒ λ t c. grown (expr-good 30 _ c)
 
@@ -82,7 +82,7 @@ string-grow : (s : List ℕ) → AllGrow (lower.strLit s)
 unfolding lower.strLit
 string-grow s ctx = text-good s ctx ⇒ λ t c. grown (expr-good 25 _ c)
 
-call-grow : (name : List ℕ) (x : ℕ) → AllGrow (lower.resCall name x)
+pub call-grow : (name : List ℕ) (x : ℕ) → AllGrow (lower.resCall name x)
 unfolding lower.resCall
 call-grow name x ctx =
     each-grow newText (λ s c. grown (text-good s c)) _ ctx ⇒ λ ts c. list-good ts c ⇒ λ path d. list-good _ d ⇒ λ args e.
@@ -143,10 +143,10 @@ guard-grow : (pred msg : ℕ) → AllGrow (lower.guard pred msg)
 unfolding lower.guard
 guard-grow pred msg ctx = clone-grow pred ctx ⇒ λ copy c. expr-good 33 _ c ⇒ λ neg d. violation-grow msg d ⇒ λ s e. only-if-grow neg s e
 
-clause-grow : (s : List ℕ) (clause : Clause) → AllGrow (lower.clauseGuard s clause)
+pub clause-grow : (s : List ℕ) (clause : Clause) → AllGrow (lower.clauseGuard s clause)
 clause-grow s clause ctx = message-grow clause s ctx ⇒ λ msg c. guard-grow (clause .condition) msg c
 
-declare-grow : (name : List ℕ) (value : ℕ) → AllGrow (lower.declare name value)
+pub declare-grow : (name : List ℕ) (value : ℕ) → AllGrow (lower.declare name value)
 unfolding lower.declare
 declare-grow name value ctx = text-good name ctx ⇒ λ t c. grown (stmt-good 64 _ _ c)
 
@@ -154,7 +154,7 @@ return-grow : (temp : List ℕ) → AllGrow (lower.returnOf temp)
 unfolding lower.returnOf
 return-grow temp ctx = ident-grow temp ctx ⇒ λ n c. grown (stmt-good 66 _ _ c)
 
-skip-grow : (temp : List ℕ) → AllGrow (lower.skipErr temp)
+pub skip-grow : (temp : List ℕ) → AllGrow (lower.skipErr temp)
 skip-grow temp ctx =
     ident-grow temp ctx ⇒ λ n c. call-grow _ n c ⇒ λ check d. return-grow temp d ⇒ λ s e. only-if-grow check s e ⇒ λ skip f. done
 
@@ -173,20 +173,20 @@ wrap-grow value ensures ctx = temp-good ctx ⇒ λ n c. wrap-as-grow (ascii "__e
 -- ---- statements
 
 module _ (walk : ℕ → Make (List ℕ)) (h : (n : ℕ) → AllGrow (walk n)) where
-  list-grow : (list : Field) → AllGrow (lower.transformList walk list)
+  pub list-grow : (list : Field) → AllGrow (lower.transformList walk list)
   list-grow list ctx = flat-grow walk h (entriesOf (ctx .image) list) ctx ⇒ λ ss c. grown (list-good ss c)
 
   branch-by-grow : (s : ℕ) (r : Rec) → AllGrow (lower.transformBranchBy walk s r)
   branch-by-grow s r = by-test (eqb (r .kind) 69) (λ ctx. list-grow (fieldOf r 2) ctx ⇒ λ body c. grown (stmt-good 69 _ _ c)) (λ ctx. done)
 
-  branch-grow : (s : ℕ) → AllGrow (lower.transformBranch walk s)
+  pub branch-grow : (s : ℕ) → AllGrow (lower.transformBranch walk s)
   unfolding lower.transformBranch
   branch-grow s ctx = branch-by-grow s (recordOf (ctx .image) Statements s) ctx
 
   arm-by-grow : (r : Rec) → AllGrow (lower.transformArmBy walk r)
   arm-by-grow r ctx = list-grow (fieldOf r 2) ctx ⇒ λ body c. grown (stmt-good 76 _ _ c)
 
-  arm-grow : (s : ℕ) → AllGrow (lower.transformArm walk s)
+  pub arm-grow : (s : ℕ) → AllGrow (lower.transformArm walk s)
   unfolding lower.transformArm
   arm-grow s ctx = arm-by-grow (recordOf (ctx .image) Statements s) ctx
 
@@ -216,7 +216,7 @@ module _ (walk : ℕ → Make (List ℕ)) (h : (n : ℕ) → AllGrow (walk n)) w
       (by-test (eqb (r .kind) 74) (only-grow _ (loop-grow r (fieldOf r 1 ∷ fieldOf r 2 ∷ []) (fieldOf r 3)))
       (by-test (eqb (r .kind) 75) (only-grow _ (match-grow r)) (gives-grow (s ∷ []))))))))))
 
-transform-grow : (ensures : List Clause) (s : ℕ) → AllGrow (lower.transformStatement ensures s)
+pub transform-grow : (ensures : List Clause) (s : ℕ) → AllGrow (lower.transformStatement ensures s)
 unfolding lower.transformStatement
 transform-grow ensures = descend-grow _ (λ s walk h ctx. statement-grow walk h ensures s (recordOf (ctx .image) Statements s) ctx)
 

@@ -76,6 +76,7 @@ pub mod Heights
 pub mod Refusals
 pub mod ProperTexts
 pub mod Followed
+pub mod LastBare
 pub mod Kept
 pub mod KeptHeights
 pub mod Sound

@@ -1,0 +1,65 @@
+-- What the parts of a new body promise.
+use Prim.Native.Nat.{ℕ, _+_, _<_}
+use mathlib.Core.Path.{_≡_}
+use mathlib.Core.Bool.{Bool, not, _&&_}
+use mathlib.Core.List.{List, map}
+use lib.Dec.{eqb}
+use lib.ListN.{length}
+use Rattle.rl_spec.specs.declared.Counts.{Counts}
+use Rattle.rl_spec.specs.declared.Section.the-variants.{Texts}
+use Rattle.rl_spec.specs.declared.Interval.{Interval}
+use Rattle.rl_spec.specs.Bytes.{pick}
+use Rattle.rl_spec.specs.Image.{Image, sizeOf, entryOf}
+use Rattle.rl_spec.specs.Found.{imageFound}
+use Rattle.rl_spec.specs.Contracts.{paramOf, numbersIn, isEmpty}
+use Rattle.rl_spec.specs.Records.{functionAt}
+use Rattle.rl_spec.specs.Make.{Make, give, flatMap}
+use Rattle.rl_spec.specs.Lower.{lastOf, ensuredBody}
+use Rattle.rl_context.specs.declared.Ctx.{Ctx}
+use Rattle.rl_context.specs.Does.{State, all, Does}
+use Rattle.rl_guards.specs.Guards.{Gathers, guardFor, clausesIn}
+
+-- the guards of a function's refined parameters
+abbrev pub refinedIn : Image → ℕ → Make (List ℕ)
+refinedIn im f = flatMap (guardFor im) (map (paramOf im) (numbersIn (functionAt im f .params)))
+
+-- the entries of a list, as they are
+abbrev pub entriesIn : Image → Interval → List ℕ
+entriesIn im list = map (entryOf im) (numbersIn list)
+
+-- these numbers wait behind what waited
+abbrev pub Waits : Image → List ℕ → State → State → Type 0
+Waits im ns s t = Does im 0 0 all (give ns) s ns t
+
+-- the last entry is a bare expression
+abbrev pub endsBare : Image → List ℕ → Bool
+endsBare im body = not (isEmpty body) && eqb (lastOf im body .kind) 65
+
+abbrev pub restIn : Image → Interval → Interval → Make (List ℕ)
+restIn im body ensured = pick (isEmpty (clausesIn im ensured)) (give (entriesIn im body)) (ensuredBody (clausesIn im ensured) (entriesIn im body))
+
+-- a body's entries are statements of the image
+abbrev pub BodyFits : List ℕ → List ℕ → Counts → Interval → Type 0
+BodyFits s p c body = (i : ℕ) → i < body .count → entryOf (imageFound s p c) (body .first + i) < c .statements
+
+-- a context with another count of entries that wait
+abbrev pub waitingWith : Ctx → ℕ → Ctx
+waitingWith ctx n =
+    record {
+      bytes = ctx .bytes;
+      texts = ctx .texts;
+      lists = ctx .lists;
+      expressions = ctx .expressions;
+      statements = ctx .statements;
+      «expression_bytes» = ctx .«expression_bytes»;
+      «statement_bytes» = ctx .«statement_bytes»;
+      waiting = n;
+      span = ctx .span;
+      «is_result» = ctx .«is_result»;
+      «temp_counter» = ctx .«temp_counter»;
+      full = ctx .full;
+    }
+
+-- no text is new
+abbrev pub Fresh : Image → Ctx → Type 0
+Fresh im ctx = (ctx .bytes ≡ length (im .bytes)) × (ctx .texts ≡ sizeOf im Texts)

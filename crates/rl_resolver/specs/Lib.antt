@@ -1,0 +1,4 @@
+pub mod Admission
+pub mod Begun
+pub mod Written
+pub mod Bodies
