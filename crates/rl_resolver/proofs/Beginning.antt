@@ -17,8 +17,10 @@ use Rattle.rl_spec.specs.Lower.{start}
 use Rattle.rl_theorems.specs.Known.{counts}
 use Rattle.rl_theorems.specs.Limits.{size-within}
 use Rattle.rl_context.specs.Additions.{none-new, grown, Counted, Kept, Waiting, Live}
+use Rattle.rl_context.specs.declared.Ctx.{Ctx}
 use Rattle.rl_assemble.specs.Pieces.{Source}
 use Rattle.rl_resolver.specs.Begun.{begun}
+use Rattle.rl_resolver.specs.Bodies.{Fresh}
 
 pub begun-is : (s : List ℕ) (c : Counts) (f : ℕ) (g : Function) → ((p : List ℕ) → g ≡ functionAt (imageFound s p c) f) →
     (p : List ℕ) → begun c g ≡ begun c (functionAt (imageFound s p c) f)
@@ -30,7 +32,7 @@ with-nothing : (a : ℕ) (b : List ℕ) (t l e x y z u v : List Rec) →
     (record { arena = a; bytes = b ++ []; records = (t ++ []) ∷ (l ++ []) ∷ (e ++ []) ∷ (x ++ []) ∷ y ∷ z ∷ u ∷ v ∷ [] })
 with-nothing a b t l e x y z u v = rw (append-nil b, append-nil t, append-nil l, append-nil e, append-nil x) refl
 
-grown-none : (s p : List ℕ) (c : Counts) → imageFound s p c ≡ grown (imageFound s p c) none-new
+pub grown-none : (s p : List ℕ) (c : Counts) → imageFound s p c ≡ grown (imageFound s p c) none-new
 unfolding imageFound sections
 grown-none s p c = with-nothing _ _ _ _ _ _ _ _ _ _
 
@@ -85,3 +87,9 @@ module _ (s p : List ℕ) (c : Counts) (f : ℕ) (src : Source (imageFound s p c
         waits = waits-none im c f;
         temps = omega arith;
       }
+
+  pub fresh-begun : (ctx : Ctx) → ((q : List ℕ) → ctx ≡ begun c (functionAt (imageFound s q c) f)) → Fresh im ctx
+  fresh-begun ctx e =
+      subst (Fresh im) (sym (e p))
+      (subst (λ (x : Counts). Fresh im (begun x (functionAt im f))) (sym (src .counts-are))
+      (record { bytes = refl; texts = refl; lists = refl; expressions = refl; statements = refl }))

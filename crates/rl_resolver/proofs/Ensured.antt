@@ -1,29 +1,42 @@
 -- Statements that wait aside, and what comes of them: a wrapped bare last expression comes ahead of the others.
 -- Assumes nothing.
-use Prim.Native.Nat.{ℕ, _+_, _-_, _≤_}
-use mathlib.Core.Path.{_≡_, refl, ap, sym, _∙_, subst}
-use mathlib.Core.Bool.{Bool, true, false, not}
-use mathlib.Core.List.{List, [], _∷_, _++_, append-nil}
+use Prim.Native.Nat.{ℕ, zero, suc, _+_, _-_, _≤_, _<_, min}
+use mathlib.Core.Path.{_≡_, refl, ap, ap₂, sym, _∙_, subst}
+use mathlib.Core.Bool.{Bool, true, false, not, _&&_}
+use mathlib.Core.List.{List, [], _∷_, _++_, map, append-nil}
 use mathlib.Core.Option.{Option, none, some}
 use native.Mathlib.Omega.{arith}
-use lib.ListN.{length, take, length-append}
-use lib.Seq.{length-take-le}
+use native.Mathlib.Nat.{add-zero}
+use lib.Dec.{T, eqb}
+use lib.ListN.{length, getD, take, length-append, List·getD-append}
+use lib.Seq.{take-take, length-take-le}
+use borrow.Author.Tests.{lt-ltb}
+use Rattle.rl_spec.specs.declared.Counts.{Counts}
 use Rattle.rl_spec.specs.declared.Clause.{Clause}
-use Rattle.rl_spec.specs.declared.Section.the-variants.{Statements}
+use Rattle.rl_spec.specs.declared.Interval.{Interval}
+use Rattle.rl_spec.specs.declared.Section.the-variants.{Lists, Statements}
 use Rattle.rl_spec.specs.Bytes.{pick}
-use Rattle.rl_spec.specs.Image.{Image}
+use Rattle.rl_spec.specs.Image.{Image, recordsOf, sizeOf, noRecord, recordOf, entryOf}
+use Rattle.rl_spec.specs.Found.{imageFound}
 use Rattle.rl_spec.specs.Tree.{ascii, number}
 use Rattle.rl_spec.specs.Message.{decimal}
-use Rattle.rl_spec.specs.Make.{Context, Make, andThen, _>>=_, give, counted, each}
-use Rattle.rl_spec.specs.Lower.{ident, unwrapCall, clauseGuard, declare, returnOf, skipErr, wrapAs, wrapReturn, lastOf, wrapTrailing}
+use Rattle.rl_spec.specs.Contracts.{upFrom, isEmpty}
+use Rattle.rl_spec.specs.Make.{Context, Make, andThen, _>>=_, give, fail, counted, each, flatMap}
+use Rattle.rl_spec.specs.Lower.{ident, unwrapCall, clauseGuard, declare, returnOf, skipErr, wrapAs, wrapReturn, transformStatement, lastOf, wrapTrailing, ensuredBody}
+use Rattle.rl_laws.specs.Tests.{by-eqb}
+use Rattle.rl_laws.specs.Found.{size-found}
 use Rattle.rl_theorems.specs.Making.{Gives, stops, gives, after, weaker, by-pick, given-is}
+use Rattle.rl_theorems.specs.LastBare.{Last, last-bare}
 use Rattle.rl_context.specs.declared.Ctx.{Ctx}
 use Rattle.rl_context.specs.Additions.{New, Counted, Waiting, Live}
 use Rattle.rl_context.specs.Does.{State, at, nothing, all, Over, Ends, Start, Does}
-use Rattle.rl_context.proofs.Composed.{by-full, ends-full, ends-live, stays-full}
-use Rattle.rl_context.proofs.More.{AsMany, More}
-use Rattle.rl_context.proofs.MoreLower.{more-wrap}
-use Rattle.rl_resolver.specs.Bodies.{waitingWith, endsBare}
+use Rattle.rl_context.proofs.Composed.{Keeps, by-full, ends-full, ends-live, stays-full, does-then}
+use Rattle.rl_context.proofs.More.{AsMany, More, more-flat}
+use Rattle.rl_context.proofs.MoreLower.{more-statement, more-wrap}
+use Rattle.rl_guards.specs.Guards.{Gathers, clausesIn}
+use Rattle.rl_transform.specs.Transforms.{walkBelow, Ready, Returns}
+use Rattle.rl_resolver.specs.Bodies.{waitingWith, entriesIn, Waits, BodyFits, endsBare}
+use Rattle.rl_resolver.proofs.Lasts.{length-entries, entry-number, last-number, no-numbers}
 
 -- ---- what comes of a list is no shorter
 
@@ -143,3 +156,138 @@ module _ (im : Image) (ctx : Ctx) (scratch waiting side : List ℕ) (long : leng
             (λ f.
             subst (λ z. Ends im 0 all ws (andThen z (λ _. m >>= k)) res t) (sym (st .live f .is))
             (from ws (st .live f .here) f (subst (λ z. Live im 0 (st .live f .here) z ctx scratch waiting) (append-nil ws) (st .live f .live))))
+
+-- ---- the body under ensures
+
+module _ (s p : List ℕ) (c : Counts) (rows : List ℕ) (body ensured : Interval) (ready : Ready s p c rows ensured) (fit : BodyFits s p c body)
+    (ctx : Ctx) (scratch waiting side : List ℕ) (long : length side ≡ 4096) (done : Ctx) (scratch′ side′ : List ℕ) where
+  abbrev of : Image
+  of = imageFound s p c
+
+  abbrev es : List Clause
+  es = clausesIn of ensured
+
+  abbrev numbers : List ℕ
+  numbers = entriesIn of body
+
+  -- every statement of the body is before the last of all
+  walk-same : (n a : ℕ) → ((i : ℕ) → i < n → entryOf of (a + i) < c .statements) →
+      flatMap (walkBelow es (c .statements)) (map (entryOf of) (upFrom a n)) ≡ flatMap (transformStatement es) (map (entryOf of) (upFrom a n))
+  unfolding upFrom flatMap
+  walk-same zero a h = refl
+  walk-same (suc n) a h =
+      λ i x. andThen (ap (λ b. pick b (transformStatement es (entryOf of a)) fail) (lt-ltb (entryOf of a) (c .statements) (subst (λ z. entryOf of z < c .statements) (add-zero a) (h 0 (omega arith)))) i x)
+        (λ bs. walk-same n (a + 1) (λ j l. subst (λ z. entryOf of z < c .statements) (next a j) (h (suc j) (omega arith))) i >>= λ cs. give (bs ++ cs))
+    where
+      next : (a b : ℕ) → a + suc b ≡ a + 1 + b
+      next a b = omega arith
+
+  module _ (x : Context) (ws : List ℕ) (l : Live of 0 x ws ctx scratch waiting) where
+    in-range : (i : ℕ) → i < length numbers → getD numbers i 0 < sizeOf (x .image) Statements
+    in-range i h =
+        rw (l .context, entry-number of (body .first) (body .count) i k, length-append (recordsOf of Statements) (l .new .statements))
+        (omega (arith, fit i k, size-found s p c Statements))
+      where
+        k : i < body .count
+        k = subst (λ z. i < z) (length-entries of (body .first) (body .count)) h
+
+    same-last : (body .count ≡ 0 → ⊥) → lastOf (x .image) numbers ≡ lastOf of numbers
+    same-last z =
+        ap (λ y. lastOf (y .image) numbers) (l .context)
+        ∙ List·getD-append (recordsOf of Statements) (l .new .statements) noRecord (getD numbers (length numbers - 1) 0) (rw (last-number of (body .first) (body .count) z, size-found s p c Statements) (subst (λ y. entryOf of y < c .statements) same (fit (body .count - 1) (omega (arith, z)))))
+      where
+        same : body .first + (body .count - 1) ≡ body .first + body .count - 1
+        same = omega (arith, z)
+
+    same-bare : endsBare (x .image) numbers ≡ endsBare of numbers
+    same-bare = by-eqb (body .count) 0 (λ z. empty-bare (x .image) z ∙ sym (empty-bare of z)) (λ z. ap (λ r. not (isEmpty numbers) && eqb (r .kind) 65) (same-last z))
+      where
+        empty-bare : (im : Image) → body .count ≡ 0 → endsBare im numbers ≡ false
+        empty-bare im z = no-numbers of im (body .first) (body .count) z
+
+    lasts : (y : Context) (ss : List ℕ) → flatMap (transformStatement es) numbers x ≡ some (ss, y) → Last (x .image) numbers ss (y .image)
+    lasts y ss e = given-is (last-bare es x numbers (ap (λ z. length (z .image .records)) (l .context)) in-range) e
+
+  module _ (ss : List ℕ) (d : Does of 0 0 all (flatMap (walkBelow es (c .statements)) numbers) (at (waitingWith ctx 0) scratch side) ss (at done scratch′ side′)) where
+    through : Does of 0 0 all (flatMap (transformStatement es) numbers) (at (waitingWith ctx 0) scratch side) ss (at done scratch′ side′)
+    through = subst (λ m. Does of 0 0 all m (at (waitingWith ctx 0) scratch side) ss (at done scratch′ side′)) (walk-same (body .count) (body .first) fit) d
+
+    -- what waits aside is what stands for the statements
+    stood : (y : Context) → Live of 0 y ss done scratch′ side′ → (n : ℕ) → n ≤ length ss → take n side′ ≡ take n ss
+    stood y l n h = sym (take-take n (length ss) side′ h) ∙ ap (take n) (l .waits .entries)
+
+    bare-then : (x y : Context) (ws : List ℕ) → Live of 0 x ws ctx scratch waiting → flatMap (transformStatement es) numbers x ≡ some (ss, y) → endsBare (y .image) ss ≡ endsBare of numbers
+    bare-then x y ws l e = lasts x ws l y ss e .same ∙ same-bare x ws l
+
+    -- no bare last expression
+    ensured-plain : (t : State) (count : ℕ) → count ≡ min (done .waiting) 4096 → endsBare of numbers ≡ false → Waits of (take count side′) (at (waitingWith done (ctx .waiting)) scratch′ waiting) t →
+        Does of 0 0 all (ensuredBody es numbers) (at ctx scratch waiting) ss t
+    unfolding wrapTrailing
+    ensured-plain t count cnt b w =
+        aside-then of ctx scratch waiting side long done scratch′ side′ (flatMap (transformStatement es) numbers) ss through (wrapTrailing es) (trailing-long es) ss t
+        (λ f. stays-full w f)
+        (λ x y ws l e m f v.
+          subst (λ z. Ends of 0 all ws z ss t) (sym (ap (λ z. pick z (wrapReturn (number (lastOf (y .image) ss) 1) es >>= λ seq. give (seq ++ take (length ss - 1) ss)) (give ss) y) (bare-then x y ws l e ∙ b)))
+          (subst (λ z. Ends of 0 all ws (some (z, y)) z t) (whole y m)
+          (w .does ws (some (tt, y)) (ends-live f (subst (λ z. Live of 0 y z (waitingWith done (ctx .waiting)) scratch′ waiting) (sym (append-nil ws)) v)))))
+        (more-flat (more-statement es) numbers)
+      where
+        whole : (y : Context) → Live of 0 y ss done scratch′ side′ → take count side′ ≡ ss
+        whole y m = ap (λ n. take n side′) same ∙ m .waits .entries
+          where
+            same : count ≡ length ss
+            same = omega (arith, cnt, m .waits .count, m .waits .few)
+
+    -- a bare last expression, wrapped ahead of the others
+    ensured-bare : (u t : State) (value most count : ℕ) (seq : List ℕ) → count ≡ min (done .waiting) 4096 → endsBare of numbers ≡ true → value ≡ number (lastOf of numbers) 1 → most ≡ count - 1 →
+        Does of 0 0 all (wrapReturn value es) (at (waitingWith done (ctx .waiting)) scratch′ waiting) seq u → Waits of (take most side′) u t →
+        Does of 0 0 all (ensuredBody es numbers) (at ctx scratch waiting) (seq ++ take most side′) t
+    unfolding wrapTrailing
+    ensured-bare u t value most count seq cnt b g q d′ w =
+        aside-then of ctx scratch waiting side long done scratch′ side′ (flatMap (transformStatement es) numbers) ss through (wrapTrailing es) (trailing-long es) (seq ++ take most side′) t
+        (λ f. stays-full w (stays-full d′ f))
+        (λ x y ws l e m f v.
+          subst (λ z. Ends of 0 all ws z (seq ++ take most side′) t) (sym (wrapped x y ws l e m))
+          (both-done .does ws (some (tt, y)) (ends-live f (subst (λ z. Live of 0 y z (waitingWith done (ctx .waiting)) scratch′ waiting) (sym (append-nil ws)) v))))
+        (more-flat (more-statement es) numbers)
+      where
+        both-done : Does of 0 0 all (wrapReturn value es >>= λ z. give (z ++ take most side′)) (at (waitingWith done (ctx .waiting)) scratch′ waiting) (seq ++ take most side′) t
+        both-done = does-then (λ z. seq ++ z) d′ w (record { keeps = λ ws a x o. gives (record { sections = o .sections; more = rw (length-append ws (a ++ take most side′), length-append a (take most side′)) (omega (arith, o .more, length-append ws a)) }) }) refl (λ z. refl)
+
+        same-value : (x : Context) (ws : List ℕ) → Live of 0 x ws ctx scratch waiting → number (lastOf (x .image) numbers) 1 ≡ number (lastOf of numbers) 1
+        same-value x ws l = by-eqb (body .count) 0 (λ z. absurd (none z)) (λ z. ap (λ r. number r 1) (same-last x ws l z))
+          where
+            none : body .count ≡ 0 → ⊥
+            none z = subst T (sym (sym (no-numbers of of (body .first) (body .count) z) ∙ b)) tt
+
+        counted-all : (y : Context) → Live of 0 y ss done scratch′ side′ → count ≡ length ss
+        counted-all y m = omega (arith, cnt, m .waits .count, m .waits .few)
+
+        wrapped : (x y : Context) (ws : List ℕ) → Live of 0 x ws ctx scratch waiting → flatMap (transformStatement es) numbers x ≡ some (ss, y) → Live of 0 y ss done scratch′ side′ →
+            wrapTrailing es ss y ≡ (wrapReturn value es >>= λ z. give (z ++ take most side′)) y
+        wrapped x y ws l e m =
+            ap (λ z. pick z (wrapReturn (number (lastOf (y .image) ss) 1) es >>= λ k. give (k ++ take (length ss - 1) ss)) (give ss) y) (bare-then x y ws l e ∙ b)
+            ∙ ap₂ (λ z k. (wrapReturn z es >>= λ i. give (i ++ k)) y) (ap (λ r. number r 1) (lasts x ws l y ss e .kept (same-bare x ws l ∙ b)) ∙ same-value x ws l ∙ sym g)
+            (sym (stood y m (length ss - 1) (omega arith)) ∙ ap (λ n. take n side′) (sym (q ∙ ap (λ n. n - 1) (counted-all y m))))
+
+  -- as the code has them: the contexts by their equations
+  module _ (aside₀ back₀ : Ctx) (a : aside₀ ≡ waitingWith ctx 0) (b : back₀ ≡ waitingWith done (ctx .waiting))
+      (d : Returns s p c ensured (c .statements) (body .first) (body .count) (at aside₀ scratch side) (at done scratch′ side′)) (count : ℕ) (cnt : count ≡ min (done .waiting) 4096) where
+    gone : Does of 0 0 all (flatMap (walkBelow es (c .statements)) numbers) (at (waitingWith ctx 0) scratch side) (d .0) (at done scratch′ side′)
+    gone = subst (λ z. Does of 0 0 all (flatMap (walkBelow es (c .statements)) numbers) (at z scratch side) (d .0) (at done scratch′ side′)) a (d .1)
+
+    pub plain-done : (t : State) (r : Bool) → r ≡ endsBare of numbers → r ≡ false → Waits of (take count side′) (at back₀ scratch′ waiting) t →
+        Gathers of 0 (ensuredBody es numbers) (at ctx scratch waiting) t
+    plain-done t r e f w =
+        (d .0, ensured-plain (d .0) gone t count cnt (sym e ∙ f) (subst (λ z. Waits of (take count side′) (at z scratch′ waiting) t) b w))
+
+    pub bare-done : (u t : State) (r : Bool) (value most : ℕ) → r ≡ endsBare of numbers → r ≡ true → (endsBare of numbers ≡ true → value ≡ number (lastOf of numbers) 1) → most ≡ count - 1 →
+        Gathers of 0 (wrapReturn value es) (at back₀ scratch′ waiting) u → Waits of (take most side′) u t → Gathers of 0 (ensuredBody es numbers) (at ctx scratch waiting) t
+    bare-done u t r value most e f g q w v =
+        (w .0 ++ take most side′, ensured-bare (d .0) gone u t value most count (w .0) cnt (sym e ∙ f) (g (sym e ∙ f)) q (subst (λ z. Does of 0 0 all (wrapReturn value es) (at z scratch′ waiting) (w .0) u) b (w .1)) v)
+
+pub waits-low : (count n size : ℕ) → count ≡ min n 4096 → 4096 ≡ size → count ≤ size
+waits-low count n size e h = omega arith
+
+pub waits-lower : (most count n size : ℕ) → most ≡ count - 1 → count ≡ min n 4096 → 4096 ≡ size → most ≤ size
+waits-lower most count n size q e h = omega arith

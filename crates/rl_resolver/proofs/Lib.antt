@@ -3,5 +3,7 @@ pub mod Contracts
 pub mod Beginning
 pub mod Finishing
 pub mod Answers
+pub mod Lasts
 pub mod Ensured
 pub mod Pushing
+pub mod NewBody

@@ -6,7 +6,7 @@ use mathlib.Core.List.{List, map}
 use lib.Dec.{eqb}
 use lib.ListN.{length}
 use Rattle.rl_spec.specs.declared.Counts.{Counts}
-use Rattle.rl_spec.specs.declared.Section.the-variants.{Texts}
+use Rattle.rl_spec.specs.declared.Section.the-variants.{Texts, Lists, Expressions, Statements}
 use Rattle.rl_spec.specs.declared.Interval.{Interval}
 use Rattle.rl_spec.specs.Bytes.{pick}
 use Rattle.rl_spec.specs.Image.{Image, sizeOf, entryOf}
@@ -60,6 +60,10 @@ waitingWith ctx n =
       full = ctx .full;
     }
 
--- no text is new
-abbrev pub Fresh : Image → Ctx → Type 0
-Fresh im ctx = (ctx .bytes ≡ length (im .bytes)) × (ctx .texts ≡ sizeOf im Texts)
+-- nothing is new
+pub record Fresh (im : Image) (ctx : Ctx) : Type 0 where
+  pub bytes : ctx .bytes ≡ length (im .bytes)
+  pub texts : ctx .texts ≡ sizeOf im Texts
+  pub lists : ctx .lists ≡ sizeOf im Lists
+  pub expressions : ctx .expressions ≡ sizeOf im Expressions
+  pub statements : ctx .statements ≡ sizeOf im Statements

@@ -1,9 +1,6 @@
-// Lowering: the checks before it, and what it begins with.
+// Lowering: reads an image, and turns the contracts of one of its functions into plain guards.
+mod body;
 mod checks;
 mod lowering;
 
-pub use checks::Admission;
-pub use checks::admit;
-pub use lowering::begun;
-pub use lowering::clear_bytes;
-pub use lowering::has_contracts;
+pub use lowering::lower;
