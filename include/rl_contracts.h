@@ -77,6 +77,22 @@ uint64_t rl_run(const uint8_t *image, size_t image_len, uint16_t *work, size_t w
                 uint32_t function, const uint64_t *values, size_t values_len, uint32_t budget,
                 uint64_t *outcome, size_t outcome_len);
 
+/* The least length of an output slice; how many bytes of it are the lowered image. */
+#define RL_OUT 65535
+#define RL_LENGTH(answer) ((uint32_t)(answer))
+
+/*
+ * Reads an image and lowers the contracts of one of its functions. On success
+ * out holds the image with this function's body replaced, unchanged without
+ * contracts, then zeros to its end, and work is as after reading. Refusals
+ * besides those of reading: 11 no such function, 12 an expression of a height
+ * over 64 or a statement over 32 anywhere, 13 an output slice of under 65,535
+ * bytes, 14 a limit of the format would be passed. On refusal work and out are
+ * zero.
+ */
+uint64_t rl_lower(const uint8_t *image, size_t image_len, uint16_t *work, size_t work_len,
+                  uint32_t function, uint8_t *out, size_t out_len);
+
 #ifdef __cplusplus
 }
 #endif

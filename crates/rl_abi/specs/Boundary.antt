@@ -8,6 +8,8 @@ use lib.ListN.{length, getD, replicate}
 use Rattle.rl_spec.specs.declared.FoldAnswer.{FoldAnswer}
 use Rattle.rl_spec.specs.declared.FoldAnswer.the-variants as fold
 use Rattle.rl_spec.specs.declared.Id.{Id}
+use Rattle.rl_spec.specs.declared.LowerAnswer.{LowerAnswer}
+use Rattle.rl_spec.specs.declared.LowerAnswer.the-variants as lower
 use Rattle.rl_spec.specs.declared.ProveAnswer.{ProveAnswer}
 use Rattle.rl_spec.specs.declared.ProveAnswer.the-variants as prove
 use Rattle.rl_spec.specs.declared.Argument.{Argument}
@@ -120,3 +122,14 @@ runOutcome s k f words budget room =
 unfoldable pub runWork : List ℕ → ℕ → ℕ → List ℕ → ℕ → ℕ → List ℕ
 runWork s k f words budget room =
     pick (isBadCall words room) (replicate k 0) (workUnless (runNumber (runOf s k f (argumentsOf words) budget)) s k)
+
+-- ---- lowering: the length of the image written in the low bits
+
+abbrev pub lowerPacked : LowerAnswer → ℕ
+lowerPacked (lower.Lowered n) = n
+lowerPacked (lower.Refused q n) = above (numberOf q) n
+
+-- the place of a refusal
+abbrev pub loweredPlace : LowerAnswer → ℕ
+loweredPlace (lower.Lowered n) = 0
+loweredPlace (lower.Refused q n) = n

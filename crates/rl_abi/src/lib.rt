@@ -13,6 +13,7 @@ use rl_spec::Cause;
 use rl_spec::FoldAnswer;
 use rl_spec::Folded;
 use rl_spec::Id;
+use rl_spec::LowerAnswer;
 use rl_spec::NodeNo;
 use rl_spec::ProveAnswer;
 use rl_spec::RunAnswer;
@@ -25,8 +26,9 @@ ghost use lib.ListN.{length, replicate};
 ghost use Rattle.rl_spec.specs.Read.{numberOf, packed, answerOf, workOf};
 ghost use Rattle.rl_spec.specs.Fold.{workUnless};
 ghost use Rattle.rl_spec.specs.Prove.{proveOf, reportsOf, proveAllOf, allReportsOf, proveNumber};
+ghost use Rattle.rl_spec.specs.Lowerer.{lowerOf, lowerAnswer, lowerNumber, lowerOut};
 ghost use Rattle.rl_spec.specs.Words.{sortWordOf, payloadWordOf};
-ghost use Rattle.rl_abi.specs.Boundary.{above, idOf, foldAnswer, foldValue, foldWork, provePacked, provedPlace, isBadCall, runAnswer, runOutcome, runWork};
+ghost use Rattle.rl_abi.specs.Boundary.{above, idOf, foldAnswer, foldValue, foldWork, provePacked, provedPlace, isBadCall, runAnswer, runOutcome, runWork, lowerPacked, loweredPlace};
 
 fn pack(cause: Cause, place: usize) -> u64
     requires { ⌜ place ≤ 65535 ⌝ }
@@ -167,4 +169,25 @@ pub extern "C" fn rl_run(
             0
         }
     }
+}
+
+// The length of the image written, or a refusal.
+fn pack_lowered(answer: LowerAnswer) -> u64
+    requires { ⌜ loweredPlace answer ≤ 65535 ⌝ }
+    ensures { λ r. ⌜ r ≡ lowerPacked answer ⌝ }
+{
+    match answer {
+        LowerAnswer::Lowered(n) => n as u64,
+        LowerAnswer::Refused { cause, place } => pack(cause, place),
+    }
+}
+
+// Reads an image and lowers the contracts of a function into plain guards. The low 32 bits are the length of the image written.
+#[no_mangle]
+pub extern "C" fn rl_lower(image: &[u8], work: &mut [u16], function: u32, out: &mut [u8]) -> u64
+    ensures { λ r. ⌜ r ≡ lowerPacked (lowerAnswer (lowerOf (now (image .entry)) (length (now (work .entry))) function (length (now (out .entry))))) ⌝ }
+    ensures { λ r. ⌜ now (out .exit) ≡ lowerOut (length (now (out .entry))) (lowerOf (now (image .entry)) (length (now (work .entry))) function (length (now (out .entry)))) ⌝ }
+    ensures { λ r. ⌜ now (work .exit) ≡ workUnless (lowerNumber (lowerOf (now (image .entry)) (length (now (work .entry))) function (length (now (out .entry))))) (now (image .entry)) (length (now (work .entry))) ⌝ }
+{
+    pack_lowered(rl_resolver::lower(image, work, function, out))
 }

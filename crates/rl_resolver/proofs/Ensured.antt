@@ -177,7 +177,7 @@ module _ (s p : List ℕ) (c : Counts) (rows : List ℕ) (body ensured : Interva
   walk-same zero a h = refl
   walk-same (suc n) a h =
       λ i x. andThen (ap (λ b. pick b (transformStatement es (entryOf of a)) fail) (lt-ltb (entryOf of a) (c .statements) (subst (λ z. entryOf of z < c .statements) (add-zero a) (h 0 (omega arith)))) i x)
-        (λ bs. walk-same n (a + 1) (λ j l. subst (λ z. entryOf of z < c .statements) (next a j) (h (suc j) (omega arith))) i >>= λ cs. give (bs ++ cs))
+      (λ bs. walk-same n (a + 1) (λ j l. subst (λ z. entryOf of z < c .statements) (next a j) (h (suc j) (omega arith))) i >>= λ cs. give (bs ++ cs))
     where
       next : (a b : ℕ) → a + suc b ≡ a + 1 + b
       next a b = omega arith
@@ -227,9 +227,9 @@ module _ (s p : List ℕ) (c : Counts) (rows : List ℕ) (body ensured : Interva
         aside-then of ctx scratch waiting side long done scratch′ side′ (flatMap (transformStatement es) numbers) ss through (wrapTrailing es) (trailing-long es) ss t
         (λ f. stays-full w f)
         (λ x y ws l e m f v.
-          subst (λ z. Ends of 0 all ws z ss t) (sym (ap (λ z. pick z (wrapReturn (number (lastOf (y .image) ss) 1) es >>= λ seq. give (seq ++ take (length ss - 1) ss)) (give ss) y) (bare-then x y ws l e ∙ b)))
-          (subst (λ z. Ends of 0 all ws (some (z, y)) z t) (whole y m)
-          (w .does ws (some (tt, y)) (ends-live f (subst (λ z. Live of 0 y z (waitingWith done (ctx .waiting)) scratch′ waiting) (sym (append-nil ws)) v)))))
+        subst (λ z. Ends of 0 all ws z ss t) (sym (ap (λ z. pick z (wrapReturn (number (lastOf (y .image) ss) 1) es >>= λ seq. give (seq ++ take (length ss - 1) ss)) (give ss) y) (bare-then x y ws l e ∙ b)))
+        (subst (λ z. Ends of 0 all ws (some (z, y)) z t) (whole y m)
+        (w .does ws (some (tt, y)) (ends-live f (subst (λ z. Live of 0 y z (waitingWith done (ctx .waiting)) scratch′ waiting) (sym (append-nil ws)) v)))))
         (more-flat (more-statement es) numbers)
       where
         whole : (y : Context) → Live of 0 y ss done scratch′ side′ → take count side′ ≡ ss
@@ -247,8 +247,8 @@ module _ (s p : List ℕ) (c : Counts) (rows : List ℕ) (body ensured : Interva
         aside-then of ctx scratch waiting side long done scratch′ side′ (flatMap (transformStatement es) numbers) ss through (wrapTrailing es) (trailing-long es) (seq ++ take most side′) t
         (λ f. stays-full w (stays-full d′ f))
         (λ x y ws l e m f v.
-          subst (λ z. Ends of 0 all ws z (seq ++ take most side′) t) (sym (wrapped x y ws l e m))
-          (both-done .does ws (some (tt, y)) (ends-live f (subst (λ z. Live of 0 y z (waitingWith done (ctx .waiting)) scratch′ waiting) (sym (append-nil ws)) v))))
+        subst (λ z. Ends of 0 all ws z (seq ++ take most side′) t) (sym (wrapped x y ws l e m))
+        (both-done .does ws (some (tt, y)) (ends-live f (subst (λ z. Live of 0 y z (waitingWith done (ctx .waiting)) scratch′ waiting) (sym (append-nil ws)) v))))
         (more-flat (more-statement es) numbers)
       where
         both-done : Does of 0 0 all (wrapReturn value es >>= λ z. give (z ++ take most side′)) (at (waitingWith done (ctx .waiting)) scratch′ waiting) (seq ++ take most side′) t

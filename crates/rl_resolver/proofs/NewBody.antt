@@ -54,10 +54,11 @@ module _ (im : Image) (body ensured : Interval) (s t : State) where
 
   pub rest-ensured : (ensured .count ≡ 0 → ⊥) → Gathers im 0 (ensuredBody (clausesIn im ensured) (entriesIn im body)) s t →
       Gathers im 0 (restIn im body ensured) s t
-  rest-ensured z g =
-      (g .0,
-      subst (λ b. Does im 0 0 all (pick b (give (entriesIn im body)) (ensuredBody (clausesIn im ensured) (entriesIn im body))) s (g .0) t)
-      (sym (not-empty (clauseAt im) (ensured .first) (ensured .count) z)) (g .1))
+  rest-ensured z g = (
+    g .0,
+    subst (λ b. Does im 0 0 all (pick b (give (entriesIn im body)) (ensuredBody (clausesIn im ensured) (entriesIn im body))) s (g .0) t)
+        (sym (not-empty (clauseAt im) (ensured .first) (ensured .count) z)) (g .1),
+  )
 
 -- ---- what a function of a well-formed image refers to is there
 

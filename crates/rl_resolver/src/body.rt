@@ -165,7 +165,17 @@ fn ensured_body(
     let fewer = less_one(count);
     let back = with_waiting(done, ctx.waiting);
     if bare {
-        let wrapped = wrap_return(image, starts, counts, rows, value, ensured, scratch, waiting, back);
+        let wrapped = wrap_return(
+            image,
+            starts,
+            counts,
+            rows,
+            value,
+            ensured,
+            scratch,
+            waiting,
+            back,
+        );
         return push_first(&side, fewer, waiting, wrapped);
     }
     push_first(&side, count, waiting, back)
@@ -188,7 +198,17 @@ fn rest(
     if ensured.count == 0 {
         return push_entries(image, counts, body, waiting, ctx);
     }
-    ensured_body(image, starts, counts, rows, body, ensured, scratch, waiting, ctx)
+    ensured_body(
+        image,
+        starts,
+        counts,
+        rows,
+        body,
+        ensured,
+        scratch,
+        waiting,
+        ctx,
+    )
 }
 
 pub fn new_body(
@@ -221,6 +241,16 @@ pub fn new_body(
     );
     let body = f.body;
     let ensured = f.ensured;
-    let done = rest(image, starts, counts, rows, body, ensured, scratch, waiting, required);
+    let done = rest(
+        image,
+        starts,
+        counts,
+        rows,
+        body,
+        ensured,
+        scratch,
+        waiting,
+        required,
+    );
     done.new_list(scratch, waiting, first)
 }

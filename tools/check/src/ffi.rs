@@ -41,7 +41,6 @@ extern "C" {
         outcome: *mut u64,
         outcome_len: usize,
     ) -> u64;
-    #[cfg(feature = "lower")]
     fn rl_lower(
         image: *const u8,
         image_len: usize,
@@ -147,7 +146,6 @@ pub fn run(
 }
 
 /// Lowers a function; `work` and `out` are overwritten whole.
-#[cfg(feature = "lower")]
 pub fn lower(image: &[u8], work: &mut [u16], function: u32, out: &mut [u8]) -> Answer {
     Answer::of(unsafe {
         rl_lower(

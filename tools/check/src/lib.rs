@@ -2,7 +2,6 @@
 
 pub mod ffi;
 pub mod images;
-#[cfg(feature = "lower")]
 pub mod lowerings;
 pub mod runs;
 pub mod slices;

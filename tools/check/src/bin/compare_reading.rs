@@ -1,9 +1,8 @@
 //! `compare_reading [FUNCTIONS] [SEED]`: runs of lowered functions against
 //! independent contract readings of the original ones, on generated functions
 //! with budgets around what they take, and on calls that are refused. Lowering
-//! and running are the library's with the feature `lower`, else independent.
+//! and running are the library's.
 
-#[cfg(feature = "lower")]
 use check::lowerings::{lowered, run};
 use rlimg::decode::decode;
 use rlimg::encode::encode;
@@ -14,11 +13,6 @@ use rlimg::rng::Rng;
 use rlimg::run::{premises_hold, Program, Shown, Value, BUDGET, NULL};
 use rlimg::runs::{self, Run};
 use rlimg::schema::Section;
-#[cfg(not(feature = "lower"))]
-use rlimg::{
-    image::WORK,
-    lower::{answer, Call, ROOM},
-};
 use rlimg::{lowerings, text};
 use std::collections::BTreeMap;
 use std::process::ExitCode;
@@ -176,22 +170,6 @@ struct Pair<'a> {
     image: &'a Image,
     bytes: Vec<u8>,
     lowered: &'a Image,
-}
-
-#[cfg(not(feature = "lower"))]
-fn lowered(bytes: &[u8], function: u32) -> Result<Vec<u8>, u32> {
-    let call = Call { work: WORK, function, room: ROOM };
-    answer(bytes, call).map_err(|refusal| refusal.number)
-}
-
-#[cfg(not(feature = "lower"))]
-fn run(
-    (_, image): (&[u8], &Image),
-    function: u32,
-    values: &[Value],
-    budget: u32,
-) -> Result<Shown, u32> {
-    Program::new(image).plainly(function, values, budget)
 }
 
 fn main() -> ExitCode {
