@@ -1,12 +1,14 @@
 # make run [IMAGE=path]   the printer on an image (default: the sample)
 # make test               the gate, the comparisons, formatting
-# make compare [CASES=n] [PROVED=n] [RUN=n] [SEED=n]   the reader and the runner against independent ones and the prover against rl-lang's, on more cases
+# make compare [CASES=n] [PROVED=n] [RUN=n] [LOWERED=n] [SEED=n]   reading and running against independent ones, proving and lowering
+#                         against rl-lang's, lowered runs against contract readings, on more cases
 # make bench              times of this and of Rust, in one run
 # make fmt                lay all files out
 IMAGE ?= samples/flow.img
 CASES ?= 3000000
 PROVED ?= 500000
 RUN ?= 1000000
+LOWERED ?= 500000
 SEED ?= 7
 CARGO = cargo --quiet
 CARGO_RELEASE = cd tools && $(CARGO) build --release
@@ -32,18 +34,23 @@ compare: staticlib
 	tools/target/release/compare_prove $(PROVED) $(SEED)
 	tools/target/release/compare_run $(RUN) $(SEED)
 	tools/target/release/run_limits
+	tools/target/release/compare_lower $(LOWERED) $(SEED)
+	tools/target/release/compare_reading $(LOWERED) $(SEED)
+	tools/target/release/lower_limits
 
 bench: staticlib
 	$(CARGO_RELEASE)
 	tools/target/release/bench_read
 	tools/target/release/bench_prove
 	tools/target/release/bench_run
+	tools/target/release/bench_lower
 
 # writes the stored cases anew; those of proving need the original
 vectors:
-	$(CARGO_RELEASE) --bin vectors --bin vectors_run --bin vectors_prove
+	$(CARGO_RELEASE) --bin vectors --bin vectors_run --bin vectors_lower --bin vectors_prove
 	tools/target/release/vectors crates/vectors_read
 	tools/target/release/vectors_run crates/vectors_run
+	tools/target/release/vectors_lower crates/vectors_lower
 	tools/target/release/vectors_prove crates/vectors_prove
 
 fmt:

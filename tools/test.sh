@@ -19,7 +19,11 @@ case "$last" in
 *) echo "$last"; exit 1 ;;
 esac
 
-# the library, compared with an independent reader, folder, prover and runner and with the original; the printer too
+# wrong definitions are refused by the theorems, and what no run shows by the stored cases
+sh tools/definition_edits.sh
+sh tools/shared_condition.sh
+
+# the library, compared with an independent reader, folder, prover, runner and lowering and with the original; the printer too
 rt staticlib rl_abi >"$new/library" 2>&1 || { cat "$new/library"; exit 1; }
 (cd tools && cargo test --quiet -p rlimg -p oracle >"$new/tests" 2>&1) || { cat "$new/tests"; exit 1; }
 (cd tools && cargo build --quiet --release)
@@ -27,6 +31,9 @@ tools/target/release/compare_read
 tools/target/release/compare_prove 100000
 tools/target/release/compare_run 200000
 tools/target/release/run_limits
+tools/target/release/compare_lower 100000
+tools/target/release/compare_reading 100000
+tools/target/release/lower_limits
 tools/target/release/compare_print
 
 # the stored cases and the sample are what the tools make
@@ -36,6 +43,9 @@ cmp "$new/stdout" crates/vectors_read/stdout
 tools/target/release/vectors_run "$new/run"
 cmp "$new/run/stdin" crates/vectors_run/stdin
 cmp "$new/run/stdout" crates/vectors_run/stdout
+tools/target/release/vectors_lower "$new/lower"
+cmp "$new/lower/stdin" crates/vectors_lower/stdin
+cmp "$new/lower/stdout" crates/vectors_lower/stdout
 tools/target/release/rlimg build samples/flow.txt -o "$new/flow.img"
 cmp "$new/flow.img" samples/flow.img
 cmp samples/flow.img crates/rl_printer/stdin

@@ -261,6 +261,10 @@ body-grow im f ctx = desugar-grow _ _ _ _ ctx ⇒ λ ss c. grown (list-good ss c
 
 -- ---- THE LOWERED IMAGE
 
+-- a function's record with another body list, its fifth field
+abbrev pub withBodyList : Rec → Field → Rec
+withBodyList r list = made (r .kind) (set (r .fields) 4 list)
+
 pub record Followed (im : Image) (f : ℕ) (im′ : Image) : Type 0 where
   pub arena : im′ .arena ≡ im .arena
   pub bytes : Longer (im .bytes) (im′ .bytes)
@@ -268,7 +272,7 @@ pub record Followed (im : Image) (f : ℕ) (im′ : Image) : Type 0 where
   pub lists : Longer (recordsOf im Lists) (recordsOf im′ Lists)
   pub expressions : Longer (recordsOf im Expressions) (recordsOf im′ Expressions)
   pub statements : Longer (recordsOf im Statements) (recordsOf im′ Statements)
-  pub functions : (list : Field) × (recordsOf im′ Functions ≡ set (recordsOf im Functions) f (lower.bodied (recordOf im Functions f) list))
+  pub functions : (list : Field) × (recordsOf im′ Functions ≡ set (recordsOf im Functions) f (withBodyList (recordOf im Functions f) list))
   pub parameters : recordsOf im′ Parameters ≡ recordsOf im Parameters
   pub clauses : recordsOf im′ Clauses ≡ recordsOf im Clauses
   pub calls : recordsOf im′ Calls ≡ recordsOf im Calls
@@ -308,10 +312,10 @@ pub body-grows : (im : Image) (f : ℕ) (list : Field) (c : Context) → Eight i
 body-grows im f list c e d = good-is (body-grow im f (lower.start im f)) e d .0 .image
 
 same-body : (im : Image) (f : ℕ) →
-    recordsOf im Functions ≡ set (recordsOf im Functions) f (lower.bodied (recordOf im Functions f) (fieldOf (recordOf im Functions f) 4))
+    recordsOf im Functions ≡ set (recordsOf im Functions) f (withBodyList (recordOf im Functions f) (fieldOf (recordOf im Functions f) 4))
 same-body im f =
     let r : Rec = recordOf im Functions f in
-    let d : lower.bodied r (fieldOf r 4) ≡ r = ap (made (r .kind)) (set-getD (r .fields) 4 noField) in
+    let d : withBodyList r (fieldOf r 4) ≡ r = ap (made (r .kind)) (set-getD (r .fields) 4 noField) in
     sym (ap (set (recordsOf im Functions) f) d ∙ set-getD (recordsOf im Functions) f noRecord)
 
 followed-by : (im im′ : Image) (f : ℕ) → Eight im → Lowering im f im′ → Followed im f im′
@@ -330,7 +334,7 @@ followed-by im im′ f e untouched =
     }
 followed-by im im′ f e (rebuilt {list} {c} d l) =
     let g : Grows im (c .image) = body-grows im f list c e d in
-    let rs : List Rec = set (recordsOf (c .image) Functions) f (lower.bodied (recordOf (c .image) Functions f) list) in
+    let rs : List Rec = set (recordsOf (c .image) Functions) f (withBodyList (recordOf (c .image) Functions f) list) in
     let own : recordsOf (lower.withBody (c .image) f list) Functions ≡ rs = records-own (c .image) Functions rs (g .sections ∙ e) in
     let other : (q : Section) → (orderOf q ≡ 6 → ⊥) → recordsOf (lower.withBody (c .image) f list) q ≡ recordsOf (c .image) q =
     (λ q h. records-other (c .image) Functions q rs h) in
@@ -341,7 +345,7 @@ followed-by im im′ f e (rebuilt {list} {c} d l) =
       lists = rw (other Lists (λ h. omega arith)) (g .lists);
       expressions = rw (other Expressions (λ h. omega arith)) (g .expressions);
       statements = rw (other Statements (λ h. omega arith)) (g .statements);
-      functions = (list, own ∙ ap (λ (l : List Rec). set l f (lower.bodied (getD l f noRecord) list)) (g .functions));
+      functions = (list, own ∙ ap (λ (l : List Rec). set l f (withBodyList (getD l f noRecord) list)) (g .functions));
       parameters = other Parameters (λ h. omega arith) ∙ g .parameters;
       clauses = other Clauses (λ h. omega arith) ∙ g .clauses;
       calls = other Calls (λ h. omega arith) ∙ g .calls;

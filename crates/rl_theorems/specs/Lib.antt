@@ -44,6 +44,7 @@ pub mod SecondHalf
 pub mod SecondHalfExamples
 pub mod RunExamples
 pub mod LowerExamples
+pub mod LowerLimitExamples
 pub mod LowerTrees
 pub mod LowerGuard
 pub mod LowerFrame

@@ -9,7 +9,7 @@ use mathlib.Core.Option.{Option, none, some}
 use lib.ListN.{drop, replicate}
 use lib.IntN.{pos}
 use Rattle.rl_spec.specs.declared.Section.{Section}
-use Rattle.rl_spec.specs.declared.Section.the-variants.{Texts, Lists, Expressions, Statements}
+use Rattle.rl_spec.specs.declared.Section.the-variants.{Texts, Lists, Expressions, Statements, Functions}
 use Rattle.rl_spec.specs.Schema.{limits, sections, inSection, sortOf, fieldsOf, fieldsIn, schema}
 use Rattle.rl_spec.specs.Utf8.{within, utf8Char, begins, widthBy, charWidth, octets, utf8}
 use Rattle.rl_spec.specs.Bytes.{numAt, u16At, u32At, past}
@@ -202,6 +202,23 @@ pub else-left-alone : statementsFrom 4 (lowered else-conditional 0)
 unfolding lowering
 else-left-alone = refl
 
+-- a return in either branch of a conditional, `if (false) { return false } else { return false }`: both branches are rebuilt
+abbrev pub else-returns : Image
+else-returns =
+    image
+    ("f" ∷ "ret" ∷ [])
+    (0 ∷ 3 ∷ [])
+    (bool 0 ∷ identifier 1 ∷ [])
+    (made 66 (num 5 ∷ num 0 ∷ []) ∷ made 69 (num 6 ∷ num 0 ∷ pair 0 1 ∷ num 1 ∷ []) ∷ made 69 (num 7 ∷ absent ∷ pair 0 1 ∷ num 1 ∷ [])
+    ∷ made 68 (num 8 ∷ num 1 ∷ num 2 ∷ []) ∷ [])
+    (clause 1 0 ∷ [])
+    (function 0 (pair 1 1) (pair 0 0) (pair 0 1))
+
+pub else-rebuilt : statementsFrom 17 (lowered else-returns 0)
+    ≡ made 69 (num 7 ∷ absent ∷ pair 16 4 ∷ num 0 ∷ []) ∷ made 68 (num 8 ∷ num 10 ∷ num 17 ∷ []) ∷ []
+unfolding lowering
+else-rebuilt = refl
+
 -- loops of each kind without a return: rebuilt, with their spans, texts, nodes and inner statement, and a list each; nothing else is new
 pub rebuilt-loops : lowered (under-ensures
     (made 77 (num 5 ∷ []) ∷ made 70 (num 6 ∷ num 0 ∷ pair 0 1 ∷ []) ∷ made 72 (num 7 ∷ num 0 ∷ num 0 ∷ num 1 ∷ pair 0 1 ∷ [])
@@ -315,64 +332,30 @@ pub unchanged : lowered no-contracts 0 ≡ some no-contracts
 unfolding lowering
 unchanged = refl
 
--- ---- limits: what is made at n records of a section, or n text bytes
+-- ---- one function of two: the other one stays, and this one keeps all but its body
 
-abbrev filled : ℕ → ℕ → ℕ → ℕ → ℕ → Context
-filled bytes texts lists expressions statements =
+abbrev pub two-functions : Image
+two-functions =
+    build
     record {
-      image =
-          record {
-            arena = 1;
-            bytes = replicate bytes 65;
-            records =
-                replicate texts noRecord ∷ replicate lists noRecord ∷ replicate expressions noRecord ∷ replicate statements noRecord
-                ∷ [] ∷ [] ∷ [] ∷ [] ∷ [];
-          };
-      span = 9;
-      isResult = false;
-      tempCounter = 0;
+      texts = "f" ∷ [];
+      lists = [];
+      expressions = bool 0 ∷ [];
+      statements = [];
+      parameters = [];
+      clauses = clause 0 0 ∷ [];
+      functions = function 0 (pair 0 0) (pair 0 0) (pair 0 0) ∷ function 1 (pair 0 0) (pair 0 1) (pair 0 0) ∷ [];
+      calls = [];
     }
 
--- the number of what is made
-abbrev answered : {A : Type 0} → Option (A × Context) → Option A
-answered none = none
-answered (some r) = some (r .0)
+abbrev functionsIn : Option Image → List Rec
+functionsIn none = []
+functionsIn (some im) = recordsOf im Functions
 
--- the last of each that there is room for
-pub last-ones : (answered (newText (ascii "ab") (filled 16382 2047 0 0 0)) ≡ some 2047)
-    × (answered (newList (1 ∷ 2 ∷ []) (filled 0 0 4094 0 0)) ≡ some (pair 4094 2))
-    × (answered (newList [] (filled 0 0 4096 0 0)) ≡ some (pair 4096 0))
-    × (answered (expr 16 [] (filled 0 0 0 4095 0)) ≡ some 4095)
-    × (answered (stmt 77 9 [] (filled 0 0 0 0 2047)) ≡ some 2047)
+pub second-lowered : functionsIn (lowered two-functions 1)
+    ≡ function 0 (pair 0 0) (pair 0 0) (pair 0 0) ∷ function 1 (pair 1 1) (pair 0 1) (pair 0 0) ∷ []
 unfolding lowering
-last-ones = (refl, refl, refl, refl, refl)
-
--- and one too many
-pub too-many : (answered (newText (ascii "ab") (filled 16383 2047 0 0 0)) ≡ none)
-    × (answered (newText (ascii "ab") (filled 16382 2048 0 0 0)) ≡ none)
-    × (answered (newList (1 ∷ 2 ∷ []) (filled 0 0 4095 0 0)) ≡ none)
-    × (answered (expr 16 [] (filled 0 0 0 4096 0)) ≡ none)
-    × (answered (stmt 77 9 [] (filled 0 0 0 0 2048)) ≡ none)
-unfolding lowering
-too-many = (refl, refl, refl, refl, refl)
-
--- the sixth: 4,096 ResolvedIdentifiers of 15 bytes, a header of 23, and text bytes
-abbrev sized : ℕ → Image
-sized bytes =
-    record {
-      arena = 1;
-      bytes = replicate bytes 65;
-      records =
-          [] ∷ [] ∷ replicate 4096 (made 31 (num 1 ∷ num 2 ∷ num 3 ∷ num 4 ∷ [])) ∷ [] ∷ [] ∷ [] ∷ [] ∷ [] ∷ [];
-    }
-
-pub longest : isSome (fitting (sized 4072)) ≡ true
-unfolding lowering
-longest = refl
-
-pub too-long : isSome (fitting (sized 4073)) ≡ false
-unfolding lowering
-too-long = refl
+second-lowered = refl
 
 -- ---- what the reader and the runner make of them
 
@@ -427,6 +410,7 @@ cases =
     ∷ on returns-ok [] 1000 (returned (ok (folded (value.bool true)))) 14
     ∷ on returns-ok [] 10 spent 10
     ∷ on else-conditional [] 1000 (returned (folds (value.bool true))) 11
+    ∷ on else-returns [] 1000 (stopped (folded (value.bool false))) 13
     -- a refinement that fails, a requires that fails, and both hold
     ∷ on flow (int 0 ∷ []) 1000 (said "refinement failed: flow >= 1") 9
     ∷ on flow (int 5000 ∷ []) 1000 (said "flow id range") 14
