@@ -21,7 +21,7 @@ use Rattle.rl_theorems.specs.Grows.{listRecords, NewList, list-gives}
 use Rattle.rl_encode.specs.Words.{over}
 use Rattle.rl_encode.proofs.Over.{over-none, over-over, length-over}
 use Rattle.rl_context.specs.declared.Ctx.{Ctx}
-use Rattle.rl_context.specs.Additions.{New, contextOf, Kept, Counted, Waiting, Live}
+use Rattle.rl_context.specs.Additions.{New, contextOf, Kept, Counted, waitingWith, Waiting, Live}
 use Rattle.rl_context.specs.Does.{State, at, nothing, one, all, Over, Ends, Pushes, Listed}
 use Rattle.rl_context.proofs.Composed.{not-both, by-full, ends-full, ends-live}
 use Rattle.rl_context.proofs.Sizes.{records-append, records-one, entry-record, entries-bytes}
@@ -47,24 +47,29 @@ module _ (entry : ℕ) (self : Ctx) (scratch w : List ℕ) where
             (gives (record { sections = ap (λ z. length (z .image .records)) (l .live .context); more = rw (length-append ws (entry ∷ [])) (omega (arith, h, l .live .waits .count, length-append ws [])) }))));
       }
 
-abbrev pub pushed : Ctx → ℕ → Ctx
-pushed ctx n =
+-- the counts do not depend on what waits
+pub counted-same : {im : Image} {new : New} {ctx : Ctx} (n : ℕ) → Counted im new ctx → Counted im new (waitingWith ctx n)
+counted-same n c =
     record {
-      bytes = ctx .bytes;
-      texts = ctx .texts;
-      lists = ctx .lists;
-      expressions = ctx .expressions;
-      statements = ctx .statements;
-      «expression_bytes» = ctx .«expression_bytes»;
-      «statement_bytes» = ctx .«statement_bytes»;
-      waiting = n;
-      span = ctx .span;
-      «is_result» = ctx .«is_result»;
-      «temp_counter» = ctx .«temp_counter»;
-      full = ctx .full;
+      bytes = c .bytes;
+      texts = c .texts;
+      lists = c .lists;
+      expressions = c .expressions;
+      statements = c .statements;
+      few-bytes = c .few-bytes;
+      few-texts = c .few-texts;
+      few-lists = c .few-lists;
+      few-expressions = c .few-expressions;
+      few-statements = c .few-statements;
+      text-bytes = c .text-bytes;
+      list-bytes = c .list-bytes;
+      expression-bytes = c .expression-bytes;
+      statement-bytes = c .statement-bytes;
+      low-expressions = c .low-expressions;
+      low-statements = c .low-statements;
     }
 
-one-more : (ws : List ℕ) (self : Ctx) (w : List ℕ) (n : ℕ) → self .waiting < 4096 → Waiting ws self w → Waiting (ws ++ n ∷ []) (pushed self (self .waiting + 1)) (set w (self .waiting) n)
+one-more : (ws : List ℕ) (self : Ctx) (w : List ℕ) (n : ℕ) → self .waiting < 4096 → Waiting ws self w → Waiting (ws ++ n ∷ []) (waitingWith self (self .waiting + 1)) (set w (self .waiting) n)
 one-more ws self w n h v =
     record {
       size = length-set w (self .waiting) n ∙ v .size;
@@ -80,37 +85,20 @@ one-more ws self w n h v =
     ends = omega arith
 
 pub push-made : (entry : ℕ) (self : Ctx) (scratch w end : List ℕ) → self .full ≡ false → self .waiting < 4096 → end ≡ set w (self .waiting) entry →
-    Pushes entry (at self scratch w) (at (pushed self (self .waiting + 1)) scratch end)
+    Pushes entry (at self scratch w) (at (waitingWith self (self .waiting + 1)) scratch end)
 push-made entry self scratch w end f h q =
     record {
       pushes = λ im k ws o e.
           let l = e .live f in
-          subst (λ z. Ends im k one ws z entry (at (pushed self (self .waiting + 1)) scratch end)) (sym (l .is))
+          subst (λ z. Ends im k one ws z entry (at (waitingWith self (self .waiting + 1)) scratch end)) (sym (l .is))
           (ends-live f
           (record {
             new = l .live .new;
             context = l .live .context;
             image = l .live .image;
-            counted = record {
-              bytes = l .live .counted .bytes;
-              texts = l .live .counted .texts;
-              lists = l .live .counted .lists;
-              expressions = l .live .counted .expressions;
-              statements = l .live .counted .statements;
-              few-bytes = l .live .counted .few-bytes;
-              few-texts = l .live .counted .few-texts;
-              few-lists = l .live .counted .few-lists;
-              few-expressions = l .live .counted .few-expressions;
-              few-statements = l .live .counted .few-statements;
-              text-bytes = l .live .counted .text-bytes;
-              list-bytes = l .live .counted .list-bytes;
-              expression-bytes = l .live .counted .expression-bytes;
-              statement-bytes = l .live .counted .statement-bytes;
-              low-expressions = l .live .counted .low-expressions;
-              low-statements = l .live .counted .low-statements;
-            };
+            counted = counted-same (self .waiting + 1) (l .live .counted);
             kept = l .live .kept;
-            waits = subst (Waiting (ws ++ entry ∷ []) (pushed self (self .waiting + 1))) (sym q) (one-more ws self w entry h (subst (λ z. Waiting z self w) (append-nil ws) (l .live .waits)));
+            waits = subst (Waiting (ws ++ entry ∷ []) (waitingWith self (self .waiting + 1))) (sym q) (one-more ws self w entry h (subst (λ z. Waiting z self w) (append-nil ws) (l .live .waits)));
             temps = l .live .temps;
           }));
     }

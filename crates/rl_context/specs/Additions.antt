@@ -89,6 +89,24 @@ pub record Counted (im : Image) (new : New) (ctx : Ctx) : Type 0 where
   pub low-expressions : ctx .«expression_bytes» ≤ 24 * length (new .expressions)
   pub low-statements : ctx .«statement_bytes» ≤ 24 * length (new .statements)
 
+-- a context with another count of entries that wait
+abbrev pub waitingWith : Ctx → ℕ → Ctx
+waitingWith ctx n =
+    record {
+      bytes = ctx .bytes;
+      texts = ctx .texts;
+      lists = ctx .lists;
+      expressions = ctx .expressions;
+      statements = ctx .statements;
+      «expression_bytes» = ctx .«expression_bytes»;
+      «statement_bytes» = ctx .«statement_bytes»;
+      waiting = n;
+      span = ctx .span;
+      «is_result» = ctx .«is_result»;
+      «temp_counter» = ctx .«temp_counter»;
+      full = ctx .full;
+    }
+
 -- the entries that wait
 pub record Waiting (ws : List ℕ) (ctx : Ctx) (waiting : List ℕ) : Type 0 where
   pub size : length waiting ≡ 4096

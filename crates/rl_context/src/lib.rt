@@ -21,6 +21,7 @@ ghost use Rattle.rl_encode.specs.Words.{wordRecord, over};
 ghost use Rattle.rl_spec.specs.declared.Section.the-variants.{Expressions, Statements};
 ghost use Rattle.rl_spec.specs.Make.{append, newText, takeTemp};
 ghost use Rattle.rl_schema.specs.Codes.{codes};
+ghost use Rattle.rl_context.specs.Additions.{waitingWith};
 ghost use Rattle.rl_context.specs.Does.{Does, nothing, at, Pushes, Listed};
 
 // How many there are of each, with the new ones; the bytes of the new expressions and statements; the entries that wait; the function's
@@ -161,6 +162,14 @@ impl Ctx {
         }
         put(waiting, end as usize, entry);
         self.waiting = end + 1;
+        self
+    }
+
+    // With another count of entries that wait.
+    pub fn with_waiting(mut self, n: u32) -> Ctx
+        ensures { λ r. ⌜ r ≡ waitingWith self n ⌝ }
+    {
+        self.waiting = n;
         self
     }
 

@@ -28,14 +28,15 @@ use Rattle.rl_laws.specs.Found.{size-found}
 use Rattle.rl_theorems.specs.Making.{Gives, stops, gives, after, weaker, by-pick, given-is}
 use Rattle.rl_theorems.specs.LastBare.{Last, last-bare}
 use Rattle.rl_context.specs.declared.Ctx.{Ctx}
-use Rattle.rl_context.specs.Additions.{New, Counted, Waiting, Live}
+use Rattle.rl_context.specs.Additions.{waitingWith, Waiting, Live}
 use Rattle.rl_context.specs.Does.{State, at, nothing, all, Over, Ends, Start, Does}
 use Rattle.rl_context.proofs.Composed.{Keeps, by-full, ends-full, ends-live, stays-full, does-then}
 use Rattle.rl_context.proofs.More.{AsMany, More, more-flat}
 use Rattle.rl_context.proofs.MoreLower.{more-statement, more-wrap}
+use Rattle.rl_context.proofs.Waits.{counted-same}
 use Rattle.rl_guards.specs.Guards.{Gathers, clausesIn}
 use Rattle.rl_transform.specs.Transforms.{walkBelow, Ready, Returns}
-use Rattle.rl_resolver.specs.Bodies.{waitingWith, entriesIn, Waits, BodyFits, endsBare}
+use Rattle.rl_resolver.specs.Bodies.{entriesIn, Waits, BodyFits, endsBare}
 use Rattle.rl_resolver.proofs.Lasts.{length-entries, entry-number, last-number, no-numbers}
 
 -- ---- what comes of a list is no shorter
@@ -81,28 +82,6 @@ trailing-long ensures b y =
 -- where nothing waits
 none-waits : (ctx : Ctx) (side : List ℕ) → length side ≡ 4096 → Waiting [] (waitingWith ctx 0) side
 none-waits ctx side h = record { size = h; count = refl; few = omega arith; entries = refl }
-
--- the counts do not depend on what waits
-counted-same : {im : Image} {new : New} {ctx : Ctx} (n : ℕ) → Counted im new ctx → Counted im new (waitingWith ctx n)
-counted-same n c =
-    record {
-      bytes = c .bytes;
-      texts = c .texts;
-      lists = c .lists;
-      expressions = c .expressions;
-      statements = c .statements;
-      few-bytes = c .few-bytes;
-      few-texts = c .few-texts;
-      few-lists = c .few-lists;
-      few-expressions = c .few-expressions;
-      few-statements = c .few-statements;
-      text-bytes = c .text-bytes;
-      list-bytes = c .list-bytes;
-      expression-bytes = c .expression-bytes;
-      statement-bytes = c .statement-bytes;
-      low-expressions = c .low-expressions;
-      low-statements = c .low-statements;
-    }
 
 module _ (im : Image) (ctx : Ctx) (scratch waiting side : List ℕ) (long : length side ≡ 4096) (done : Ctx) (scratch′ side′ : List ℕ) (m : Make (List ℕ)) (ss : List ℕ)
     (d : Does im 0 0 all m (at (waitingWith ctx 0) scratch side) ss (at done scratch′ side′)) (k : List ℕ → Make (List ℕ))

@@ -42,24 +42,6 @@ restIn im body ensured = pick (isEmpty (clausesIn im ensured)) (give (entriesIn 
 abbrev pub BodyFits : List ℕ → List ℕ → Counts → Interval → Type 0
 BodyFits s p c body = (i : ℕ) → i < body .count → entryOf (imageFound s p c) (body .first + i) < c .statements
 
--- a context with another count of entries that wait
-abbrev pub waitingWith : Ctx → ℕ → Ctx
-waitingWith ctx n =
-    record {
-      bytes = ctx .bytes;
-      texts = ctx .texts;
-      lists = ctx .lists;
-      expressions = ctx .expressions;
-      statements = ctx .statements;
-      «expression_bytes» = ctx .«expression_bytes»;
-      «statement_bytes» = ctx .«statement_bytes»;
-      waiting = n;
-      span = ctx .span;
-      «is_result» = ctx .«is_result»;
-      «temp_counter» = ctx .«temp_counter»;
-      full = ctx .full;
-    }
-
 -- nothing is new
 pub record Fresh (im : Image) (ctx : Ctx) : Type 0 where
   pub bytes : ctx .bytes ≡ length (im .bytes)

@@ -26,7 +26,7 @@ ghost use Rattle.rl_schema.specs.Codes.{table};
 ghost use Rattle.rl_context.specs.Does.{Does, nothing, at};
 ghost use Rattle.rl_guards.specs.Guards.{Gathers, clausesIn};
 ghost use Rattle.rl_transform.specs.Transforms.{Ready};
-ghost use Rattle.rl_resolver.specs.Bodies.{waitingWith, Fresh, refinedIn, entriesIn, Waits, BodyFits, endsBare, restIn};
+ghost use Rattle.rl_resolver.specs.Bodies.{Fresh, refinedIn, entriesIn, Waits, BodyFits, endsBare, restIn};
 
 // The guards of the function's refined parameters; they wait then.
 fn refinement_guards(
@@ -77,15 +77,6 @@ fn push_first(other: &[u16], count: u32, waiting: &mut [u16], ctx: Ctx) -> Ctx
         i += 1;
     }
     next
-}
-
-// The context with another count of entries that wait.
-fn with_waiting(ctx: Ctx, n: u32) -> Ctx
-    ensures { λ r. ⌜ r ≡ waitingWith ctx n ⌝ }
-{
-    let mut other = ctx;
-    other.waiting = n;
-    other
 }
 
 // Whether a body's last statement is a bare expression.
@@ -147,7 +138,7 @@ fn ensured_body(
     let bare = ends_bare(image, starts, counts, body);
     let value = last_value(image, starts, counts, body);
     let mut side = [0u16; 4096];
-    let aside = with_waiting(ctx, 0);
+    let aside = ctx.with_waiting(0);
     let done = transform_returns(
         image,
         starts,
@@ -163,7 +154,7 @@ fn ensured_body(
     );
     let count = at_most_all(done.waiting);
     let fewer = less_one(count);
-    let back = with_waiting(done, ctx.waiting);
+    let back = done.with_waiting(ctx.waiting);
     if bare {
         let wrapped = wrap_return(
             image,
