@@ -349,26 +349,7 @@ deep-clone-expr-returns : (t : ℕ) → deep-clone-expr-lts.Need-returns (deep-c
 deep-clone-expr-returns t c = λ r h. copies-full _ _ _ _ _ _ h refl refl _ _ _ (c .before .if1 .taken) (c .stopped .ensures)
 
 deep-clone-expr-expression-start-requires :
-    (t : ℕ) → deep-clone-expr-lts.Need-expression-start-requires (
-      Ctx-stopped-reads.Asked,
-      Ctx-stopped-reads.Learnt,
-      expression-start-reads.Asked,
-      expression-start-reads.Learnt,
-      kind-at-reads.Asked,
-      kind-at-reads.Learnt,
-      row-of-reads.Asked,
-      row-of-reads.Learnt,
-      clone-field-below t,
-      clone-field.Post,
-      put-long-reads.Asked,
-      put-long-reads.Learnt,
-      sort-of-reads.Asked,
-      sort-of-reads.Learnt,
-      width-of-reads.Asked,
-      width-of-reads.Learnt,
-      new-expression-reads.Asked,
-      new-expression-reads.Learnt,
-    ) (deep-clone-expr-at t) deep-clone-expr.Post deep-clone-expr-Inv-loop deep-clone-expr-μ-loop
+    (t : ℕ) → deep-clone-expr-lts.Need-expression-start-requires (deep-clone-expr-calls t) (deep-clone-expr-at t) deep-clone-expr.Post deep-clone-expr-Inv-loop deep-clone-expr-μ-loop
 deep-clone-expr-expression-start-requires t c κs = search needs
 
 deep-clone-expr-kind-at-requires : (t : ℕ) → deep-clone-expr-lts.Need-kind-at-requires (deep-clone-expr-calls t) (deep-clone-expr-at t) deep-clone-expr.Post deep-clone-expr-Inv-loop deep-clone-expr-μ-loop
@@ -417,26 +398,7 @@ deep-clone-expr-clone-field-requires : (t : ℕ) → deep-clone-expr-lts.Need-cl
 deep-clone-expr-clone-field-requires t c κs = (omega (arith, c .before .before .before .before .before .before .before .before .before .before .before .before .before .before .before .pre .0), tt)
 
 deep-clone-expr-slice-aggregate-put-long :
-    (t : ℕ) → deep-clone-expr-lts.Need-slice-aggregate-put-long (
-      Ctx-stopped-reads.Asked,
-      Ctx-stopped-reads.Learnt,
-      expression-start-reads.Asked,
-      expression-start-reads.Learnt,
-      kind-at-reads.Asked,
-      kind-at-reads.Learnt,
-      row-of-reads.Asked,
-      row-of-reads.Learnt,
-      clone-field-below t,
-      clone-field.Post,
-      put-long-reads.Asked,
-      put-long-reads.Learnt,
-      sort-of-reads.Asked,
-      sort-of-reads.Learnt,
-      width-of-reads.Asked,
-      width-of-reads.Learnt,
-      new-expression-reads.Asked,
-      new-expression-reads.Learnt,
-    ) (deep-clone-expr-at t) deep-clone-expr.Post deep-clone-expr-Inv-loop deep-clone-expr-μ-loop
+    (t : ℕ) → deep-clone-expr-lts.Need-slice-aggregate-put-long (deep-clone-expr-calls t) (deep-clone-expr-at t) deep-clone-expr.Post deep-clone-expr-Inv-loop deep-clone-expr-μ-loop
 deep-clone-expr-slice-aggregate-put-long t c = sym (c .before .before .before .before .before .before .before .before .before .before .loop .inv .1 .1 .1 .1 .1 .0)
 
 deep-clone-expr-put-long-requires : (t : ℕ) → deep-clone-expr-lts.Need-put-long-requires (deep-clone-expr-calls t) (deep-clone-expr-at t) deep-clone-expr.Post deep-clone-expr-Inv-loop deep-clone-expr-μ-loop
@@ -479,49 +441,11 @@ deep-clone-expr-loop-again t c = (
 )
 
 deep-clone-expr-slice-aggregate-new-expression :
-    (t : ℕ) → deep-clone-expr-lts.Need-slice-aggregate-new-expression (
-      Ctx-stopped-reads.Asked,
-      Ctx-stopped-reads.Learnt,
-      expression-start-reads.Asked,
-      expression-start-reads.Learnt,
-      kind-at-reads.Asked,
-      kind-at-reads.Learnt,
-      row-of-reads.Asked,
-      row-of-reads.Learnt,
-      clone-field-below t,
-      clone-field.Post,
-      put-long-reads.Asked,
-      put-long-reads.Learnt,
-      sort-of-reads.Asked,
-      sort-of-reads.Learnt,
-      width-of-reads.Asked,
-      width-of-reads.Learnt,
-      new-expression-reads.Asked,
-      new-expression-reads.Learnt,
-    ) (deep-clone-expr-at t) deep-clone-expr.Post deep-clone-expr-Inv-loop deep-clone-expr-μ-loop
+    (t : ℕ) → deep-clone-expr-lts.Need-slice-aggregate-new-expression (deep-clone-expr-calls t) (deep-clone-expr-at t) deep-clone-expr.Post deep-clone-expr-Inv-loop deep-clone-expr-μ-loop
 deep-clone-expr-slice-aggregate-new-expression t c = sym (c .before .before .before .loop .inv .1 .1 .1 .1 .1 .0)
 
 deep-clone-expr-new-expression-requires :
-    (t : ℕ) → deep-clone-expr-lts.Need-new-expression-requires (
-      Ctx-stopped-reads.Asked,
-      Ctx-stopped-reads.Learnt,
-      expression-start-reads.Asked,
-      expression-start-reads.Learnt,
-      kind-at-reads.Asked,
-      kind-at-reads.Learnt,
-      row-of-reads.Asked,
-      row-of-reads.Learnt,
-      clone-field-below t,
-      clone-field.Post,
-      put-long-reads.Asked,
-      put-long-reads.Learnt,
-      sort-of-reads.Asked,
-      sort-of-reads.Learnt,
-      width-of-reads.Asked,
-      width-of-reads.Learnt,
-      new-expression-reads.Asked,
-      new-expression-reads.Learnt,
-    ) (deep-clone-expr-at t) deep-clone-expr.Post deep-clone-expr-Inv-loop deep-clone-expr-μ-loop
+    (t : ℕ) → deep-clone-expr-lts.Need-new-expression-requires (deep-clone-expr-calls t) (deep-clone-expr-at t) deep-clone-expr.Post deep-clone-expr-Inv-loop deep-clone-expr-μ-loop
 deep-clone-expr-new-expression-requires t c κs = search needs
 
 deep-clone-expr-same-length : (t : ℕ) → deep-clone-expr-lts.Need-same-length (deep-clone-expr-calls t) (deep-clone-expr-at t) deep-clone-expr.Post deep-clone-expr-Inv-loop deep-clone-expr-μ-loop
@@ -543,12 +467,7 @@ pub +clone-entries+clone-entry+clone-field+deep-clone-expr-spec : {M : Type 1} �
     μ-clone-entry
     μ-clone-field
     μ-deep-clone-expr
-    (λ t. clone-entries-lts.spec (
-      entry-at-reads.Asked,
-      entry-at-reads.Learnt,
-      clone-entry-below t,
-      clone-entry.Post,
-    )
+    (λ t. clone-entries-lts.spec (clone-entries-calls t)
     (clone-entries-at t)
     clone-entries.Post
     clone-entries-Inv-loop
@@ -564,18 +483,7 @@ pub +clone-entries+clone-entry+clone-field+deep-clone-expr-spec : {M : Type 1} �
     (clone-entries-same-length t)
     (clone-entries-same-length-2 t)
     (clone-entries-returns t))
-    (λ t. clone-entry-lts.spec (
-      is-node-reads.Asked,
-      is-node-reads.Learnt,
-      stopped-reads.Asked,
-      stopped-reads.Learnt,
-      deep-clone-expr-below t,
-      deep-clone-expr.Post,
-      pushed-reads.Asked,
-      pushed-reads.Learnt,
-      push-reads.Asked,
-      push-reads.Learnt,
-    )
+    (λ t. clone-entry-lts.spec (clone-entry-calls t)
     (clone-entry-at t)
     clone-entry.Post
     (clone-entry-is-node-requires t)
@@ -589,28 +497,7 @@ pub +clone-entries+clone-entry+clone-field+deep-clone-expr-spec : {M : Type 1} �
     (clone-entry-push-requires t)
     (clone-entry-same-length-3 t)
     (clone-entry-returns-3 t))
-    (λ t. clone-field-lts.spec (
-      sort-of-reads.Asked,
-      sort-of-reads.Learnt,
-      plan-of-reads.Asked,
-      plan-of-reads.Learnt,
-      as-it-is-reads.Asked,
-      as-it-is-reads.Learnt,
-      u16-at-reads.Asked,
-      u16-at-reads.Learnt,
-      halted-reads.Asked,
-      halted-reads.Learnt,
-      deep-clone-expr-below t,
-      deep-clone-expr.Post,
-      as-node-reads.Asked,
-      as-node-reads.Learnt,
-      second-u16-reads.Asked,
-      second-u16-reads.Learnt,
-      clone-entries-below t,
-      clone-entries.Post,
-      as-list-reads.Asked,
-      as-list-reads.Learnt,
-    )
+    (λ t. clone-field-lts.spec (clone-field-calls t)
     (clone-field-at t)
     clone-field.Post
     (clone-field-sort-of-requires t)

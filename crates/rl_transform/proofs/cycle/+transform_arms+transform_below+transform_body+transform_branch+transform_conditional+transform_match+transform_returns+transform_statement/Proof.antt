@@ -216,15 +216,6 @@ transform-statement-below t =
     (falls 5 transform-statement-kinds.ps _<_ μ-transform-statement t)
     transform-statement.Pre
 
-abbrev transform-arms-Inv-loop : transform-arms-lts.InvT-loop
-transform-arms-Inv-loop image starts counts rows ensured limit first count scratch₀ waiting₀ next₀ i₀ scratch waiting next i =
-    (i ≤ count) × ((length scratch ≡ length scratch₀) × ((length waiting ≡ length waiting₀) × ((count < 65536) ×
-    (Ready image starts counts rows ensured → limit ≤ counts .statements → ArmsIn image starts counts first count → Each (imageFound image starts counts) (transformArm (walkBelow (clausesIn (imageFound image starts counts) ensured) limit)) first count (at next₀ scratch₀ waiting₀) (at next scratch waiting) i))))
-
-abbrev transform-arms-μ-loop : transform-arms-lts.MeasureT-loop
-transform-arms-μ-loop image starts counts rows ensured limit first count scratch₀ waiting₀ next₀ i₀ scratch waiting next i =
-    count - i
-
 abbrev transform-arms-calls : ℕ → transform-arms-lts.Claims
 transform-arms-calls t = (
   entry-at-reads.Asked,
@@ -234,6 +225,116 @@ transform-arms-calls t = (
   pushed-reads.Asked,
   pushed-reads.Learnt,
 )
+
+abbrev transform-below-calls : ℕ → transform-below-lts.Claims
+transform-below-calls t = (
+  stopped-reads.Asked,
+  stopped-reads.Learnt,
+  transform-statement-below t,
+  transform-statement.Post,
+)
+
+abbrev transform-body-calls : ℕ → transform-body-lts.Claims
+transform-body-calls t = (
+  statement-start-reads.Asked,
+  statement-start-reads.Learnt,
+  kind-at-reads.Asked,
+  kind-at-reads.Learnt,
+  list-place-reads.Asked,
+  list-place-reads.Learnt,
+  u16-at-reads.Asked,
+  u16-at-reads.Learnt,
+  second-u16-reads.Asked,
+  second-u16-reads.Learnt,
+  transform-returns-below t,
+  transform-returns.Post,
+  new-list-reads.Asked,
+  new-list-reads.Learnt,
+  list-word-reads.Asked,
+  list-word-reads.Learnt,
+  list-field-reads.Asked,
+  list-field-reads.Learnt,
+  flag-field-reads.Asked,
+  flag-field-reads.Learnt,
+  rebuild-reads.Asked,
+  rebuild-reads.Learnt,
+)
+
+abbrev transform-branch-calls : ℕ → transform-branch-lts.Claims
+transform-branch-calls t = (
+  statement-start-reads.Asked,
+  statement-start-reads.Learnt,
+  kind-at-reads.Asked,
+  kind-at-reads.Learnt,
+  transform-body-below t,
+  transform-body.Post,
+)
+
+abbrev transform-conditional-calls : ℕ → transform-conditional-lts.Claims
+transform-conditional-calls t = (
+  statement-start-reads.Asked,
+  statement-start-reads.Learnt,
+  u16-at-reads.Asked,
+  u16-at-reads.Learnt,
+  transform-branch-below t,
+  transform-branch.Post,
+  rebuild-conditional-reads.Asked,
+  rebuild-conditional-reads.Learnt,
+)
+
+abbrev transform-match-calls : ℕ → transform-match-lts.Claims
+transform-match-calls t = (
+  statement-start-reads.Asked,
+  statement-start-reads.Learnt,
+  u16-at-reads.Asked,
+  u16-at-reads.Learnt,
+  second-u16-reads.Asked,
+  second-u16-reads.Learnt,
+  transform-arms-below t,
+  transform-arms.Post,
+  new-list-reads.Asked,
+  new-list-reads.Learnt,
+  list-word-reads.Asked,
+  list-word-reads.Learnt,
+  rebuild-reads.Asked,
+  rebuild-reads.Learnt,
+)
+
+abbrev transform-returns-calls : ℕ → transform-returns-lts.Claims
+transform-returns-calls t = (entry-at-reads.Asked, entry-at-reads.Learnt, transform-below-below t, transform-below.Post)
+
+abbrev transform-statement-calls : ℕ → transform-statement-lts.Claims
+transform-statement-calls t = (
+  statement-start-reads.Asked,
+  statement-start-reads.Learnt,
+  kind-at-reads.Asked,
+  kind-at-reads.Learnt,
+  u16-at-reads.Asked,
+  u16-at-reads.Learnt,
+  wrap-return-reads.Asked,
+  wrap-return-reads.Learnt,
+  null-reads.Asked,
+  null-reads.Learnt,
+  transform-conditional-below t,
+  transform-conditional.Post,
+  pushed-reads.Asked,
+  pushed-reads.Learnt,
+  transform-match-below t,
+  transform-match.Post,
+  push-reads.Asked,
+  push-reads.Learnt,
+  transform-body-below t,
+  transform-body.Post,
+)
+
+abbrev transform-arms-Inv-loop : transform-arms-lts.InvT-loop
+transform-arms-Inv-loop image starts counts rows ensured limit first count scratch₀ waiting₀ next₀ i₀ scratch waiting next i =
+    (i ≤ count) × ((length scratch ≡ length scratch₀) × ((length waiting ≡ length waiting₀) × ((count < 65536) ×
+    (Ready image starts counts rows ensured → limit ≤ counts .statements → ArmsIn image starts counts first count → Each (imageFound image starts counts) (transformArm (walkBelow (clausesIn (imageFound image starts counts) ensured) limit)) first count (at next₀ scratch₀ waiting₀) (at next scratch waiting) i))))
+
+abbrev transform-arms-μ-loop : transform-arms-lts.MeasureT-loop
+transform-arms-μ-loop image starts counts rows ensured limit first count scratch₀ waiting₀ next₀ i₀ scratch waiting next i =
+    count - i
 
 transform-arms-loop-holds : (t : ℕ) → transform-arms-lts.Need-loop-holds (transform-arms-calls t) (transform-arms-at t) transform-arms.Post transform-arms-Inv-loop transform-arms-μ-loop
 transform-arms-loop-holds t c = (omega arith, (refl, (refl, (search needs, λ r h k. each-none _ _ (more-arm _ (more-walk _ _)) _ _ _))))
@@ -284,14 +385,6 @@ transform-arms-same-length-2 t c = search needs
 transform-arms-returns : (t : ℕ) → transform-arms-lts.Need-returns (transform-arms-calls t) (transform-arms-at t) transform-arms.Post transform-arms-Inv-loop transform-arms-μ-loop
 transform-arms-returns t c = λ r h k. each-all _ _ (more-arm _ (more-walk _ _)) _ _ _ _ _ (c .before .loop .inv .1 .1 .1 .1 r h k) (c .loop-test .left)
 
-abbrev transform-below-calls : ℕ → transform-below-lts.Claims
-transform-below-calls t = (
-  stopped-reads.Asked,
-  stopped-reads.Learnt,
-  transform-statement-below t,
-  transform-statement.Post,
-)
-
 transform-below-stopped-requires : (t : ℕ) → transform-below-lts.Need-stopped-requires (transform-below-calls t) (transform-below-at t) transform-below.Post
 transform-below-stopped-requires t c κs = search needs
 
@@ -299,12 +392,7 @@ transform-below-returns : (t : ℕ) → transform-below-lts.Need-returns (transf
 transform-below-returns t c = λ r h. below-stopped _ _ _ _ _ _ _ _ (c .before .if1 .taken) (c .stopped .ensures)
 
 transform-below-transform-statement-requires :
-    (t : ℕ) → transform-below-lts.Need-transform-statement-requires (
-      stopped-reads.Asked,
-      stopped-reads.Learnt,
-      transform-statement-below t,
-      transform-statement.Post,
-    ) (transform-below-at t) transform-below.Post
+    (t : ℕ) → transform-below-lts.Need-transform-statement-requires (transform-below-calls t) (transform-below-at t) transform-below.Post
 transform-below-transform-statement-requires t c κs = (omega (arith, c .before .before .before .before .before .before .before .before .pre .0, (c .before .before .if1 .left)), tt)
 
 transform-below-same-length : (t : ℕ) → transform-below-lts.Need-same-length (transform-below-calls t) (transform-below-at t) transform-below.Post
@@ -317,57 +405,8 @@ transform-below-returns-2 : (t : ℕ) → transform-below-lts.Need-returns-2 (tr
 transform-below-returns-2 t c = λ r h. below-done _ _ _ _ _ _ _ _ (c .before .before .before .before .before .before .before .if1 .left) (c .before .before .before .before .transform-statement .ensures r (omega (arith, (c .before .before .before .before .before .before .before .if1 .left), h)))
 
 transform-body-statement-start-requires :
-    (t : ℕ) → transform-body-lts.Need-statement-start-requires (
-      statement-start-reads.Asked,
-      statement-start-reads.Learnt,
-      kind-at-reads.Asked,
-      kind-at-reads.Learnt,
-      list-place-reads.Asked,
-      list-place-reads.Learnt,
-      u16-at-reads.Asked,
-      u16-at-reads.Learnt,
-      second-u16-reads.Asked,
-      second-u16-reads.Learnt,
-      transform-returns-below t,
-      transform-returns.Post,
-      new-list-reads.Asked,
-      new-list-reads.Learnt,
-      list-word-reads.Asked,
-      list-word-reads.Learnt,
-      list-field-reads.Asked,
-      list-field-reads.Learnt,
-      flag-field-reads.Asked,
-      flag-field-reads.Learnt,
-      rebuild-reads.Asked,
-      rebuild-reads.Learnt,
-    ) (transform-body-at t) transform-body.Post
+    (t : ℕ) → transform-body-lts.Need-statement-start-requires (transform-body-calls t) (transform-body-at t) transform-body.Post
 transform-body-statement-start-requires t c κs = search needs
-
-abbrev transform-body-calls : ℕ → transform-body-lts.Claims
-transform-body-calls t = (
-  statement-start-reads.Asked,
-  statement-start-reads.Learnt,
-  kind-at-reads.Asked,
-  kind-at-reads.Learnt,
-  list-place-reads.Asked,
-  list-place-reads.Learnt,
-  u16-at-reads.Asked,
-  u16-at-reads.Learnt,
-  second-u16-reads.Asked,
-  second-u16-reads.Learnt,
-  transform-returns-below t,
-  transform-returns.Post,
-  new-list-reads.Asked,
-  new-list-reads.Learnt,
-  list-word-reads.Asked,
-  list-word-reads.Learnt,
-  list-field-reads.Asked,
-  list-field-reads.Learnt,
-  flag-field-reads.Asked,
-  flag-field-reads.Learnt,
-  rebuild-reads.Asked,
-  rebuild-reads.Learnt,
-)
 
 transform-body-kind-at-requires : (t : ℕ) → transform-body-lts.Need-kind-at-requires (transform-body-calls t) (transform-body-at t) transform-body.Post
 transform-body-kind-at-requires t c κs = search needs
@@ -388,30 +427,7 @@ transform-body-second-u16-requires : (t : ℕ) → transform-body-lts.Need-secon
 transform-body-second-u16-requires t c κs = search needs
 
 transform-body-transform-returns-requires :
-    (t : ℕ) → transform-body-lts.Need-transform-returns-requires (
-      statement-start-reads.Asked,
-      statement-start-reads.Learnt,
-      kind-at-reads.Asked,
-      kind-at-reads.Learnt,
-      list-place-reads.Asked,
-      list-place-reads.Learnt,
-      u16-at-reads.Asked,
-      u16-at-reads.Learnt,
-      second-u16-reads.Asked,
-      second-u16-reads.Learnt,
-      transform-returns-below t,
-      transform-returns.Post,
-      new-list-reads.Asked,
-      new-list-reads.Learnt,
-      list-word-reads.Asked,
-      list-word-reads.Learnt,
-      list-field-reads.Asked,
-      list-field-reads.Learnt,
-      flag-field-reads.Asked,
-      flag-field-reads.Learnt,
-      rebuild-reads.Asked,
-      rebuild-reads.Learnt,
-    ) (transform-body-at t) transform-body.Post
+    (t : ℕ) → transform-body-lts.Need-transform-returns-requires (transform-body-calls t) (transform-body-at t) transform-body.Post
 transform-body-transform-returns-requires t c κs = (omega (arith, c .before .before .before .before .before .before .before .before .before .before .before .before .pre .0), tt)
 
 transform-body-new-list-requires : (t : ℕ) → transform-body-lts.Need-new-list-requires (transform-body-calls t) (transform-body-at t) transform-body.Post
@@ -441,42 +457,18 @@ transform-body-returns t c = λ r h k l.
     (c .before .before .before .before .before .before .before .before .before .before .before .before .before .before .before .before .transform-returns .ensures r h) (c .before .before .before .before .before .before .before .before .before .new-list .ensures) (c .before .before .before .before .before .before .list-word .ensures) _ _ (c .before .before .before .before .before .list-field .ensures) (c .before .before .before .before .flag-field .ensures)
     (c .before .before .rebuild .ensures _ (r .rows-are) k (field-low (c .before .before .before .before .before .before .before .before .before .before .before .before .before .before .before .before .before .before .before .before .before .before .kind-at .result) _ (c .before .before .before .before .before .list-field .ensures)) (flag-low (c .before .before .before .before .before .before .before .before .before .before .before .before .before .before .before .before .before .before .before .before .before .before .kind-at .result) _ (c .before .before .before .before .flag-field .ensures)))
 
-abbrev transform-branch-calls : ℕ → transform-branch-lts.Claims
-transform-branch-calls t = (
-  statement-start-reads.Asked,
-  statement-start-reads.Learnt,
-  kind-at-reads.Asked,
-  kind-at-reads.Learnt,
-  transform-body-below t,
-  transform-body.Post,
-)
-
 transform-branch-returns : (t : ℕ) → transform-branch-lts.Need-returns (transform-branch-calls t) (transform-branch-at t) transform-branch.Post
 transform-branch-returns t c = λ r h k. branch-none _ _ _ _ _ r _ _ _ (c .if1 .taken)
 
 transform-branch-statement-start-requires :
-    (t : ℕ) → transform-branch-lts.Need-statement-start-requires (
-      statement-start-reads.Asked,
-      statement-start-reads.Learnt,
-      kind-at-reads.Asked,
-      kind-at-reads.Learnt,
-      transform-body-below t,
-      transform-body.Post,
-    ) (transform-branch-at t) transform-branch.Post
+    (t : ℕ) → transform-branch-lts.Need-statement-start-requires (transform-branch-calls t) (transform-branch-at t) transform-branch.Post
 transform-branch-statement-start-requires t c κs = search needs
 
 transform-branch-kind-at-requires : (t : ℕ) → transform-branch-lts.Need-kind-at-requires (transform-branch-calls t) (transform-branch-at t) transform-branch.Post
 transform-branch-kind-at-requires t c κs = search needs
 
 transform-branch-transform-body-requires :
-    (t : ℕ) → transform-branch-lts.Need-transform-body-requires (
-      statement-start-reads.Asked,
-      statement-start-reads.Learnt,
-      kind-at-reads.Asked,
-      kind-at-reads.Learnt,
-      transform-body-below t,
-      transform-body.Post,
-    ) (transform-branch-at t) transform-branch.Post
+    (t : ℕ) → transform-branch-lts.Need-transform-body-requires (transform-branch-calls t) (transform-branch-at t) transform-branch.Post
 transform-branch-transform-body-requires t c κs = (omega (arith, c .before .before .before .before .before .before .before .before .before .before .before .pre .0), tt)
 
 transform-branch-same-length : (t : ℕ) → transform-branch-lts.Need-same-length (transform-branch-calls t) (transform-branch-at t) transform-branch.Post
@@ -492,29 +484,8 @@ transform-branch-returns-3 : (t : ℕ) → transform-branch-lts.Need-returns-3 (
 transform-branch-returns-3 t c = λ r h k. branch-kept _ _ _ _ _ r _ _ _ _ _ k (c .before .before .before .if1 .left) (c .before .before .statement-start .ensures) (c .before .kind-at .ensures ∙ kind-in _ _) (c .if2 .left)
 
 transform-conditional-statement-start-requires :
-    (t : ℕ) → transform-conditional-lts.Need-statement-start-requires (
-      statement-start-reads.Asked,
-      statement-start-reads.Learnt,
-      u16-at-reads.Asked,
-      u16-at-reads.Learnt,
-      transform-branch-below t,
-      transform-branch.Post,
-      rebuild-conditional-reads.Asked,
-      rebuild-conditional-reads.Learnt,
-    ) (transform-conditional-at t) transform-conditional.Post
+    (t : ℕ) → transform-conditional-lts.Need-statement-start-requires (transform-conditional-calls t) (transform-conditional-at t) transform-conditional.Post
 transform-conditional-statement-start-requires t c κs = search needs
-
-abbrev transform-conditional-calls : ℕ → transform-conditional-lts.Claims
-transform-conditional-calls t = (
-  statement-start-reads.Asked,
-  statement-start-reads.Learnt,
-  u16-at-reads.Asked,
-  u16-at-reads.Learnt,
-  transform-branch-below t,
-  transform-branch.Post,
-  rebuild-conditional-reads.Asked,
-  rebuild-conditional-reads.Learnt,
-)
 
 transform-conditional-cast-place : (t : ℕ) → transform-conditional-lts.Need-cast-place (transform-conditional-calls t) (transform-conditional-at t) transform-conditional.Post
 transform-conditional-cast-place t c = search needs
@@ -526,58 +497,22 @@ transform-conditional-u16-at-requires : (t : ℕ) → transform-conditional-lts.
 transform-conditional-u16-at-requires t c κs = search needs
 
 transform-conditional-transform-branch-requires :
-    (t : ℕ) → transform-conditional-lts.Need-transform-branch-requires (
-      statement-start-reads.Asked,
-      statement-start-reads.Learnt,
-      u16-at-reads.Asked,
-      u16-at-reads.Learnt,
-      transform-branch-below t,
-      transform-branch.Post,
-      rebuild-conditional-reads.Asked,
-      rebuild-conditional-reads.Learnt,
-    ) (transform-conditional-at t) transform-conditional.Post
+    (t : ℕ) → transform-conditional-lts.Need-transform-branch-requires (transform-conditional-calls t) (transform-conditional-at t) transform-conditional.Post
 transform-conditional-transform-branch-requires t c κs = (omega (arith, c .before .before .before .before .before .before .before .before .before .pre .0), tt)
 
 transform-conditional-add-u16-at-2 : (t : ℕ) → transform-conditional-lts.Need-add-u16-at-2 (transform-conditional-calls t) (transform-conditional-at t) transform-conditional.Post
 transform-conditional-add-u16-at-2 t c = search needs
 
 transform-conditional-u16-at-requires-2 :
-    (t : ℕ) → transform-conditional-lts.Need-u16-at-requires-2 (
-      statement-start-reads.Asked,
-      statement-start-reads.Learnt,
-      u16-at-reads.Asked,
-      u16-at-reads.Learnt,
-      transform-branch-below t,
-      transform-branch.Post,
-      rebuild-conditional-reads.Asked,
-      rebuild-conditional-reads.Learnt,
-    ) (transform-conditional-at t) transform-conditional.Post
+    (t : ℕ) → transform-conditional-lts.Need-u16-at-requires-2 (transform-conditional-calls t) (transform-conditional-at t) transform-conditional.Post
 transform-conditional-u16-at-requires-2 t c κs = search needs
 
 transform-conditional-transform-branch-requires-2 :
-    (t : ℕ) → transform-conditional-lts.Need-transform-branch-requires-2 (
-      statement-start-reads.Asked,
-      statement-start-reads.Learnt,
-      u16-at-reads.Asked,
-      u16-at-reads.Learnt,
-      transform-branch-below t,
-      transform-branch.Post,
-      rebuild-conditional-reads.Asked,
-      rebuild-conditional-reads.Learnt,
-    ) (transform-conditional-at t) transform-conditional.Post
+    (t : ℕ) → transform-conditional-lts.Need-transform-branch-requires-2 (transform-conditional-calls t) (transform-conditional-at t) transform-conditional.Post
 transform-conditional-transform-branch-requires-2 t c κs = (omega (arith, c .before .before .before .before .before .before .before .before .before .before .before .before .before .before .before .before .before .pre .0), tt)
 
 transform-conditional-rebuild-conditional-requires :
-    (t : ℕ) → transform-conditional-lts.Need-rebuild-conditional-requires (
-      statement-start-reads.Asked,
-      statement-start-reads.Learnt,
-      u16-at-reads.Asked,
-      u16-at-reads.Learnt,
-      transform-branch-below t,
-      transform-branch.Post,
-      rebuild-conditional-reads.Asked,
-      rebuild-conditional-reads.Learnt,
-    ) (transform-conditional-at t) transform-conditional.Post
+    (t : ℕ) → transform-conditional-lts.Need-rebuild-conditional-requires (transform-conditional-calls t) (transform-conditional-at t) transform-conditional.Post
 transform-conditional-rebuild-conditional-requires t c κs = search needs
 
 transform-conditional-same-length : (t : ℕ) → transform-conditional-lts.Need-same-length (transform-conditional-calls t) (transform-conditional-at t) transform-conditional.Post
@@ -594,41 +529,8 @@ transform-conditional-returns t c = λ r h k.
     (c .before .before .rebuild-conditional .ensures _ (r .rows-are) h)
 
 transform-match-statement-start-requires :
-    (t : ℕ) → transform-match-lts.Need-statement-start-requires (
-      statement-start-reads.Asked,
-      statement-start-reads.Learnt,
-      u16-at-reads.Asked,
-      u16-at-reads.Learnt,
-      second-u16-reads.Asked,
-      second-u16-reads.Learnt,
-      transform-arms-below t,
-      transform-arms.Post,
-      new-list-reads.Asked,
-      new-list-reads.Learnt,
-      list-word-reads.Asked,
-      list-word-reads.Learnt,
-      rebuild-reads.Asked,
-      rebuild-reads.Learnt,
-    ) (transform-match-at t) transform-match.Post
+    (t : ℕ) → transform-match-lts.Need-statement-start-requires (transform-match-calls t) (transform-match-at t) transform-match.Post
 transform-match-statement-start-requires t c κs = search needs
-
-abbrev transform-match-calls : ℕ → transform-match-lts.Claims
-transform-match-calls t = (
-  statement-start-reads.Asked,
-  statement-start-reads.Learnt,
-  u16-at-reads.Asked,
-  u16-at-reads.Learnt,
-  second-u16-reads.Asked,
-  second-u16-reads.Learnt,
-  transform-arms-below t,
-  transform-arms.Post,
-  new-list-reads.Asked,
-  new-list-reads.Learnt,
-  list-word-reads.Asked,
-  list-word-reads.Learnt,
-  rebuild-reads.Asked,
-  rebuild-reads.Learnt,
-)
 
 transform-match-cast-place : (t : ℕ) → transform-match-lts.Need-cast-place (transform-match-calls t) (transform-match-at t) transform-match.Post
 transform-match-cast-place t c = search needs
@@ -643,22 +545,7 @@ transform-match-second-u16-requires : (t : ℕ) → transform-match-lts.Need-sec
 transform-match-second-u16-requires t c κs = search needs
 
 transform-match-transform-arms-requires :
-    (t : ℕ) → transform-match-lts.Need-transform-arms-requires (
-      statement-start-reads.Asked,
-      statement-start-reads.Learnt,
-      u16-at-reads.Asked,
-      u16-at-reads.Learnt,
-      second-u16-reads.Asked,
-      second-u16-reads.Learnt,
-      transform-arms-below t,
-      transform-arms.Post,
-      new-list-reads.Asked,
-      new-list-reads.Learnt,
-      list-word-reads.Asked,
-      list-word-reads.Learnt,
-      rebuild-reads.Asked,
-      rebuild-reads.Learnt,
-    ) (transform-match-at t) transform-match.Post
+    (t : ℕ) → transform-match-lts.Need-transform-arms-requires (transform-match-calls t) (transform-match-at t) transform-match.Post
 transform-match-transform-arms-requires t c κs = (omega (arith, c .before .before .before .before .before .before .before .before .before .before .pre .0), tt)
 
 transform-match-new-list-requires : (t : ℕ) → transform-match-lts.Need-new-list-requires (transform-match-calls t) (transform-match-at t) transform-match.Post
@@ -690,98 +577,50 @@ abbrev transform-returns-μ-loop : transform-returns-lts.MeasureT-loop
 transform-returns-μ-loop image starts counts rows ensured limit first count scratch₀ waiting₀ next₀ i₀ scratch waiting next i =
     count - i
 
-transform-returns-loop-holds : (t : ℕ) → transform-returns-lts.Need-loop-holds (
-  entry-at-reads.Asked,
-  entry-at-reads.Learnt,
-  transform-below-below t,
-  transform-below.Post,
-)
-    (transform-returns-at t)
+transform-returns-loop-holds : (t : ℕ) → transform-returns-lts.Need-loop-holds (transform-returns-calls t) (transform-returns-at t)
     transform-returns.Post
     transform-returns-Inv-loop
     transform-returns-μ-loop
 transform-returns-loop-holds t c = (omega arith, (refl, (refl, λ r h. flat-none _ _ (more-walk _ _) _ _ _)))
 
-transform-returns-cast-entry-at : (t : ℕ) → transform-returns-lts.Need-cast-entry-at (
-  entry-at-reads.Asked,
-  entry-at-reads.Learnt,
-  transform-below-below t,
-  transform-below.Post,
-)
-    (transform-returns-at t)
+transform-returns-cast-entry-at : (t : ℕ) → transform-returns-lts.Need-cast-entry-at (transform-returns-calls t) (transform-returns-at t)
     transform-returns.Post
     transform-returns-Inv-loop
     transform-returns-μ-loop
 transform-returns-cast-entry-at t c = search needs
 
-transform-returns-add-entry-at : (t : ℕ) → transform-returns-lts.Need-add-entry-at (
-  entry-at-reads.Asked,
-  entry-at-reads.Learnt,
-  transform-below-below t,
-  transform-below.Post,
-)
-    (transform-returns-at t)
+transform-returns-add-entry-at : (t : ℕ) → transform-returns-lts.Need-add-entry-at (transform-returns-calls t) (transform-returns-at t)
     transform-returns.Post
     transform-returns-Inv-loop
     transform-returns-μ-loop
 transform-returns-add-entry-at t c = search needs
 
-transform-returns-entry-at-requires : (t : ℕ) → transform-returns-lts.Need-entry-at-requires (
-  entry-at-reads.Asked,
-  entry-at-reads.Learnt,
-  transform-below-below t,
-  transform-below.Post,
-)
-    (transform-returns-at t)
+transform-returns-entry-at-requires : (t : ℕ) → transform-returns-lts.Need-entry-at-requires (transform-returns-calls t) (transform-returns-at t)
     transform-returns.Post
     transform-returns-Inv-loop
     transform-returns-μ-loop
 transform-returns-entry-at-requires t c κs = search needs
 
 transform-returns-transform-below-requires :
-    (t : ℕ) → transform-returns-lts.Need-transform-below-requires (
-      entry-at-reads.Asked,
-      entry-at-reads.Learnt,
-      transform-below-below t,
-      transform-below.Post,
-    )
-    (transform-returns-at t)
+    (t : ℕ) → transform-returns-lts.Need-transform-below-requires (transform-returns-calls t) (transform-returns-at t)
     transform-returns.Post
     transform-returns-Inv-loop
     transform-returns-μ-loop
 transform-returns-transform-below-requires t c κs = (omega (arith, c .before .before .before .before .before .before .before .before .before .before .pre .0), tt)
 
-transform-returns-add-i : (t : ℕ) → transform-returns-lts.Need-add-i (
-  entry-at-reads.Asked,
-  entry-at-reads.Learnt,
-  transform-below-below t,
-  transform-below.Post,
-)
-    (transform-returns-at t)
+transform-returns-add-i : (t : ℕ) → transform-returns-lts.Need-add-i (transform-returns-calls t) (transform-returns-at t)
     transform-returns.Post
     transform-returns-Inv-loop
     transform-returns-μ-loop
 transform-returns-add-i t c = search needs
 
-transform-returns-loop-less : (t : ℕ) → transform-returns-lts.Need-loop-less (
-  entry-at-reads.Asked,
-  entry-at-reads.Learnt,
-  transform-below-below t,
-  transform-below.Post,
-)
-    (transform-returns-at t)
+transform-returns-loop-less : (t : ℕ) → transform-returns-lts.Need-loop-less (transform-returns-calls t) (transform-returns-at t)
     transform-returns.Post
     transform-returns-Inv-loop
     transform-returns-μ-loop
 transform-returns-loop-less t c = search needs
 
-transform-returns-loop-again : (t : ℕ) → transform-returns-lts.Need-loop-again (
-  entry-at-reads.Asked,
-  entry-at-reads.Learnt,
-  transform-below-below t,
-  transform-below.Post,
-)
-    (transform-returns-at t)
+transform-returns-loop-again : (t : ℕ) → transform-returns-lts.Need-loop-again (transform-returns-calls t) (transform-returns-at t)
     transform-returns.Post
     transform-returns-Inv-loop
     transform-returns-μ-loop
@@ -797,92 +636,29 @@ transform-returns-loop-again t c = (
   ),
 )
 
-transform-returns-same-length : (t : ℕ) → transform-returns-lts.Need-same-length (
-  entry-at-reads.Asked,
-  entry-at-reads.Learnt,
-  transform-below-below t,
-  transform-below.Post,
-)
-    (transform-returns-at t)
+transform-returns-same-length : (t : ℕ) → transform-returns-lts.Need-same-length (transform-returns-calls t) (transform-returns-at t)
     transform-returns.Post
     transform-returns-Inv-loop
     transform-returns-μ-loop
 transform-returns-same-length t c = search needs
 
-transform-returns-same-length-2 : (t : ℕ) → transform-returns-lts.Need-same-length-2 (
-  entry-at-reads.Asked,
-  entry-at-reads.Learnt,
-  transform-below-below t,
-  transform-below.Post,
-)
-    (transform-returns-at t)
+transform-returns-same-length-2 : (t : ℕ) → transform-returns-lts.Need-same-length-2 (transform-returns-calls t) (transform-returns-at t)
     transform-returns.Post
     transform-returns-Inv-loop
     transform-returns-μ-loop
 transform-returns-same-length-2 t c = search needs
 
-transform-returns-returns : (t : ℕ) → transform-returns-lts.Need-returns (
-  entry-at-reads.Asked,
-  entry-at-reads.Learnt,
-  transform-below-below t,
-  transform-below.Post,
-)
-    (transform-returns-at t)
+transform-returns-returns : (t : ℕ) → transform-returns-lts.Need-returns (transform-returns-calls t) (transform-returns-at t)
     transform-returns.Post
     transform-returns-Inv-loop
     transform-returns-μ-loop
 transform-returns-returns t c = λ r h. flat-all _ _ (more-walk _ _) _ _ _ _ _ (c .before .loop .inv .1 .1 .1 r h) (c .loop-test .left)
 
-abbrev transform-statement-calls : ℕ → transform-statement-lts.Claims
-transform-statement-calls t = (
-  statement-start-reads.Asked,
-  statement-start-reads.Learnt,
-  kind-at-reads.Asked,
-  kind-at-reads.Learnt,
-  u16-at-reads.Asked,
-  u16-at-reads.Learnt,
-  wrap-return-reads.Asked,
-  wrap-return-reads.Learnt,
-  null-reads.Asked,
-  null-reads.Learnt,
-  transform-conditional-below t,
-  transform-conditional.Post,
-  pushed-reads.Asked,
-  pushed-reads.Learnt,
-  transform-match-below t,
-  transform-match.Post,
-  push-reads.Asked,
-  push-reads.Learnt,
-  transform-body-below t,
-  transform-body.Post,
-)
-
 transform-statement-returns : (t : ℕ) → transform-statement-lts.Need-returns (transform-statement-calls t) (transform-statement-at t) transform-statement.Post
 transform-statement-returns t c = λ r h. statement-full _ _ _ _ _ _ (c .if1 .taken)
 
 transform-statement-statement-start-requires :
-    (t : ℕ) → transform-statement-lts.Need-statement-start-requires (
-      statement-start-reads.Asked,
-      statement-start-reads.Learnt,
-      kind-at-reads.Asked,
-      kind-at-reads.Learnt,
-      u16-at-reads.Asked,
-      u16-at-reads.Learnt,
-      wrap-return-reads.Asked,
-      wrap-return-reads.Learnt,
-      null-reads.Asked,
-      null-reads.Learnt,
-      transform-conditional-below t,
-      transform-conditional.Post,
-      pushed-reads.Asked,
-      pushed-reads.Learnt,
-      transform-match-below t,
-      transform-match.Post,
-      push-reads.Asked,
-      push-reads.Learnt,
-      transform-body-below t,
-      transform-body.Post,
-    ) (transform-statement-at t) transform-statement.Post
+    (t : ℕ) → transform-statement-lts.Need-statement-start-requires (transform-statement-calls t) (transform-statement-at t) transform-statement.Post
 transform-statement-statement-start-requires t c κs = search needs
 
 transform-statement-kind-at-requires : (t : ℕ) → transform-statement-lts.Need-kind-at-requires (transform-statement-calls t) (transform-statement-at t) transform-statement.Post
@@ -898,28 +674,7 @@ transform-statement-u16-at-requires : (t : ℕ) → transform-statement-lts.Need
 transform-statement-u16-at-requires t c κs = search needs
 
 transform-statement-wrap-return-requires :
-    (t : ℕ) → transform-statement-lts.Need-wrap-return-requires (
-      statement-start-reads.Asked,
-      statement-start-reads.Learnt,
-      kind-at-reads.Asked,
-      kind-at-reads.Learnt,
-      u16-at-reads.Asked,
-      u16-at-reads.Learnt,
-      wrap-return-reads.Asked,
-      wrap-return-reads.Learnt,
-      null-reads.Asked,
-      null-reads.Learnt,
-      transform-conditional-below t,
-      transform-conditional.Post,
-      pushed-reads.Asked,
-      pushed-reads.Learnt,
-      transform-match-below t,
-      transform-match.Post,
-      push-reads.Asked,
-      push-reads.Learnt,
-      transform-body-below t,
-      transform-body.Post,
-    ) (transform-statement-at t) transform-statement.Post
+    (t : ℕ) → transform-statement-lts.Need-wrap-return-requires (transform-statement-calls t) (transform-statement-at t) transform-statement.Post
 transform-statement-wrap-return-requires t c κs = search needs
 
 transform-statement-same-length : (t : ℕ) → transform-statement-lts.Need-same-length (transform-statement-calls t) (transform-statement-at t) transform-statement.Post
@@ -935,28 +690,7 @@ transform-statement-null-requires : (t : ℕ) → transform-statement-lts.Need-n
 transform-statement-null-requires t c κs = search needs
 
 transform-statement-wrap-return-requires-2 :
-    (t : ℕ) → transform-statement-lts.Need-wrap-return-requires-2 (
-      statement-start-reads.Asked,
-      statement-start-reads.Learnt,
-      kind-at-reads.Asked,
-      kind-at-reads.Learnt,
-      u16-at-reads.Asked,
-      u16-at-reads.Learnt,
-      wrap-return-reads.Asked,
-      wrap-return-reads.Learnt,
-      null-reads.Asked,
-      null-reads.Learnt,
-      transform-conditional-below t,
-      transform-conditional.Post,
-      pushed-reads.Asked,
-      pushed-reads.Learnt,
-      transform-match-below t,
-      transform-match.Post,
-      push-reads.Asked,
-      push-reads.Learnt,
-      transform-body-below t,
-      transform-body.Post,
-    ) (transform-statement-at t) transform-statement.Post
+    (t : ℕ) → transform-statement-lts.Need-wrap-return-requires-2 (transform-statement-calls t) (transform-statement-at t) transform-statement.Post
 transform-statement-wrap-return-requires-2 t c κs = search needs
 
 transform-statement-same-length-3 : (t : ℕ) → transform-statement-lts.Need-same-length-3 (transform-statement-calls t) (transform-statement-at t) transform-statement.Post
@@ -969,28 +703,7 @@ transform-statement-returns-3 : (t : ℕ) → transform-statement-lts.Need-retur
 transform-statement-returns-3 t c = λ r h. statement-alone _ _ _ _ _ _ _ h (c .before .before .before .before .before .before .before .before .before .before .before .before .before .before .statement-start .ensures) (c .before .before .before .before .before .before .before .before .before .before .before .before .before .kind-at .ensures ∙ kind-in _ _) _ _ _ _ (c .before .before .before .before .before .before .before .before .before .before .before .if3 .taken) (c .before .before .before .before .before .before .before .before .before .null .ensures _ 0 _) (c .before .before .before .before .wrap-return2 .ensures (r .rows-are) (r .conditions))
 
 transform-statement-transform-conditional-requires :
-    (t : ℕ) → transform-statement-lts.Need-transform-conditional-requires (
-      statement-start-reads.Asked,
-      statement-start-reads.Learnt,
-      kind-at-reads.Asked,
-      kind-at-reads.Learnt,
-      u16-at-reads.Asked,
-      u16-at-reads.Learnt,
-      wrap-return-reads.Asked,
-      wrap-return-reads.Learnt,
-      null-reads.Asked,
-      null-reads.Learnt,
-      transform-conditional-below t,
-      transform-conditional.Post,
-      pushed-reads.Asked,
-      pushed-reads.Learnt,
-      transform-match-below t,
-      transform-match.Post,
-      push-reads.Asked,
-      push-reads.Learnt,
-      transform-body-below t,
-      transform-body.Post,
-    ) (transform-statement-at t) transform-statement.Post
+    (t : ℕ) → transform-statement-lts.Need-transform-conditional-requires (transform-statement-calls t) (transform-statement-at t) transform-statement.Post
 transform-statement-transform-conditional-requires t c κs = (omega (arith, c .before .before .before .before .before .before .before .before .before .before .before .before .before .pre .0), tt)
 
 transform-statement-pushed-requires : (t : ℕ) → transform-statement-lts.Need-pushed-requires (transform-statement-calls t) (transform-statement-at t) transform-statement.Post
@@ -1006,28 +719,7 @@ transform-statement-returns-4 : (t : ℕ) → transform-statement-lts.Need-retur
 transform-statement-returns-4 t c = λ r h. statement-conditional _ _ _ _ _ _ _ h (c .before .before .before .before .before .before .before .before .before .before .before .before .before .before .before .statement-start .ensures) (c .before .before .before .before .before .before .before .before .before .before .before .before .before .before .kind-at .ensures ∙ kind-in _ _) _ _ _ _ (c .before .before .before .before .before .before .before .before .before .before .before .if4 .taken) (c .before .before .before .before .before .before .before .before .transform-conditional .ensures r h (kind-here _ _ _ _ _ r _ _ _ h (c .before .before .before .before .before .before .before .before .before .before .before .before .before .before .before .statement-start .ensures) (c .before .before .before .before .before .before .before .before .before .before .before .before .before .before .kind-at .ensures ∙ kind-in _ _) _ (c .before .before .before .before .before .before .before .before .before .before .before .if4 .taken))) (c .before .before .pushed .ensures _)
 
 transform-statement-transform-match-requires :
-    (t : ℕ) → transform-statement-lts.Need-transform-match-requires (
-      statement-start-reads.Asked,
-      statement-start-reads.Learnt,
-      kind-at-reads.Asked,
-      kind-at-reads.Learnt,
-      u16-at-reads.Asked,
-      u16-at-reads.Learnt,
-      wrap-return-reads.Asked,
-      wrap-return-reads.Learnt,
-      null-reads.Asked,
-      null-reads.Learnt,
-      transform-conditional-below t,
-      transform-conditional.Post,
-      pushed-reads.Asked,
-      pushed-reads.Learnt,
-      transform-match-below t,
-      transform-match.Post,
-      push-reads.Asked,
-      push-reads.Learnt,
-      transform-body-below t,
-      transform-body.Post,
-    ) (transform-statement-at t) transform-statement.Post
+    (t : ℕ) → transform-statement-lts.Need-transform-match-requires (transform-statement-calls t) (transform-statement-at t) transform-statement.Post
 transform-statement-transform-match-requires t c κs = (omega (arith, c .before .before .before .before .before .before .before .before .before .before .before .before .before .before .pre .0), tt)
 
 transform-statement-pushed-requires-2 : (t : ℕ) → transform-statement-lts.Need-pushed-requires-2 (transform-statement-calls t) (transform-statement-at t) transform-statement.Post
@@ -1061,28 +753,7 @@ transform-statement-returns-7 : (t : ℕ) → transform-statement-lts.Need-retur
 transform-statement-returns-7 t c = λ r h. statement-kept _ _ _ _ _ _ _ h (c .before .before .before .before .before .before .before .before .before .before .before .statement-start .ensures) (c .before .before .before .before .before .before .before .before .before .before .kind-at .ensures ∙ kind-in _ _) _ _ (c .before .before .before .before .before .before .before .before .before .if2 .left) (c .before .before .before .before .before .before .before .before .if3 .left) (c .before .before .before .before .before .before .before .if4 .left) (c .before .before .before .before .before .before .if5 .left) (inr (c .before .before .before .before .if7 .taken)) (c .before .before .push2 .ensures _)
 
 transform-statement-transform-body-requires :
-    (t : ℕ) → transform-statement-lts.Need-transform-body-requires (
-      statement-start-reads.Asked,
-      statement-start-reads.Learnt,
-      kind-at-reads.Asked,
-      kind-at-reads.Learnt,
-      u16-at-reads.Asked,
-      u16-at-reads.Learnt,
-      wrap-return-reads.Asked,
-      wrap-return-reads.Learnt,
-      null-reads.Asked,
-      null-reads.Learnt,
-      transform-conditional-below t,
-      transform-conditional.Post,
-      pushed-reads.Asked,
-      pushed-reads.Learnt,
-      transform-match-below t,
-      transform-match.Post,
-      push-reads.Asked,
-      push-reads.Learnt,
-      transform-body-below t,
-      transform-body.Post,
-    ) (transform-statement-at t) transform-statement.Post
+    (t : ℕ) → transform-statement-lts.Need-transform-body-requires (transform-statement-calls t) (transform-statement-at t) transform-statement.Post
 transform-statement-transform-body-requires t c κs = (omega (arith, c .before .before .before .before .before .before .before .before .before .before .before .before .before .before .before .before .pre .0), tt)
 
 transform-statement-pushed-requires-3 : (t : ℕ) → transform-statement-lts.Need-pushed-requires-3 (transform-statement-calls t) (transform-statement-at t) transform-statement.Post
@@ -1109,14 +780,7 @@ pub +transform-arms+transform-below+transform-body+transform-branch+transform-co
     μ-transform-match
     μ-transform-returns
     μ-transform-statement
-    (λ t. transform-arms-lts.spec (
-      entry-at-reads.Asked,
-      entry-at-reads.Learnt,
-      transform-body-below t,
-      transform-body.Post,
-      pushed-reads.Asked,
-      pushed-reads.Learnt,
-    )
+    (λ t. transform-arms-lts.spec (transform-arms-calls t)
     (transform-arms-at t)
     transform-arms.Post
     transform-arms-Inv-loop
@@ -1133,12 +797,7 @@ pub +transform-arms+transform-below+transform-body+transform-branch+transform-co
     (transform-arms-same-length t)
     (transform-arms-same-length-2 t)
     (transform-arms-returns t))
-    (λ t. transform-below-lts.spec (
-      stopped-reads.Asked,
-      stopped-reads.Learnt,
-      transform-statement-below t,
-      transform-statement.Post,
-    )
+    (λ t. transform-below-lts.spec (transform-below-calls t)
     (transform-below-at t)
     transform-below.Post
     (transform-below-stopped-requires t)
@@ -1147,30 +806,7 @@ pub +transform-arms+transform-below+transform-body+transform-branch+transform-co
     (transform-below-same-length t)
     (transform-below-same-length-2 t)
     (transform-below-returns-2 t))
-    (λ t. transform-body-lts.spec (
-      statement-start-reads.Asked,
-      statement-start-reads.Learnt,
-      kind-at-reads.Asked,
-      kind-at-reads.Learnt,
-      list-place-reads.Asked,
-      list-place-reads.Learnt,
-      u16-at-reads.Asked,
-      u16-at-reads.Learnt,
-      second-u16-reads.Asked,
-      second-u16-reads.Learnt,
-      transform-returns-below t,
-      transform-returns.Post,
-      new-list-reads.Asked,
-      new-list-reads.Learnt,
-      list-word-reads.Asked,
-      list-word-reads.Learnt,
-      list-field-reads.Asked,
-      list-field-reads.Learnt,
-      flag-field-reads.Asked,
-      flag-field-reads.Learnt,
-      rebuild-reads.Asked,
-      rebuild-reads.Learnt,
-    )
+    (λ t. transform-body-lts.spec (transform-body-calls t)
     (transform-body-at t)
     transform-body.Post
     (transform-body-statement-start-requires t)
@@ -1189,14 +825,7 @@ pub +transform-arms+transform-below+transform-body+transform-branch+transform-co
     (transform-body-same-length t)
     (transform-body-same-length-2 t)
     (transform-body-returns t))
-    (λ t. transform-branch-lts.spec (
-      statement-start-reads.Asked,
-      statement-start-reads.Learnt,
-      kind-at-reads.Asked,
-      kind-at-reads.Learnt,
-      transform-body-below t,
-      transform-body.Post,
-    )
+    (λ t. transform-branch-lts.spec (transform-branch-calls t)
     (transform-branch-at t)
     transform-branch.Post
     (transform-branch-returns t)
@@ -1207,16 +836,7 @@ pub +transform-arms+transform-below+transform-body+transform-branch+transform-co
     (transform-branch-same-length-2 t)
     (transform-branch-returns-2 t)
     (transform-branch-returns-3 t))
-    (λ t. transform-conditional-lts.spec (
-      statement-start-reads.Asked,
-      statement-start-reads.Learnt,
-      u16-at-reads.Asked,
-      u16-at-reads.Learnt,
-      transform-branch-below t,
-      transform-branch.Post,
-      rebuild-conditional-reads.Asked,
-      rebuild-conditional-reads.Learnt,
-    )
+    (λ t. transform-conditional-lts.spec (transform-conditional-calls t)
     (transform-conditional-at t)
     transform-conditional.Post
     (transform-conditional-statement-start-requires t)
@@ -1231,22 +851,7 @@ pub +transform-arms+transform-below+transform-body+transform-branch+transform-co
     (transform-conditional-same-length t)
     (transform-conditional-same-length-2 t)
     (transform-conditional-returns t))
-    (λ t. transform-match-lts.spec (
-      statement-start-reads.Asked,
-      statement-start-reads.Learnt,
-      u16-at-reads.Asked,
-      u16-at-reads.Learnt,
-      second-u16-reads.Asked,
-      second-u16-reads.Learnt,
-      transform-arms-below t,
-      transform-arms.Post,
-      new-list-reads.Asked,
-      new-list-reads.Learnt,
-      list-word-reads.Asked,
-      list-word-reads.Learnt,
-      rebuild-reads.Asked,
-      rebuild-reads.Learnt,
-    )
+    (λ t. transform-match-lts.spec (transform-match-calls t)
     (transform-match-at t)
     transform-match.Post
     (transform-match-statement-start-requires t)
@@ -1261,12 +866,7 @@ pub +transform-arms+transform-below+transform-body+transform-branch+transform-co
     (transform-match-same-length t)
     (transform-match-same-length-2 t)
     (transform-match-returns t))
-    (λ t. transform-returns-lts.spec (
-      entry-at-reads.Asked,
-      entry-at-reads.Learnt,
-      transform-below-below t,
-      transform-below.Post,
-    )
+    (λ t. transform-returns-lts.spec (transform-returns-calls t)
     (transform-returns-at t)
     transform-returns.Post
     transform-returns-Inv-loop
