@@ -5,79 +5,60 @@ use Rattle.rl_assemble.proofs.new_length.Tie as tie
 
 ruleset laws = (length-new)
 
--- src/lib.rt:183:24
 cast-before : tie.Need-cast-before
 cast-before c = search needs
 
--- src/lib.rt:183:44
 cast-before-2 : tie.Need-cast-before-2
 cast-before-2 c = search needs
 
--- src/lib.rt:183:9
 before-requires : tie.Need-before-requires
 before-requires c κs = search needs
 
--- src/lib.rt:184:24
 cast-before-3 : tie.Need-cast-before-3
 cast-before-3 c = search needs
 
--- src/lib.rt:184:44
 cast-before-4 : tie.Need-cast-before-4
 cast-before-4 c = search needs
 
--- src/lib.rt:184:9
 before-requires-2 : tie.Need-before-requires-2
 before-requires-2 c κs = search needs
 
--- src/lib.rt:185:24
 cast-before-5 : tie.Need-cast-before-5
 cast-before-5 c = search needs
 
--- src/lib.rt:185:44
 cast-before-6 : tie.Need-cast-before-6
 cast-before-6 c = search needs
 
--- src/lib.rt:185:9
 before-requires-3 : tie.Need-before-requires-3
 before-requires-3 c κs = search needs
 
--- src/lib.rt:186:28
 cast-expression-bytes : tie.Need-cast-expression-bytes
 cast-expression-bytes c = search needs
 
--- src/lib.rt:187:27
 cast-statement-bytes : tie.Need-cast-statement-bytes
 cast-statement-bytes c = search needs
 
--- src/lib.rt:188:5
 add-result : tie.Need-add-result
 add-result c = search needs
 
--- src/lib.rt:188:27
 mul-result : tie.Need-mul-result
 mul-result c = search needs
 
--- src/lib.rt:188:5
 add-result-2 : tie.Need-add-result-2
 add-result-2 c = search needs
 
--- src/lib.rt:188:39
 mul-result-2 : tie.Need-mul-result-2
 mul-result-2 c = search needs
 
--- src/lib.rt:188:5
 add-result-3 : tie.Need-add-result-3
 add-result-3 c = search needs
 
--- src/lib.rt:188:5
 add-result-4 : tie.Need-add-result-4
 add-result-4 c = search needs
 
--- src/lib.rt:188:5
 add-result-5 : tie.Need-add-result-5
 add-result-5 c = search needs
 
--- src/lib.rt:179:1
 returns : tie.Need-returns
 returns c = search (laws, needs)
 

@@ -3,31 +3,24 @@ use Rattle.rl_assemble.proofs.put_counts.Statement.{statement}
 use Rattle.rl_assemble.proofs.Puts.{counts-put}
 use Rattle.rl_assemble.proofs.put_counts.Tie as tie
 
--- src/lib.rt:48:9
 put-two-requires : tie.Need-put-two-requires
 put-two-requires c κs = search needs
 
--- src/lib.rt:49:9
 put-two-requires-2 : tie.Need-put-two-requires-2
 put-two-requires-2 c κs = search needs
 
--- src/lib.rt:50:9
 put-two-requires-3 : tie.Need-put-two-requires-3
 put-two-requires-3 c κs = search needs
 
--- src/lib.rt:51:9
 put-two-requires-4 : tie.Need-put-two-requires-4
 put-two-requires-4 c κs = search needs
 
--- src/lib.rt:52:5
 put-two-requires-5 : tie.Need-put-two-requires-5
 put-two-requires-5 c κs = search needs
 
--- src/lib.rt:40:1
 same-length : tie.Need-same-length
 same-length c = search needs
 
--- src/lib.rt:40:1
 returns : tie.Need-returns
 returns c =
     counts-put _

@@ -3,51 +3,39 @@ use Rattle.rl_assemble.proofs.put_image.Statement.{statement}
 use Rattle.rl_assemble.proofs.Puts.{image-put}
 use Rattle.rl_assemble.proofs.put_image.Tie as tie
 
--- src/lib.rt:211:9
 statements-at-requires : tie.Need-statements-at-requires
 statements-at-requires c κs = search needs
 
--- src/lib.rt:212:9
 parameters-at-requires : tie.Need-parameters-at-requires
 parameters-at-requires c κs = search needs
 
--- src/lib.rt:213:9
 body-at-requires : tie.Need-body-at-requires
 body-at-requires c κs = search needs
 
--- src/lib.rt:214:9
 expressions-at-requires : tie.Need-expressions-at-requires
 expressions-at-requires c κs = search needs
 
--- src/lib.rt:215:9
 put-header-requires : tie.Need-put-header-requires
 put-header-requires c κs = search needs
 
--- src/lib.rt:216:9
 put-bytes-requires : tie.Need-put-bytes-requires
 put-bytes-requires c κs = search needs
 
--- src/lib.rt:217:9
 put-texts-requires : tie.Need-put-texts-requires
 put-texts-requires c κs = search needs
 
--- src/lib.rt:218:9
 put-lists-requires : tie.Need-put-lists-requires
 put-lists-requires c κs = search needs
 
--- src/lib.rt:219:9
 put-trees-requires : tie.Need-put-trees-requires
 put-trees-requires c κs = search needs
 
--- src/lib.rt:229:5
 put-rest-requires : tie.Need-put-rest-requires
 put-rest-requires c κs = c .before .before .before .before .before .before .before .before .before .before .before .before .before .before .before .before .before .before .before .before .before .before .body-at .ensures .1
 
--- src/lib.rt:198:1
 same-length : tie.Need-same-length
 same-length c = search needs
 
--- src/lib.rt:198:1
 returns : tie.Need-returns
 returns c =
     image-put _ _ _ _ _ _ _ _ _ _ _

@@ -5,19 +5,15 @@ use Rattle.rl_assemble.proofs.put_part.Tie as tie
 
 ruleset laws = (puts)
 
--- src/lib.rt:28:23
 part-requires : tie.Need-part-requires
 part-requires c κs = search needs
 
--- src/lib.rt:28:5
 put-text-requires : tie.Need-put-text-requires
 put-text-requires c κs = search needs
 
--- src/lib.rt:25:1
 same-length : tie.Need-same-length
 same-length c = search needs
 
--- src/lib.rt:25:1
 returns : tie.Need-returns
 returns c = search (laws, needs)
 

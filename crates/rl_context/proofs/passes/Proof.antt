@@ -5,15 +5,12 @@ use Rattle.rl_context.proofs.passes.Tie as tie
 
 ruleset laws = (passes-used, passes-more)
 
--- src/lib.rt:56:9
 returns : tie.Need-returns
 returns c = search (laws, needs)
 
--- src/lib.rt:58:6
 cast-result : tie.Need-cast-result
 cast-result c = search needs
 
--- src/lib.rt:52:1
 returns-2 : tie.Need-returns-2
 returns-2 c = search (laws, needs)
 

@@ -12,59 +12,45 @@ Inv-loop scratch₀ waiting at first count i₀ scratch i = Entering scratch₀ 
 abbrev μ-loop : tie.MeasureT-loop
 μ-loop scratch₀ waiting at first count i₀ scratch i = count - i
 
--- src/lib.rt:69:5
 loop-holds : tie.Need-loop-holds Inv-loop μ-loop
 loop-holds c = search (laws, needs)
 
--- src/lib.rt:70:38
 add-word-at : tie.Need-add-word-at Inv-loop μ-loop
 add-word-at c = search (laws, needs)
 
--- src/lib.rt:70:13
 word-at-requires : tie.Need-word-at-requires Inv-loop μ-loop
 word-at-requires c κs = search (laws, needs)
 
--- src/lib.rt:71:34
 mul-put-number : tie.Need-mul-put-number Inv-loop μ-loop
 mul-put-number c = search (laws, needs)
 
--- src/lib.rt:71:29
 add-put-number : tie.Need-add-put-number Inv-loop μ-loop
 add-put-number c = search (laws, needs)
 
--- src/lib.rt:71:46
 cast-put-number : tie.Need-cast-put-number Inv-loop μ-loop
 cast-put-number c = search (laws, needs)
 
--- src/lib.rt:71:45
 mul-put-number-2 : tie.Need-mul-put-number-2 Inv-loop μ-loop
 mul-put-number-2 c = search (laws, needs)
 
--- src/lib.rt:71:41
 add-put-number-2 : tie.Need-add-put-number-2 Inv-loop μ-loop
 add-put-number-2 c = search (laws, needs)
 
--- src/lib.rt:71:9
 put-number-requires : tie.Need-put-number-requires Inv-loop μ-loop
 put-number-requires c κs = search (laws, needs)
 
--- src/lib.rt:72:9
 add-i : tie.Need-add-i Inv-loop μ-loop
 add-i c = search (laws, needs)
 
--- src/lib.rt:69:5
 loop-less : tie.Need-loop-less Inv-loop μ-loop
 loop-less c = search (laws, needs)
 
--- src/lib.rt:69:5
 loop-again : tie.Need-loop-again Inv-loop μ-loop
 loop-again c = search (laws, needs)
 
--- src/lib.rt:63:1
 same-length : tie.Need-same-length Inv-loop μ-loop
 same-length c = search (laws, needs)
 
--- src/lib.rt:63:1
 returns : tie.Need-returns Inv-loop μ-loop
 returns c = search (laws, needs)
 

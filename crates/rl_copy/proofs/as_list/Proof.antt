@@ -3,31 +3,24 @@ use Rattle.rl_copy.proofs.Fields.{two-words}
 use Rattle.rl_copy.proofs.as_list.Statement.{statement}
 use Rattle.rl_copy.proofs.as_list.Tie as tie
 
--- src/lib.rt:103:9
 new-list-requires : tie.Need-new-list-requires
 new-list-requires c κs = search needs
 
--- src/lib.rt:108:16
 cast-t10 : tie.Need-cast-t10
 cast-t10 c = search needs
 
--- src/lib.rt:108:38
 cast-t11 : tie.Need-cast-t11
 cast-t11 c = search needs
 
--- src/lib.rt:108:37
 mul-t12 : tie.Need-mul-t12
 mul-t12 c = search needs
 
--- src/lib.rt:108:15
 add-t13 : tie.Need-add-t13
 add-t13 c = search needs
 
--- src/lib.rt:100:1
 same-length : tie.Need-same-length
 same-length c = search needs
 
--- src/lib.rt:100:1
 returns : tie.Need-returns
 returns c = (_, c .before .before .before .before .before .before .new-list .ensures, two-words _ _ (search needs))
 

@@ -5,99 +5,75 @@ use Rattle.rl_copy.proofs.plan_of.Tie as tie
 
 ruleset laws = (plan-list, plan-keep)
 
--- src/lib.rt:74:21
 enum-known-sort : tie.Need-enum-known-sort
 enum-known-sort c = search needs
 
--- src/lib.rt:75:16
 is-node-requires : tie.Need-is-node-requires
 is-node-requires c κs = search needs
 
--- src/lib.rt:76:17
 returns : tie.Need-returns
 returns c = search needs
 
--- src/lib.rt:81:13
 enum-known-sort-2 : tie.Need-enum-known-sort-2
 enum-known-sort-2 c = search needs
 
--- src/lib.rt:85:16
 has-nodes-requires : tie.Need-has-nodes-requires
 has-nodes-requires c κs = search needs
 
--- src/lib.rt:86:17
 returns-2 : tie.Need-returns-2
 returns-2 c = plan-list _ _ _ _ (c .before .before .before .sort2 .given .1) _ (c .before .has-nodes .ensures) (c .if2 .taken)
 
--- src/lib.rt:90:35
 enum-told : tie.Need-enum-told
 enum-told c = search needs
 
--- src/lib.rt:91:43
 enum-told-2 : tie.Need-enum-told-2
 enum-told-2 c = search needs
 
--- src/lib.rt:92:25
 enum-told-3 : tie.Need-enum-told-3
 enum-told-3 c = search needs
 
--- src/lib.rt:93:23
 enum-told-4 : tie.Need-enum-told-4
 enum-told-4 c = search needs
 
--- src/lib.rt:94:38
 enum-told-5 : tie.Need-enum-told-5
 enum-told-5 c = search needs
 
--- src/lib.rt:95:39
 enum-told-6 : tie.Need-enum-told-6
 enum-told-6 c = search needs
 
--- src/lib.rt:96:30
 enum-told-7 : tie.Need-enum-told-7
 enum-told-7 c = search needs
 
--- src/lib.rt:97:26
 enum-told-8 : tie.Need-enum-told-8
 enum-told-8 c = search needs
 
--- src/lib.rt:70:1
 returns-3 : tie.Need-returns-3
 returns-3 c = search needs
 
--- src/lib.rt:70:1
 returns-4 : tie.Need-returns-4
 returns-4 c = plan-keep _ _ _ _ (c .before .before .before .sort2 .given .1) _ (c .before .has-nodes .ensures) (c .if2 .left)
 
--- src/lib.rt:70:1
 returns-5 : tie.Need-returns-5
 returns-5 c = search needs
 
--- src/lib.rt:70:1
 returns-6 : tie.Need-returns-6
 returns-6 c = search needs
 
--- src/lib.rt:70:1
 returns-7 : tie.Need-returns-7
 returns-7 c = search needs
 
--- src/lib.rt:70:1
 returns-8 : tie.Need-returns-8
 returns-8 c = search needs
 
--- src/lib.rt:70:1
 returns-9 : tie.Need-returns-9
 returns-9 c = search needs
 
--- src/lib.rt:70:1
 returns-10 : tie.Need-returns-10
 returns-10 c = search needs
 
--- src/lib.rt:70:1
 returns-11 : tie.Need-returns-11
 returns-11 c = search needs
 
--- src/lib.rt:70:1
 returns-12 : tie.Need-returns-12
 returns-12 c = search needs
 

@@ -6,56 +6,43 @@ use Rattle.rl_copy.proofs.word_of.Tie as tie
 
 ruleset laws = (word-pair, word-number, width-fits)
 
--- src/lib.rt:66:9
 sort-of-requires : tie.Need-sort-of-requires
 sort-of-requires c κs = search needs
 
--- src/lib.rt:67:8
 is-pair-requires : tie.Need-is-pair-requires
 is-pair-requires c κs = search needs
 
--- src/lib.rt:68:17
 u16-at-requires : tie.Need-u16-at-requires
 u16-at-requires c κs = search needs
 
--- src/lib.rt:68:17
 cast-result : tie.Need-cast-result
 cast-result c = search needs
 
--- src/lib.rt:68:49
 second-u16-requires : tie.Need-second-u16-requires
 second-u16-requires c κs = search needs
 
--- src/lib.rt:68:49
 cast-result-2 : tie.Need-cast-result-2
 cast-result-2 c = search needs
 
--- src/lib.rt:68:48
 mul-result : tie.Need-mul-result
 mul-result c = search needs
 
--- src/lib.rt:68:16
 add-result : tie.Need-add-result
 add-result c = search needs
 
--- src/lib.rt:68:9
 returns : tie.Need-returns
 returns c =
     word-pair _ _ _ _ (c .before .before .before .before .sort-of .ensures) _ (c .before .before .before .is-pair .ensures) _ _ (c .before .before .if1 .taken) (search needs) (c .before .u16-at .ensures) (c .second-u16 .ensures)
 
--- src/lib.rt:70:29
 width-of-requires : tie.Need-width-of-requires
 width-of-requires c κs = search needs
 
--- src/lib.rt:70:29
 cast-number-at : tie.Need-cast-number-at
 cast-number-at c = width-fits _ _ (c .before .before .before .sort-of .ensures) _ (c .width-of .ensures)
 
--- src/lib.rt:70:5
 number-at-requires : tie.Need-number-at-requires
 number-at-requires c κs = search needs
 
--- src/lib.rt:63:1
 returns-2 : tie.Need-returns-2
 returns-2 c =
     word-number _ _ _ _ (c .before .before .before .before .sort-of .ensures) _ (c .before .before .before .is-pair .ensures) _ (c .before .before .if1 .left) (c .before .width-of .ensures) _ (c .number-at .ensures)

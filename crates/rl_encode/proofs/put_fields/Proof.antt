@@ -12,53 +12,41 @@ Inv-loop out₀ at row words rest₀ place₀ j₀ out rest place j = Recording 
 abbrev μ-loop : tie.MeasureT-loop
 μ-loop out₀ at row words rest₀ place₀ j₀ out rest place j = rest
 
--- src/lib.rt:36:5
 loop-holds : tie.Need-loop-holds Inv-loop μ-loop
 loop-holds c = search (laws, needs)
 
--- src/lib.rt:37:38
 cast-sort-of : tie.Need-cast-sort-of Inv-loop μ-loop
 cast-sort-of c = search (laws, needs)
 
--- src/lib.rt:37:30
 sort-of-requires : tie.Need-sort-of-requires Inv-loop μ-loop
 sort-of-requires c κs = search (laws, needs)
 
--- src/lib.rt:37:13
 width-of-requires : tie.Need-width-of-requires Inv-loop μ-loop
 width-of-requires c κs = search (laws, needs)
 
--- src/lib.rt:38:32
 long-at-requires : tie.Need-long-at-requires Inv-loop μ-loop
 long-at-requires c κs = search (laws, needs)
 
--- src/lib.rt:38:9
 put-number-requires : tie.Need-put-number-requires Inv-loop μ-loop
 put-number-requires c κs = recording-room _ _ _ _ _ _ _ _ (c .before .before .before .before .before .loop .inv) (search needs) _ _ (c .before .before .before .sort-of .ensures) (c .before .before .width-of .ensures)
 
--- src/lib.rt:39:9
 add-place : tie.Need-add-place Inv-loop μ-loop
 add-place c = omega (arith, recording-room _ _ _ _ _ _ _ _ (c .before .before .before .before .before .before .before .before .loop .inv) (search needs) _ _ (c .before .before .before .before .before .before .sort-of .ensures) (c .before .before .before .before .before .width-of .ensures))
 
--- src/lib.rt:41:9
 add-j : tie.Need-add-j Inv-loop μ-loop
 add-j c = search (laws, needs)
 
--- src/lib.rt:36:5
 loop-less : tie.Need-loop-less Inv-loop μ-loop
 loop-less c = search (laws, needs)
 
--- src/lib.rt:36:5
 loop-again : tie.Need-loop-again Inv-loop μ-loop
 loop-again c =
     recording-more _ _ _ _ _ _ _ _ (c .before .before .before .before .before .before .before .before .loop .inv) (search needs) _ _ (c .before .before .before .before .before .before .sort-of .ensures) (c .before .before .before .before .before .width-of .ensures) _ _
     (c .before .before .before .long-at .ensures) (c .before .before .put-number .ensures)
 
--- src/lib.rt:28:1
 same-length : tie.Need-same-length Inv-loop μ-loop
 same-length c = search (laws, needs)
 
--- src/lib.rt:28:1
 returns : tie.Need-returns Inv-loop μ-loop
 returns c = search (laws, needs)
 

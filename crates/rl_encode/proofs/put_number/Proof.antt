@@ -14,39 +14,30 @@ Inv-loop out₀ at n width rest₀ i₀ out rest i = (i ≤ width) × ((length o
 abbrev μ-loop : tie.MeasureT-loop
 μ-loop out₀ at n width rest₀ i₀ out rest i = width - i
 
--- src/lib.rt:20:5
 loop-holds : tie.Need-loop-holds Inv-loop μ-loop
 loop-holds c = search (laws, needs)
 
--- src/lib.rt:21:23
 cast-out : tie.Need-cast-out Inv-loop μ-loop
 cast-out c = search (laws, needs)
 
--- src/lib.rt:21:13
 add-out : tie.Need-add-out Inv-loop μ-loop
 add-out c = search (laws, needs)
 
--- src/lib.rt:21:9
 slice-write-out : tie.Need-slice-write-out Inv-loop μ-loop
 slice-write-out c = search (laws, needs)
 
--- src/lib.rt:23:9
 add-i : tie.Need-add-i Inv-loop μ-loop
 add-i c = search (laws, needs)
 
--- src/lib.rt:20:5
 loop-less : tie.Need-loop-less Inv-loop μ-loop
 loop-less c = search (laws, needs)
 
--- src/lib.rt:20:5
 loop-again : tie.Need-loop-again Inv-loop μ-loop
 loop-again c = search (laws, needs)
 
--- src/lib.rt:14:1
 same-length : tie.Need-same-length Inv-loop μ-loop
 same-length c = search (laws, needs)
 
--- src/lib.rt:14:1
 returns : tie.Need-returns Inv-loop μ-loop
 returns c = search (laws, needs)
 

@@ -24,70 +24,54 @@ Inv-loop s rows w p seen own kind start rest₀ at₀ tall₀ rest at tall = (re
 abbrev μ-loop : tie.MeasureT-loop
 μ-loop s rows w p seen own kind start rest₀ at₀ tall₀ rest at tall = rest
 
--- src/lib.rt:573:9
 row-of-requires : tie.Need-row-of-requires Inv-loop μ-loop
 row-of-requires c κs = search (laws, needs)
 
--- src/lib.rt:578:12
 is-past-requires : tie.Need-is-past-requires Inv-loop μ-loop
 is-past-requires c κs = search (laws, needs)
 
--- src/lib.rt:579:13
 returns : tie.Need-returns Inv-loop μ-loop
 returns c = search (span-past, needs)
 
--- src/lib.rt:584:9
 add-at : tie.Need-add-at Inv-loop μ-loop
 add-at c = search (past-fits, needs)
 
--- src/lib.rt:587:5
 loop-holds : tie.Need-loop-holds Inv-loop μ-loop
 loop-holds c =
     ⊎-elim
     (λ x. (search needs, span-next _ _ _ _ _ _ _ _ (c .before .row-of .ensures) (search needs) (x .0 .taken) _ (x .1 .ensures) (x .2 .left) _ _ (x .3) (x .4)))
     (λ x. (search needs, fields-as _ _ _ _ _ _ _ _ _ _ (c .before .row-of .ensures) (x .1) (x .2))) (c .if1 .came)
 
--- src/lib.rt:588:20
 cast-code : tie.Need-cast-code Inv-loop μ-loop
 cast-code c = search (laws, needs)
 
--- src/lib.rt:589:13
 coded-field-requires : tie.Need-coded-field-requires Inv-loop μ-loop
 coded-field-requires c κs = search (laws, needs)
 
--- src/lib.rt:591:34
 enum-known-check : tie.Need-enum-known-check Inv-loop μ-loop
 enum-known-check c = search (laws, needs)
 
--- src/lib.rt:594:28
 enum-known-check-2 : tie.Need-enum-known-check-2 Inv-loop μ-loop
 enum-known-check-2 c = search (laws, needs)
 
--- src/lib.rt:595:17
 returns-2 : tie.Need-returns-2 Inv-loop μ-loop
 returns-2 c = search (laws, needs)
 
--- src/lib.rt:598:24
 sort-of-requires : tie.Need-sort-of-requires Inv-loop μ-loop
 sort-of-requires c κs = search (laws, needs)
 
--- src/lib.rt:598:15
 width-of-requires : tie.Need-width-of-requires Inv-loop μ-loop
 width-of-requires c κs = search (laws, needs)
 
--- src/lib.rt:598:9
 add-at-2 : tie.Need-add-at-2 Inv-loop μ-loop
 add-at-2 c = search (laws, needs)
 
--- src/lib.rt:587:5
 loop-less : tie.Need-loop-less Inv-loop μ-loop
 loop-less c = search (laws, needs)
 
--- src/lib.rt:587:5
 loop-again : tie.Need-loop-again Inv-loop μ-loop
 loop-again c = search (laws, needs)
 
--- src/lib.rt:561:1
 returns-3 : tie.Need-returns-3 Inv-loop μ-loop
 returns-3 c = search (laws, needs)
 

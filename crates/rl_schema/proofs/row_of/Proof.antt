@@ -7,19 +7,15 @@ use Rattle.rl_bytes.proofs.Laws.{getD-past}
 
 ruleset laws = (getD-past)
 
--- src/lib.rt:174:25
 mul-result : tie.Need-mul-result
 mul-result c = search needs
 
--- src/lib.rt:174:25
 shared-slice-read-result : tie.Need-shared-slice-read-result
 shared-slice-read-result c = search needs
 
--- src/lib.rt:170:1
 returns : tie.Need-returns
 returns c = search needs
 
--- src/lib.rt:170:1
 returns-2 : tie.Need-returns-2
 returns-2 c = search (laws, needs)
 

@@ -4,23 +4,18 @@ use Rattle.rl_context.proofs.StatementsMade.{expression-does}
 use Rattle.rl_context.proofs.Ctx.expression_statement.Statement.{statement}
 use Rattle.rl_context.proofs.Ctx.expression_statement.Tie as tie
 
--- src/nodes.rt:145:22
 cast-t5 : tie.Need-cast-t5
 cast-t5 c = search needs
 
--- src/nodes.rt:146:50
 slice-aggregate-new-statement : tie.Need-slice-aggregate-new-statement
 slice-aggregate-new-statement c = search needs
 
--- src/nodes.rt:146:9
 new-statement-requires : tie.Need-new-statement-requires
 new-statement-requires c κs = search needs
 
--- src/nodes.rt:142:5
 same-length : tie.Need-same-length
 same-length c = search needs
 
--- src/nodes.rt:142:5
 returns : tie.Need-returns
 returns c im k w = expression-does _ (c .before .before .new-statement .ensures im k w row-expression)
 

@@ -4,31 +4,24 @@ use Rattle.rl_context.proofs.NodesMade.{ident-does}
 use Rattle.rl_context.proofs.Ctx.ident.Statement.{statement}
 use Rattle.rl_context.proofs.Ctx.ident.Tie as tie
 
--- src/nodes.rt:61:13
 new-text-requires : tie.Need-new-text-requires
 new-text-requires c κs = search needs
 
--- src/nodes.rt:63:22
 cast-t9 : tie.Need-cast-t9
 cast-t9 c = search needs
 
--- src/nodes.rt:63:39
 cast-t10 : tie.Need-cast-t10
 cast-t10 c = search needs
 
--- src/nodes.rt:64:50
 slice-aggregate-new-expression : tie.Need-slice-aggregate-new-expression
 slice-aggregate-new-expression c = search needs
 
--- src/nodes.rt:64:9
 new-expression-requires : tie.Need-new-expression-requires
 new-expression-requires c κs = search needs
 
--- src/nodes.rt:58:5
 same-length : tie.Need-same-length
 same-length c = search needs
 
--- src/nodes.rt:58:5
 returns : tie.Need-returns
 returns c im k w = ident-does _ (c .before .before .before .before .before .before .before .before .before .before .new-text .ensures im k w) (c .before .before .new-expression .ensures im k w row-identifier)
 

@@ -3,23 +3,18 @@ use Rattle.rl_context.proofs.NodesMade.{is-err-does}
 use Rattle.rl_context.proofs.Ctx.is_err_call.Statement.{statement}
 use Rattle.rl_context.proofs.Ctx.is_err_call.Tie as tie
 
--- src/nodes.rt:139:41
 slice-aggregate-res-call : tie.Need-slice-aggregate-res-call
 slice-aggregate-res-call c = search needs
 
--- src/nodes.rt:139:9
 res-call-requires : tie.Need-res-call-requires
 res-call-requires c κs = search needs
 
--- src/nodes.rt:136:5
 same-length : tie.Need-same-length
 same-length c = search needs
 
--- src/nodes.rt:136:5
 same-length-2 : tie.Need-same-length-2
 same-length-2 c = search needs
 
--- src/nodes.rt:136:5
 returns : tie.Need-returns
 returns c im k = is-err-does _ (c .before .before .before .before .res-call .ensures im k)
 

@@ -3,23 +3,18 @@ use Rattle.rl_context.proofs.NodesMade.{list-of-does}
 use Rattle.rl_context.proofs.Ctx.list_of.Statement.{statement}
 use Rattle.rl_context.proofs.Ctx.list_of.Tie as tie
 
--- src/nodes.rt:115:13
 push-requires : tie.Need-push-requires
 push-requires c κs = search needs
 
--- src/nodes.rt:116:9
 new-list-requires : tie.Need-new-list-requires
 new-list-requires c κs = search needs
 
--- src/nodes.rt:111:5
 same-length : tie.Need-same-length
 same-length c = search needs
 
--- src/nodes.rt:111:5
 same-length-2 : tie.Need-same-length-2
 same-length-2 c = search needs
 
--- src/nodes.rt:111:5
 returns : tie.Need-returns
 returns c im k = list-of-does _ (c .before .before .before .before .before .before .before .push .ensures _) (c .before .before .new-list .ensures)
 

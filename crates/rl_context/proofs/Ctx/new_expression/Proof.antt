@@ -9,79 +9,60 @@ use Rattle.rl_context.proofs.Ctx.new_expression.Tie as tie
 
 ruleset laws = (expression-full, expression-less, expression-short, expression-many, expression-made, record-room)
 
--- src/lib.rt:194:20
 cast-used : tie.Need-cast-used
 cast-used c = search needs
 
--- src/lib.rt:196:13
 stopped-requires : tie.Need-stopped-requires
 stopped-requires c κs = search needs
 
--- src/lib.rt:196:13
 returns : tie.Need-returns
 returns c im k w is = search (laws, needs)
 
--- src/lib.rt:199:13
 stopped-requires-2 : tie.Need-stopped-requires-2
 stopped-requires-2 c κs = search needs
 
--- src/lib.rt:199:13
 returns-2 : tie.Need-returns-2
 returns-2 c im k w is = search (laws, needs)
 
--- src/lib.rt:201:19
 add-end : tie.Need-add-end
 add-end c = search needs
 
--- src/lib.rt:202:28
 add-if3 : tie.Need-add-if3
 add-if3 c = search needs
 
--- src/lib.rt:203:13
 stopped-requires-3 : tie.Need-stopped-requires-3
 stopped-requires-3 c κs = search needs
 
--- src/lib.rt:203:13
 returns-3 : tie.Need-returns-3
 returns-3 c im k w is = search (laws, needs)
 
--- src/lib.rt:205:12
 passes-requires : tie.Need-passes-requires
 passes-requires c κs = search needs
 
--- src/lib.rt:206:13
 stopped-requires-4 : tie.Need-stopped-requires-4
 stopped-requires-4 c κs = search needs
 
--- src/lib.rt:206:13
 returns-4 : tie.Need-returns-4
 returns-4 c im k w is = search (laws, needs)
 
--- src/lib.rt:208:13
 put-record-requires : tie.Need-put-record-requires
 put-record-requires c κs = search (laws, needs)
 
--- src/lib.rt:209:28
 add-self : tie.Need-add-self
 add-self c = omega (arith, within (c .before .before .before .before .before .before .before .before .before .before .before .before .args .self .expressions) 1 4096 _ (c .before .before .before .before .before .passes .ensures) (c .before .before .before .before .if4 .left))
 
--- src/lib.rt:210:34
 sub-self : tie.Need-sub-self
 sub-self c = search needs
 
--- src/lib.rt:210:33
 cast-self : tie.Need-cast-self
 cast-self c = omega (arith, record-ends (c .before .before .before .before .before .before .before .before .before .before .before .before .args .kind) (c .before .before .before .before .before .before .before .before .before .before .before .before .args .row) (c .before .before .before .before .before .before .before .before .before .before .before .before .args .words .now) 38912 (c .before .before .before .before .before .before .before .before .before .before .before .before .args .self .«expression_bytes») _ (c .before .before .before .before .before .before .before .if2 .left) (c .before .before .put-record .ensures .0))
 
--- src/lib.rt:213:20
 cast-t16 : tie.Need-cast-t16
 cast-t16 c = omega (arith, within (c .before .before .before .before .before .before .before .before .before .before .before .before .args .self .expressions) 1 4096 _ (c .before .before .before .before .before .passes .ensures) (c .before .before .before .before .if4 .left))
 
--- src/lib.rt:190:5
 same-length : tie.Need-same-length
 same-length c = search needs
 
--- src/lib.rt:190:5
 returns-5 : tie.Need-returns-5
 returns-5 c im k w is = search (laws, needs)
 

@@ -8,96 +8,73 @@ use Rattle.rl_context.proofs.Ctx.new_list.Tie as tie
 
 ruleset laws = (list-full, list-order, list-short, list-waiting, list-many, list-made)
 
--- src/lib.rt:146:13
 without-list-requires : tie.Need-without-list-requires
 without-list-requires c κs = search needs
 
--- src/lib.rt:146:13
 returns : tie.Need-returns
 returns c = search (laws, needs)
 
--- src/lib.rt:149:13
 without-list-requires-2 : tie.Need-without-list-requires-2
 without-list-requires-2 c κs = search needs
 
--- src/lib.rt:149:13
 returns-2 : tie.Need-returns-2
 returns-2 c = search (laws, needs)
 
--- src/lib.rt:152:13
 without-list-requires-3 : tie.Need-without-list-requires-3
 without-list-requires-3 c κs = search needs
 
--- src/lib.rt:152:13
 returns-3 : tie.Need-returns-3
 returns-3 c = search (laws, needs)
 
--- src/lib.rt:154:29
 cast-if4 : tie.Need-cast-if4
 cast-if4 c = search needs
 
--- src/lib.rt:155:13
 without-list-requires-4 : tie.Need-without-list-requires-4
 without-list-requires-4 c κs = search needs
 
--- src/lib.rt:155:13
 returns-4 : tie.Need-returns-4
 returns-4 c = search (laws, needs)
 
--- src/lib.rt:158:23
 cast-passes : tie.Need-cast-passes
 cast-passes c = search needs
 
--- src/lib.rt:158:12
 passes-requires : tie.Need-passes-requires
 passes-requires c κs = search needs
 
--- src/lib.rt:159:13
 without-list-requires-5 : tie.Need-without-list-requires-5
 without-list-requires-5 c κs = search needs
 
--- src/lib.rt:159:13
 returns-5 : tie.Need-returns-5
 returns-5 c = search (laws, needs)
 
--- src/lib.rt:161:48
 cast-put-entries : tie.Need-cast-put-entries
 cast-put-entries c = search needs
 
--- src/lib.rt:161:47
 mul-put-entries : tie.Need-mul-put-entries
 mul-put-entries c = search needs
 
--- src/lib.rt:161:39
 add-put-entries : tie.Need-add-put-entries
 add-put-entries c = search needs
 
--- src/lib.rt:161:82
 cast-put-entries-2 : tie.Need-cast-put-entries-2
 cast-put-entries-2 c = search needs
 
--- src/lib.rt:161:9
 put-entries-requires : tie.Need-put-entries-requires
 put-entries-requires c κs =
     omega (arith, within (c .before .before .before .before .before .before .before .before .before .args .self .lists) (c .before .before .before .before .before .before .before .before .before .args .self .waiting - (c .before .before .before .before .before .before .before .before .before .args .first)) 4096 _ (c .before .before .passes .ensures) (c .before .if5 .left), c .before .before .before .if4 .left, c .before .before .before .before .if3 .left, c .before .before .before .before .before .if2 .left)
 
--- src/lib.rt:162:22
 add-self : tie.Need-add-self
 add-self c = omega (arith, within (c .before .before .before .before .before .before .before .before .before .before .before .before .args .self .lists) (c .before .before .before .before .before .before .before .before .before .before .before .before .args .self .waiting - (c .before .before .before .before .before .before .before .before .before .before .before .before .args .first)) 4096 _ (c .before .before .before .before .before .passes .ensures) (c .before .before .before .before .if5 .left))
 
--- src/lib.rt:167:24
 cast-t18 : tie.Need-cast-t18
 cast-t18 c = omega (arith, within (c .before .before .before .before .before .before .before .before .before .before .before .before .args .self .lists) (c .before .before .before .before .before .before .before .before .before .before .before .before .args .self .waiting - (c .before .before .before .before .before .before .before .before .before .before .before .before .args .first)) 4096 _ (c .before .before .before .before .before .passes .ensures) (c .before .before .before .before .if5 .left))
 
--- src/lib.rt:168:24
 cast-t19 : tie.Need-cast-t19
 cast-t19 c = omega (arith, within (c .before .before .before .before .before .before .before .before .before .before .before .before .args .self .lists) (c .before .before .before .before .before .before .before .before .before .before .before .before .args .self .waiting - (c .before .before .before .before .before .before .before .before .before .before .before .before .args .first)) 4096 _ (c .before .before .before .before .before .passes .ensures) (c .before .before .before .before .if5 .left))
 
--- src/lib.rt:140:5
 same-length : tie.Need-same-length
 same-length c = search needs
 
--- src/lib.rt:140:5
 returns-6 : tie.Need-returns-6
 returns-6 c = search (laws, needs)
 

@@ -9,79 +9,60 @@ use Rattle.rl_context.proofs.Ctx.new_statement.Tie as tie
 
 ruleset laws = (statement-full, statement-less, statement-short, statement-many, statement-made, record-room)
 
--- src/lib.rt:222:20
 cast-used : tie.Need-cast-used
 cast-used c = search needs
 
--- src/lib.rt:224:13
 stopped-requires : tie.Need-stopped-requires
 stopped-requires c κs = search needs
 
--- src/lib.rt:224:13
 returns : tie.Need-returns
 returns c im k w is = search (laws, needs)
 
--- src/lib.rt:227:13
 stopped-requires-2 : tie.Need-stopped-requires-2
 stopped-requires-2 c κs = search needs
 
--- src/lib.rt:227:13
 returns-2 : tie.Need-returns-2
 returns-2 c im k w is = search (laws, needs)
 
--- src/lib.rt:229:19
 add-end : tie.Need-add-end
 add-end c = search needs
 
--- src/lib.rt:230:28
 add-if3 : tie.Need-add-if3
 add-if3 c = search needs
 
--- src/lib.rt:231:13
 stopped-requires-3 : tie.Need-stopped-requires-3
 stopped-requires-3 c κs = search needs
 
--- src/lib.rt:231:13
 returns-3 : tie.Need-returns-3
 returns-3 c im k w is = search (laws, needs)
 
--- src/lib.rt:233:12
 passes-requires : tie.Need-passes-requires
 passes-requires c κs = search needs
 
--- src/lib.rt:234:13
 stopped-requires-4 : tie.Need-stopped-requires-4
 stopped-requires-4 c κs = search needs
 
--- src/lib.rt:234:13
 returns-4 : tie.Need-returns-4
 returns-4 c im k w is = search (laws, needs)
 
--- src/lib.rt:236:13
 put-record-requires : tie.Need-put-record-requires
 put-record-requires c κs = search (laws, needs)
 
--- src/lib.rt:237:27
 add-self : tie.Need-add-self
 add-self c = omega (arith, within (c .before .before .before .before .before .before .before .before .before .before .before .before .args .self .statements) 1 2048 _ (c .before .before .before .before .before .passes .ensures) (c .before .before .before .before .if4 .left))
 
--- src/lib.rt:238:33
 sub-self : tie.Need-sub-self
 sub-self c = search needs
 
--- src/lib.rt:238:32
 cast-self : tie.Need-cast-self
 cast-self c = omega (arith, record-ends (c .before .before .before .before .before .before .before .before .before .before .before .before .args .kind) (c .before .before .before .before .before .before .before .before .before .before .before .before .args .row) (c .before .before .before .before .before .before .before .before .before .before .before .before .args .words .now) 137216 (c .before .before .before .before .before .before .before .before .before .before .before .before .args .self .«statement_bytes») _ (c .before .before .before .before .before .before .before .if2 .left) (c .before .before .put-record .ensures .0))
 
--- src/lib.rt:241:20
 cast-t16 : tie.Need-cast-t16
 cast-t16 c = omega (arith, within (c .before .before .before .before .before .before .before .before .before .before .before .before .args .self .statements) 1 2048 _ (c .before .before .before .before .before .passes .ensures) (c .before .before .before .before .if4 .left))
 
--- src/lib.rt:218:5
 same-length : tie.Need-same-length
 same-length c = search needs
 
--- src/lib.rt:218:5
 returns-5 : tie.Need-returns-5
 returns-5 c im k w is = search (laws, needs)
 

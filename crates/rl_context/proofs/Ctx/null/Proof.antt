@@ -4,23 +4,18 @@ use Rattle.rl_context.proofs.NodesMade.{null-does}
 use Rattle.rl_context.proofs.Ctx.null.Statement.{statement}
 use Rattle.rl_context.proofs.Ctx.null.Tie as tie
 
--- src/nodes.rt:27:22
 cast-t4 : tie.Need-cast-t4
 cast-t4 c = search needs
 
--- src/nodes.rt:28:48
 slice-aggregate-new-expression : tie.Need-slice-aggregate-new-expression
 slice-aggregate-new-expression c = search needs
 
--- src/nodes.rt:28:9
 new-expression-requires : tie.Need-new-expression-requires
 new-expression-requires c κs = search needs
 
--- src/nodes.rt:24:5
 same-length : tie.Need-same-length
 same-length c = search needs
 
--- src/nodes.rt:24:5
 returns : tie.Need-returns
 returns c im k w = null-does (c .before .before .new-expression .ensures im k w row-null)
 

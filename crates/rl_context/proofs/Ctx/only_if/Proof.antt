@@ -5,51 +5,39 @@ use mathlib.Core.Path.{_∙_}
 use Rattle.rl_context.proofs.Ctx.only_if.Statement.{statement}
 use Rattle.rl_context.proofs.Ctx.only_if.Tie as tie
 
--- src/nodes.rt:190:13
 list-of-requires : tie.Need-list-of-requires
 list-of-requires c κs = search needs
 
--- src/nodes.rt:192:22
 cast-t16 : tie.Need-cast-t16
 cast-t16 c = search needs
 
--- src/nodes.rt:192:57
 list-word-requires : tie.Need-list-word-requires
 list-word-requires c κs = search needs
 
--- src/nodes.rt:193:68
 slice-aggregate-new-statement : tie.Need-slice-aggregate-new-statement
 slice-aggregate-new-statement c = search needs
 
--- src/nodes.rt:193:13
 new-statement-requires : tie.Need-new-statement-requires
 new-statement-requires c κs = search needs
 
--- src/nodes.rt:195:22
 cast-t16-2 : tie.Need-cast-t16-2
 cast-t16-2 c = search needs
 
--- src/nodes.rt:195:40
 cast-t18 : tie.Need-cast-t18
 cast-t18 c = search needs
 
--- src/nodes.rt:196:53
 slice-aggregate-new-statement-2 : tie.Need-slice-aggregate-new-statement-2
 slice-aggregate-new-statement-2 c = search needs
 
--- src/nodes.rt:196:9
 new-statement-requires-2 : tie.Need-new-statement-requires-2
 new-statement-requires-2 c κs = search needs
 
--- src/nodes.rt:187:5
 same-length : tie.Need-same-length
 same-length c = c .before .before .new-statement2 .kept .1 .0 ∙ c .before .before .before .before .before .before .before .before .before .before .new-statement .kept .1 .0 ∙ c .before .before .before .before .before .before .before .before .before .before .before .before .before .before .before .before .before .before .before .before .list-of .kept .1 .0
 
--- src/nodes.rt:187:5
 same-length-2 : tie.Need-same-length-2
 same-length-2 c = c .before .before .before .before .before .before .before .before .before .before .before .before .before .before .before .before .before .before .before .before .list-of .kept .1 .1 .0
 
--- src/nodes.rt:187:5
 returns : tie.Need-returns
 returns c im = only-if-does _ _ (c .before .before .before .before .before .before .before .before .before .before .before .before .before .before .before .before .before .before .before .before .list-of .result .list) _ (c .before .before .before .before .before .before .before .before .before .before .before .before .before .before .before .before .before .before .before .before .list-of .ensures im 0) (c .before .before .before .before .before .before .before .before .before .before .before .before .before .list-word .ensures) (c .before .before .before .before .before .before .before .before .before .before .new-statement .ensures im 0 _ row-branch) (c .before .before .new-statement2 .ensures im 0 _ row-conditional)
 

@@ -3,23 +3,18 @@ use Rattle.rl_context.proofs.Composed.{does-push}
 use Rattle.rl_context.proofs.Ctx.push_text.Statement.{statement}
 use Rattle.rl_context.proofs.Ctx.push_text.Tie as tie
 
--- src/nodes.rt:93:13
 new-text-requires : tie.Need-new-text-requires
 new-text-requires c κs = search needs
 
--- src/nodes.rt:95:13
 push-requires : tie.Need-push-requires
 push-requires c κs = search needs
 
--- src/nodes.rt:90:5
 same-length : tie.Need-same-length
 same-length c = search needs
 
--- src/nodes.rt:90:5
 same-length-2 : tie.Need-same-length-2
 same-length-2 c = search needs
 
--- src/nodes.rt:90:5
 returns : tie.Need-returns
 returns c im k = does-push (c .before .before .before .before .before .before .new-text .ensures im k _) (c .before .before .push .ensures _)
 

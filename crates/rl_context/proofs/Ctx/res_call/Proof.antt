@@ -5,43 +5,33 @@ use mathlib.Core.Path.{_∙_}
 use Rattle.rl_context.proofs.Ctx.res_call.Statement.{statement}
 use Rattle.rl_context.proofs.Ctx.res_call.Tie as tie
 
--- src/nodes.rt:123:13
 res-path-requires : tie.Need-res-path-requires
 res-path-requires c κs = search needs
 
--- src/nodes.rt:124:13
 list-of-requires : tie.Need-list-of-requires
 list-of-requires c κs = search needs
 
--- src/nodes.rt:126:22
 cast-t18 : tie.Need-cast-t18
 cast-t18 c = search needs
 
--- src/nodes.rt:126:39
 list-word-requires : tie.Need-list-word-requires
 list-word-requires c κs = search needs
 
--- src/nodes.rt:126:61
 list-word-requires-2 : tie.Need-list-word-requires-2
 list-word-requires-2 c κs = search needs
 
--- src/nodes.rt:127:53
 slice-aggregate-new-expression : tie.Need-slice-aggregate-new-expression
 slice-aggregate-new-expression c = search needs
 
--- src/nodes.rt:127:9
 new-expression-requires : tie.Need-new-expression-requires
 new-expression-requires c κs = search needs
 
--- src/nodes.rt:120:5
 same-length : tie.Need-same-length
 same-length c = c .before .before .new-expression .kept .1 .0 ∙ c .before .before .before .before .before .before .before .before .before .before .before .before .before .list-of .kept .1 .0 ∙ c .before .before .before .before .before .before .before .before .before .before .before .before .before .before .before .before .before .before .before .before .res-path .kept .1 .0
 
--- src/nodes.rt:120:5
 same-length-2 : tie.Need-same-length-2
 same-length-2 c = c .before .before .before .before .before .before .before .before .before .before .before .before .before .list-of .kept .1 .1 .0 ∙ c .before .before .before .before .before .before .before .before .before .before .before .before .before .before .before .before .before .before .before .before .res-path .kept .1 .1 .0
 
--- src/nodes.rt:120:5
 returns : tie.Need-returns
 returns c im k = call-does _ _ (c .before .before .before .before .before .before .before .before .before .before .before .before .before .before .before .before .before .before .before .before .res-path .result .list) (c .before .before .before .before .before .before .before .before .before .before .before .before .before .list-of .result .list) _ _ (c .before .before .before .before .before .before .before .before .before .before .before .before .before .before .before .before .before .before .before .before .res-path .ensures im k) (c .before .before .before .before .before .before .before .before .before .before .before .before .before .list-of .ensures im k) (c .before .before .before .before .before .before .list-word .ensures) (c .before .before .before .before .before .list-word2 .ensures) (c .before .before .new-expression .ensures im k _ row-call)
 

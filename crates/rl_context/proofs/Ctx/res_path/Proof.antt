@@ -4,39 +4,30 @@ use mathlib.Core.Path.{_∙_}
 use Rattle.rl_context.proofs.Ctx.res_path.Statement.{statement}
 use Rattle.rl_context.proofs.Ctx.res_path.Tie as tie
 
--- src/nodes.rt:104:52
 slice-aggregate-push-text : tie.Need-slice-aggregate-push-text
 slice-aggregate-push-text c = search needs
 
--- src/nodes.rt:104:13
 push-text-requires : tie.Need-push-text-requires
 push-text-requires c κs = search needs
 
--- src/nodes.rt:105:55
 slice-aggregate-push-text-2 : tie.Need-slice-aggregate-push-text-2
 slice-aggregate-push-text-2 c = search needs
 
--- src/nodes.rt:105:13
 push-text-requires-2 : tie.Need-push-text-requires-2
 push-text-requires-2 c κs = search needs
 
--- src/nodes.rt:106:13
 push-text-requires-3 : tie.Need-push-text-requires-3
 push-text-requires-3 c κs = search needs
 
--- src/nodes.rt:107:9
 new-list-requires : tie.Need-new-list-requires
 new-list-requires c κs = search needs
 
--- src/nodes.rt:100:5
 same-length : tie.Need-same-length
 same-length c = c .before .before .new-list .kept .1 .0 ∙ c .before .before .before .before .before .before .before .before .before .push-text3 .kept .1 .0 ∙ c .before .before .before .before .before .before .before .before .before .before .before .before .before .before .before .before .push-text2 .kept .1 .0 ∙ c .before .before .before .before .before .before .before .before .before .before .before .before .before .before .before .before .before .before .before .before .before .before .before .before .push-text .kept .1 .0
 
--- src/nodes.rt:100:5
 same-length-2 : tie.Need-same-length-2
 same-length-2 c = c .before .before .before .before .before .before .before .before .before .push-text3 .kept .1 .1 .0 ∙ c .before .before .before .before .before .before .before .before .before .before .before .before .before .before .before .before .push-text2 .kept .1 .1 .0 ∙ c .before .before .before .before .before .before .before .before .before .before .before .before .before .before .before .before .before .before .before .before .before .before .before .before .push-text .kept .1 .1 .0
 
--- src/nodes.rt:100:5
 returns : tie.Need-returns
 returns c im k = path-does _ (c .before .before .before .before .before .before .before .before .before .before .before .before .before .before .before .before .before .before .before .before .before .before .before .before .push-text .ensures im k) (c .before .before .before .before .before .before .before .before .before .before .before .before .before .before .before .before .push-text2 .ensures im k) (c .before .before .before .before .before .before .before .before .before .push-text3 .ensures im k) (c .before .before .new-list .ensures)
 

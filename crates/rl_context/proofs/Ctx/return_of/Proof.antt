@@ -3,19 +3,15 @@ use Rattle.rl_context.proofs.StatementsMade.{return-of-does}
 use Rattle.rl_context.proofs.Ctx.return_of.Statement.{statement}
 use Rattle.rl_context.proofs.Ctx.return_of.Tie as tie
 
--- src/nodes.rt:169:13
 ident-requires : tie.Need-ident-requires
 ident-requires c κs = search needs
 
--- src/nodes.rt:171:9
 return-statement-requires : tie.Need-return-statement-requires
 return-statement-requires c κs = search needs
 
--- src/nodes.rt:166:5
 same-length : tie.Need-same-length
 same-length c = search needs
 
--- src/nodes.rt:166:5
 returns : tie.Need-returns
 returns c im w = return-of-does _ (c .before .before .before .before .before .before .ident .ensures im 0 w) (c .before .before .return-statement .ensures im 0 w)
 

@@ -4,31 +4,24 @@ use Rattle.rl_context.proofs.NodesMade.{str-does}
 use Rattle.rl_context.proofs.Ctx.str_lit.Statement.{statement}
 use Rattle.rl_context.proofs.Ctx.str_lit.Tie as tie
 
--- src/nodes.rt:41:13
 new-text-requires : tie.Need-new-text-requires
 new-text-requires c κs = search needs
 
--- src/nodes.rt:43:22
 cast-t9 : tie.Need-cast-t9
 cast-t9 c = search needs
 
--- src/nodes.rt:43:39
 cast-t10 : tie.Need-cast-t10
 cast-t10 c = search needs
 
--- src/nodes.rt:44:50
 slice-aggregate-new-expression : tie.Need-slice-aggregate-new-expression
 slice-aggregate-new-expression c = search needs
 
--- src/nodes.rt:44:9
 new-expression-requires : tie.Need-new-expression-requires
 new-expression-requires c κs = search needs
 
--- src/nodes.rt:38:5
 same-length : tie.Need-same-length
 same-length c = search needs
 
--- src/nodes.rt:38:5
 returns : tie.Need-returns
 returns c im k w = str-does _ (c .before .before .before .before .before .before .before .before .before .before .new-text .ensures im k w) (c .before .before .new-expression .ensures im k w row-string)
 

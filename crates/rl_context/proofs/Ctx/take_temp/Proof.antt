@@ -5,19 +5,15 @@ use Rattle.rl_context.proofs.Ctx.take_temp.Tie as tie
 
 ruleset laws = (temp-full, temp-many, temp-taken)
 
--- src/lib.rt:140:13
 returns : tie.Need-returns
 returns c im s w = search (laws, needs)
 
--- src/lib.rt:144:13
 returns-2 : tie.Need-returns-2
 returns-2 c im s w = search (laws, needs)
 
--- src/lib.rt:146:29
 add-self : tie.Need-add-self
 add-self c = search needs
 
--- src/lib.rt:135:5
 returns-3 : tie.Need-returns-3
 returns-3 c im s w = search (laws, needs)
 

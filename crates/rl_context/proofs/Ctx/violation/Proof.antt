@@ -3,39 +3,30 @@ use Rattle.rl_context.proofs.StatementsMade.{violation-returns, violati
 use Rattle.rl_context.proofs.Ctx.violation.Statement.{statement}
 use Rattle.rl_context.proofs.Ctx.violation.Tie as tie
 
--- src/nodes.rt:177:13
 err-lit-requires : tie.Need-err-lit-requires
 err-lit-requires c κs = search needs
 
--- src/nodes.rt:180:13
 return-statement-requires : tie.Need-return-statement-requires
 return-statement-requires c κs = search needs
 
--- src/nodes.rt:180:13
 same-length : tie.Need-same-length
 same-length c = search needs
 
--- src/nodes.rt:180:13
 returns : tie.Need-returns
 returns c im = violation-returns _ (c .before .before .before .before .before .before .before .before .err-lit .ensures im 0 _) (c .before .before .before .before .if1 .taken) (c .before .before .return-statement .ensures im 0 _)
 
--- src/nodes.rt:182:13
 unwrap-call-requires : tie.Need-unwrap-call-requires
 unwrap-call-requires c κs = search needs
 
--- src/nodes.rt:183:9
 expression-statement-requires : tie.Need-expression-statement-requires
 expression-statement-requires c κs = search needs
 
--- src/nodes.rt:174:5
 same-length-2 : tie.Need-same-length-2
 same-length-2 c = search needs
 
--- src/nodes.rt:174:5
 same-length-3 : tie.Need-same-length-3
 same-length-3 c = search needs
 
--- src/nodes.rt:174:5
 returns-2 : tie.Need-returns-2
 returns-2 c im = violation-aborts _ (c .before .before .before .before .before .before .before .before .before .before .before .before .before .before .before .err-lit .ensures im 0 _) (c .before .before .before .before .before .before .before .before .before .before .before .if1 .left) (c .before .before .before .before .before .before .before .before .unwrap-call .ensures im 0) (c .before .before .expression-statement .ensures im 0 _)
 

@@ -4,23 +4,18 @@ use Rattle.rl_context.proofs.NodesMade.{list-word}
 use Rattle.rl_context.proofs.nodes.list_word.Statement.{statement}
 use Rattle.rl_context.proofs.nodes.list_word.Tie as tie
 
--- src/nodes.rt:20:6
 cast-result : tie.Need-cast-result
 cast-result c = search needs
 
--- src/nodes.rt:20:36
 cast-result-2 : tie.Need-cast-result-2
 cast-result-2 c = search needs
 
--- src/nodes.rt:20:27
 mul-result : tie.Need-mul-result
 mul-result c = search needs
 
--- src/nodes.rt:20:5
 add-result : tie.Need-add-result
 add-result c = search needs
 
--- src/nodes.rt:17:1
 returns : tie.Need-returns
 returns c = list-word (c .before .before .args .list) _ (search needs) refl
 

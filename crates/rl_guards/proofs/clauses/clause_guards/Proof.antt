@@ -17,55 +17,42 @@ abbrev μ-loop : tie.MeasureT-loop
 μ-loop image starts counts rows default clauses scratch₀ waiting₀ next₀ i₀ scratch waiting next i =
     clauses .count - i
 
--- src/clauses.rt:54:5
 loop-holds : tie.Need-loop-holds Inv-loop μ-loop
 loop-holds c = search (laws, needs)
 
--- src/clauses.rt:55:48
 cast-clause-at : tie.Need-cast-clause-at Inv-loop μ-loop
 cast-clause-at c = search (laws, needs)
 
--- src/clauses.rt:55:73
 cast-clause-at-2 : tie.Need-cast-clause-at-2 Inv-loop μ-loop
 cast-clause-at-2 c = search (laws, needs)
 
--- src/clauses.rt:55:47
 add-clause-at : tie.Need-add-clause-at Inv-loop μ-loop
 add-clause-at c = search (laws, needs)
 
--- src/clauses.rt:55:13
 clause-at-requires : tie.Need-clause-at-requires Inv-loop μ-loop
 clause-at-requires c κs = search (laws, needs)
 
--- src/clauses.rt:56:13
 clause-guard-requires : tie.Need-clause-guard-requires Inv-loop μ-loop
 clause-guard-requires c κs = search (laws, needs)
 
--- src/clauses.rt:58:9
 push-requires : tie.Need-push-requires Inv-loop μ-loop
 push-requires c κs = search (laws, needs)
 
--- src/clauses.rt:59:9
 add-i : tie.Need-add-i Inv-loop μ-loop
 add-i c = search (laws, needs)
 
--- src/clauses.rt:54:5
 loop-less : tie.Need-loop-less Inv-loop μ-loop
 loop-less c = search (laws, needs)
 
--- src/clauses.rt:54:5
 loop-again : tie.Need-loop-again Inv-loop μ-loop
 loop-again c = guarding-more _ _ _ _ _ _ _ _ _ _ _ _ (c .before .before .before .before .before .before .before .before .before .before .before .before .before .if1 .taken) (c .before .before .before .before .before .before .before .before .before .before .before .before .before .before .before .loop .inv) (c .before .before .before .before .before .before .before .before .before .before .before .clause-at .ensures _) (c .before .before .before .before .before .before .before .before .clause-guard .ensures) (c .before .before .push .ensures _) (c .before .before .before .before .before .before .before .before .clause-guard .kept .1 .1 .1 .1 .1 .1 .0) (c .before .before .push .kept .1 .0 ∙ c .before .before .before .before .before .before .before .before .clause-guard .kept .1 .1 .1 .1 .1 .1 .1 .0)
 
--- src/clauses.rt:49:1
 same-length : tie.Need-same-length Inv-loop μ-loop
 same-length c = search (laws, needs)
 
--- src/clauses.rt:49:1
 same-length-2 : tie.Need-same-length-2 Inv-loop μ-loop
 same-length-2 c = search (laws, needs)
 
--- src/clauses.rt:49:1
 returns : tie.Need-returns Inv-loop μ-loop
 returns c = search (laws, needs)
 

@@ -3,27 +3,21 @@ use Rattle.rl_guards.proofs.GuardLaws.{guarded-does}
 use Rattle.rl_guards.proofs.clauses.guarded.Statement.{statement}
 use Rattle.rl_guards.proofs.clauses.guarded.Tie as tie
 
--- src/clauses.rt:23:9
 negated-requires : tie.Need-negated-requires
 negated-requires c κs = search needs
 
--- src/clauses.rt:24:9
 violation-requires : tie.Need-violation-requires
 violation-requires c κs = search needs
 
--- src/clauses.rt:25:5
 only-if-requires : tie.Need-only-if-requires
 only-if-requires c κs = search needs
 
--- src/clauses.rt:20:1
 same-length : tie.Need-same-length
 same-length c = search needs
 
--- src/clauses.rt:20:1
 same-length-2 : tie.Need-same-length-2
 same-length-2 c = search needs
 
--- src/clauses.rt:20:1
 returns : tie.Need-returns
 returns c im = guarded-does _ _ (c .before .before .before .before .before .before .before .before .before .before .before .before .before .before .before .before .negated .ensures im 0 _) (c .before .before .before .before .before .before .before .before .before .before .before .violation .ensures im) (c .before .before .before .before .only-if .ensures im)
 

@@ -4,19 +4,15 @@ use Rattle.rl_context.proofs.Rows.{row-binary}
 use Rattle.rl_guards.proofs.refinements.comparison.Statement.{statement}
 use Rattle.rl_guards.proofs.refinements.comparison.Tie as tie
 
--- src/refinements.rt:98:52
 slice-aggregate-new-expression : tie.Need-slice-aggregate-new-expression
 slice-aggregate-new-expression c = search needs
 
--- src/refinements.rt:98:5
 new-expression-requires : tie.Need-new-expression-requires
 new-expression-requires c κs = search needs
 
--- src/refinements.rt:94:1
 same-length : tie.Need-same-length
 same-length c = search needs
 
--- src/refinements.rt:94:1
 returns : tie.Need-returns
 returns c im w = comparison-made _ _ _ _ (c .before .before .new-expression .ensures im 0 w row-binary)
 

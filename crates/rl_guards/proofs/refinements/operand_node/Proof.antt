@@ -3,19 +3,15 @@ use Rattle.rl_guards.proofs.Operands.{node-made}
 use Rattle.rl_guards.proofs.refinements.operand_node.Statement.{statement}
 use Rattle.rl_guards.proofs.refinements.operand_node.Tie as tie
 
--- src/refinements.rt:90:44
 slice-aggregate-new-expression : tie.Need-slice-aggregate-new-expression
 slice-aggregate-new-expression c = search needs
 
--- src/refinements.rt:90:5
 new-expression-requires : tie.Need-new-expression-requires
 new-expression-requires c κs = search needs
 
--- src/refinements.rt:86:1
 same-length : tie.Need-same-length
 same-length c = search needs
 
--- src/refinements.rt:86:1
 returns : tie.Need-returns
 returns c im w e l = node-made _ _ _ l (c .before .before .new-expression .ensures im 0 w e)
 

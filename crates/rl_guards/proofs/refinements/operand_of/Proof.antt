@@ -3,67 +3,51 @@ use Rattle.rl_guards.proofs.Operands.{integer-made, str-made, true-made
 use Rattle.rl_guards.proofs.refinements.operand_of.Statement.{statement}
 use Rattle.rl_guards.proofs.refinements.operand_of.Tie as tie
 
--- src/refinements.rt:70:32
 enum-known-operand : tie.Need-enum-known-operand
 enum-known-operand c = search needs
 
--- src/refinements.rt:71:17
 bits-of-int-requires : tie.Need-bits-of-int-requires
 bits-of-int-requires c κs = search needs
 
--- src/refinements.rt:74:28
 enum-known-operand-2 : tie.Need-enum-known-operand-2
 enum-known-operand-2 c = search needs
 
--- src/refinements.rt:74:47
 text-at-requires : tie.Need-text-at-requires
 text-at-requires c κs = search needs
 
--- src/refinements.rt:74:34
 text-operand-requires : tie.Need-text-operand-requires
 text-operand-requires c κs = search needs
 
--- src/refinements.rt:75:29
 enum-known-operand-3 : tie.Need-enum-known-operand-3
 enum-known-operand-3 c = search needs
 
--- src/refinements.rt:77:17
 returns : tie.Need-returns
 returns c im p w = true-made _ _ _ _ (c .before .before .operand3 .given .1) (c .if1 .taken)
 
--- src/refinements.rt:81:30
 enum-known-operand-4 : tie.Need-enum-known-operand-4
 enum-known-operand-4 c = search needs
 
--- src/refinements.rt:81:49
 text-at-requires-2 : tie.Need-text-at-requires-2
 text-at-requires-2 c κs = search needs
 
--- src/refinements.rt:81:36
 text-operand-requires-2 : tie.Need-text-operand-requires-2
 text-operand-requires-2 c κs = search needs
 
--- src/refinements.rt:66:1
 returns-2 : tie.Need-returns-2
 returns-2 c im p w = integer-made _ _ _ _ _ (c .before .before .operand .given .1) (search needs) (c .bits-of-int .ensures .0)
 
--- src/refinements.rt:66:1
 same-length : tie.Need-same-length
 same-length c = search needs
 
--- src/refinements.rt:66:1
 returns-3 : tie.Need-returns-3
 returns-3 c im p w = str-made _ _ _ _ _ (c .before .before .before .before .before .before .operand2 .given .1) (c .before .before .before .before .text-at .ensures p) (c .before .before .text-operand .ensures .0, (c .before .before .text-operand .ensures .1 .0, c .before .before .text-operand .ensures .1 .1 im w))
 
--- src/refinements.rt:66:1
 returns-4 : tie.Need-returns-4
 returns-4 c im p w = false-made _ _ _ _ (c .before .before .operand3 .given .1) (c .if1 .left)
 
--- src/refinements.rt:66:1
 same-length-2 : tie.Need-same-length-2
 same-length-2 c = search needs
 
--- src/refinements.rt:66:1
 returns-5 : tie.Need-returns-5
 returns-5 c im p w = named-made _ _ _ _ _ (c .before .before .before .before .before .before .operand4 .given .1) (c .before .before .before .before .text-at2 .ensures p) (c .before .before .text-operand2 .ensures .0, (c .before .before .text-operand2 .ensures .1 .0, c .before .before .text-operand2 .ensures .1 .1 im w))
 

@@ -7,71 +7,54 @@ use mathlib.Core.Path.{_∙_}
 use Rattle.rl_guards.proofs.refinements.refined.Statement.{statement}
 use Rattle.rl_guards.proofs.refinements.refined.Tie as tie
 
--- src/refinements.rt:105:9
 token-of-requires : tie.Need-token-of-requires
 token-of-requires c κs = search needs
 
--- src/refinements.rt:106:9
 operand-of-requires : tie.Need-operand-of-requires
 operand-of-requires c κs = search needs
 
--- src/refinements.rt:111:9
 operand-node-requires : tie.Need-operand-node-requires
 operand-node-requires c κs = search needs
 
--- src/refinements.rt:112:45
 text-at-requires : tie.Need-text-at-requires
 text-at-requires c κs = search needs
 
--- src/refinements.rt:112:9
 new-text-requires : tie.Need-new-text-requires
 new-text-requires c κs = search needs
 
--- src/refinements.rt:113:13
 cast-t : tie.Need-cast-t
 cast-t c = search needs
 
--- src/refinements.rt:115:9
 operand-node-requires-2 : tie.Need-operand-node-requires-2
 operand-node-requires-2 c κs = search needs
 
--- src/refinements.rt:117:9
 comparison-requires : tie.Need-comparison-requires
 comparison-requires c κs = search needs
 
--- src/refinements.rt:118:9
 str-lit-requires : tie.Need-str-lit-requires
 str-lit-requires c κs = search needs
 
--- src/refinements.rt:121:9
 operand-node-requires-3 : tie.Need-operand-node-requires-3
 operand-node-requires-3 c κs = search needs
 
--- src/refinements.rt:122:9
 operand-node-requires-4 : tie.Need-operand-node-requires-4
 operand-node-requires-4 c κs = search needs
 
--- src/refinements.rt:123:9
 comparison-requires-2 : tie.Need-comparison-requires-2
 comparison-requires-2 c κs = search needs
 
--- src/refinements.rt:124:9
 guarded-requires : tie.Need-guarded-requires
 guarded-requires c κs = search needs
 
--- src/refinements.rt:125:5
 push-requires : tie.Need-push-requires
 push-requires c κs = search needs
 
--- src/refinements.rt:102:1
 same-length : tie.Need-same-length
 same-length c = c .before .before .before .before .before .before .before .before .guarded .kept .1 .1 .0 ∙ c .before .before .before .before .before .before .before .before .before .before .before .before .before .comparison2 .kept .1 .1 .1 .1 .0 ∙ c .before .before .before .before .before .before .before .before .before .before .before .before .before .before .before .before .before .operand-node4 .kept .1 .1 .1 .1 .0 ∙ c .before .before .before .before .before .before .before .before .before .before .before .before .before .before .before .before .before .before .before .before .before .operand-node3 .kept .1 .1 .1 .1 .0 ∙ c .before .before .before .before .before .before .before .before .before .before .before .before .before .before .before .before .before .before .before .before .before .before .before .before .before .before .str-lit .kept .1 .0 ∙ c .before .before .before .before .before .before .before .before .before .before .before .before .before .before .before .before .before .before .before .before .before .before .before .before .before .before .before .before .before .before .comparison .kept .1 .1 .1 .1 .0 ∙ c .before .before .before .before .before .before .before .before .before .before .before .before .before .before .before .before .before .before .before .before .before .before .before .before .before .before .before .before .before .before .before .before .before .before .before .operand-node2 .kept .1 .1 .1 .1 .0 ∙ c .before .before .before .before .before .before .before .before .before .before .before .before .before .before .before .before .before .before .before .before .before .before .before .before .before .before .before .before .before .before .before .before .before .before .before .before .before .before .before .before .before .new-text .kept .1 .0 ∙ c .before .before .before .before .before .before .before .before .before .before .before .before .before .before .before .before .before .before .before .before .before .before .before .before .before .before .before .before .before .before .before .before .before .before .before .before .before .before .before .before .before .before .before .before .before .before .operand-node .kept .1 .1 .1 .1 .0 ∙ c .before .before .before .before .before .before .before .before .before .before .before .before .before .before .before .before .before .before .before .before .before .before .before .before .before .before .before .before .before .before .before .before .before .before .before .before .before .before .before .before .before .before .before .before .before .before .before .before .before .before .before .operand-of .kept .1 .1 .1 .0
 
--- src/refinements.rt:102:1
 same-length-2 : tie.Need-same-length-2
 same-length-2 c = search needs
 
--- src/refinements.rt:102:1
 returns : tie.Need-returns
 returns c im p = refined-done _ _ _ _ _ _ ((c .before .before .before .before .before .before .before .before .before .before .before .before .before .before .before .before .before .before .before .before .before .before .before .before .before .before .before .before .before .before .before .before .before .before .before .before .before .before .before .before .before .before .before .before .before .before .before .before .before .before .before .operand-of .ensures im p []) .leaf) _ _ (c .before .before .before .before .before .before .before .before .before .before .before .before .before .before .before .before .before .before .before .before .before .before .before .before .before .before .before .before .before .before .before .before .before .before .before .before .before .before .before .before .before .before .before .before .before .before .before .before .before .before .before .before .before .token-of .ensures) (c .before .before .before .before .before .before .before .before .before .before .before .before .before .before .before .before .before .before .before .before .before .before .before .before .before .before .before .before .before .before .before .before .before .before .before .before .before .before .before .before .before .before .text-at .ensures p) ((c .before .before .before .before .before .before .before .before .before .before .before .before .before .before .before .before .before .before .before .before .before .before .before .before .before .before .before .before .before .before .before .before .before .before .before .before .before .before .before .before .before .before .before .before .before .before .before .before .before .before .before .operand-of .ensures im p _) .does) (c .before .before .before .before .before .before .before .before .before .before .before .before .before .before .before .before .before .before .before .before .before .before .before .before .before .before .before .before .before .before .before .before .before .before .before .before .before .before .before .before .before .before .before .before .before .before .operand-node .ensures im _ ((c .before .before .before .before .before .before .before .before .before .before .before .before .before .before .before .before .before .before .before .before .before .before .before .before .before .before .before .before .before .before .before .before .before .before .before .before .before .before .before .before .before .before .before .before .before .before .before .before .before .before .before .operand-of .ensures im p []) .row) ((c .before .before .before .before .before .before .before .before .before .before .before .before .before .before .before .before .before .before .before .before .before .before .before .before .before .before .before .before .before .before .before .before .before .before .before .before .before .before .before .before .before .before .before .before .before .before .before .before .before .before .before .operand-of .ensures im p []) .leaf)) (c .before .before .before .before .before .before .before .before .before .before .before .before .before .before .before .before .before .before .before .before .before .before .before .before .before .before .before .before .before .before .before .before .before .before .before .before .before .before .before .before .before .new-text .ensures im 0 _) (c .before .before .before .before .before .before .before .before .before .before .before .before .before .before .before .before .before .before .before .before .before .before .before .before .before .before .before .before .before .before .before .before .before .before .before .operand-node2 .ensures im _ row-identifier anIdentifier) (c .before .before .before .before .before .before .before .before .before .before .before .before .before .before .before .before .before .before .before .before .before .before .before .before .before .before .before .before .before .before .comparison .ensures im _) (c .before .before .before .before .before .before .before .before .before .before .before .before .before .before .before .before .before .before .before .before .before .before .before .before .before .before .str-lit .ensures im 0 _) (c .before .before .before .before .before .before .before .before .before .before .before .before .before .before .before .before .before .before .before .before .before .operand-node3 .ensures im _ row-identifier anIdentifier) (c .before .before .before .before .before .before .before .before .before .before .before .before .before .before .before .before .before .operand-node4 .ensures im _ ((c .before .before .before .before .before .before .before .before .before .before .before .before .before .before .before .before .before .before .before .before .before .before .before .before .before .before .before .before .before .before .before .before .before .before .before .before .before .before .before .before .before .before .before .before .before .before .before .before .before .before .before .operand-of .ensures im p []) .row) ((c .before .before .before .before .before .before .before .before .before .before .before .before .before .before .before .before .before .before .before .before .before .before .before .before .before .before .before .before .before .before .before .before .before .before .before .before .before .before .before .before .before .before .before .before .before .before .before .before .before .before .before .operand-of .ensures im p []) .leaf)) (c .before .before .before .before .before .before .before .before .before .before .before .before .before .comparison2 .ensures im _) (c .before .before .before .before .before .before .before .before .guarded .ensures im) (c .before .before .push .ensures _)
 

@@ -3,59 +3,45 @@ use Rattle.rl_guards.proofs.RefinementLaws.{unrefined-done, refinement-
 use Rattle.rl_guards.proofs.refinements.refinement_guard.Statement.{statement}
 use Rattle.rl_guards.proofs.refinements.refinement_guard.Tie as tie
 
--- src/refinements.rt:132:9
 function-at-requires : tie.Need-function-at-requires
 function-at-requires c κs = search needs
 
--- src/refinements.rt:134:42
 cast-param-at : tie.Need-cast-param-at
 cast-param-at c = search needs
 
--- src/refinements.rt:134:41
 add-param-at : tie.Need-add-param-at
 add-param-at c = search needs
 
--- src/refinements.rt:134:9
 param-at-requires : tie.Need-param-at-requires
 param-at-requires c κs = search needs
 
--- src/refinements.rt:137:39
 enum-told : tie.Need-enum-told
 enum-told c = search needs
 
--- src/refinements.rt:138:36
 enum-known-refinement : tie.Need-enum-known-refinement
 enum-known-refinement c = search needs
 
--- src/refinements.rt:139:17
 default-text-requires : tie.Need-default-text-requires
 default-text-requires c κs = search needs
 
--- src/refinements.rt:140:61
 part-requires : tie.Need-part-requires
 part-requires c κs = search needs
 
--- src/refinements.rt:140:13
 refined-requires : tie.Need-refined-requires
 refined-requires c κs = search needs
 
--- src/refinements.rt:129:1
 returns : tie.Need-returns
 returns c im p h = unrefined-done _ _ _ _ _ (c .before .before .before .before .before .function-at .ensures p) (c .before .before .param-at .ensures p) im _ (c .enum-told .given .1)
 
--- src/refinements.rt:129:1
 same-length : tie.Need-same-length
 same-length c = search needs
 
--- src/refinements.rt:129:1
 same-length-2 : tie.Need-same-length-2
 same-length-2 c = search needs
 
--- src/refinements.rt:129:1
 same-length-3 : tie.Need-same-length-3
 same-length-3 c = search needs
 
--- src/refinements.rt:129:1
 returns-2 : tie.Need-returns-2
 returns-2 c im p h = refinement-done _ _ _ _ _ (c .before .before .before .before .before .before .before .before .before .before .before .before .before .before .before .before .before .before .before .function-at .ensures p) (c .before .before .before .before .before .before .before .before .before .before .before .before .before .before .before .before .param-at .ensures p) _ _ _ _ _ _ (c .before .before .before .before .before .before .before .before .before .before .before .before .before .before .refinement .given .1) h (c .before .before .before .before .before .before .before .before .before .before .before .default-text .ensures .0 p) (c .before .before .before .before .before .before .before .before .before .before .before .default-text .ensures .1 p) (c .before .before .before .before .before .before .before .part .ensures) (c .before .before .before .before .refined .ensures im p)
 

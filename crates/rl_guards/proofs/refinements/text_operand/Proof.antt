@@ -3,19 +3,15 @@ use mathlib.Core.Path.{refl}
 use Rattle.rl_guards.proofs.refinements.text_operand.Statement.{statement}
 use Rattle.rl_guards.proofs.refinements.text_operand.Tie as tie
 
--- src/refinements.rt:56:9
 new-text-requires : tie.Need-new-text-requires
 new-text-requires c κs = search needs
 
--- src/refinements.rt:62:15
 cast-t9 : tie.Need-cast-t9
 cast-t9 c = search needs
 
--- src/refinements.rt:53:1
 same-length : tie.Need-same-length
 same-length c = search needs
 
--- src/refinements.rt:53:1
 returns : tie.Need-returns
 returns c = (refl, (refl, λ im w. c .before .before .before .before .new-text .ensures im 0 w))
 

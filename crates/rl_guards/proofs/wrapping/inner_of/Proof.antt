@@ -3,31 +3,24 @@ use Rattle.rl_guards.proofs.WrapLaws.{inner-unwrapped, inner-plain}
 use Rattle.rl_guards.proofs.wrapping.inner_of.Statement.{statement}
 use Rattle.rl_guards.proofs.wrapping.inner_of.Tie as tie
 
--- src/wrapping.rt:47:9
 ident-requires : tie.Need-ident-requires
 ident-requires c κs = search needs
 
--- src/wrapping.rt:50:9
 unwrap-call-requires : tie.Need-unwrap-call-requires
 unwrap-call-requires c κs = search needs
 
--- src/wrapping.rt:50:9
 same-length : tie.Need-same-length
 same-length c = search needs
 
--- src/wrapping.rt:50:9
 same-length-2 : tie.Need-same-length-2
 same-length-2 c = search needs
 
--- src/wrapping.rt:50:9
 returns : tie.Need-returns
 returns c im = inner-unwrapped _ _ (c .before .before .before .before .before .before .before .before .before .before .ident .ensures im 0 _) (c .before .before .before .before .before .before .before .if1 .taken) (c .before .before .before .before .unwrap-call .ensures im 0)
 
--- src/wrapping.rt:44:1
 same-length-3 : tie.Need-same-length-3
 same-length-3 c = search needs
 
--- src/wrapping.rt:44:1
 returns-2 : tie.Need-returns-2
 returns-2 c im = inner-plain _ _ (c .before .before .before .ident .ensures im 0 _) (c .if1 .left)
 

@@ -4,35 +4,27 @@ use mathlib.Core.Path.{_∙_}
 use Rattle.rl_guards.proofs.wrapping.skip_err.Statement.{statement}
 use Rattle.rl_guards.proofs.wrapping.skip_err.Tie as tie
 
--- src/wrapping.rt:25:9
 ident-requires : tie.Need-ident-requires
 ident-requires c κs = search needs
 
--- src/wrapping.rt:26:9
 is-err-call-requires : tie.Need-is-err-call-requires
 is-err-call-requires c κs = search needs
 
--- src/wrapping.rt:27:9
 return-of-requires : tie.Need-return-of-requires
 return-of-requires c κs = search needs
 
--- src/wrapping.rt:28:9
 only-if-requires : tie.Need-only-if-requires
 only-if-requires c κs = search needs
 
--- src/wrapping.rt:30:5
 push-requires : tie.Need-push-requires
 push-requires c κs = search needs
 
--- src/wrapping.rt:22:1
 same-length : tie.Need-same-length
 same-length c = c .before .before .before .before .before .before .before .before .only-if .kept .1 .0 ∙ c .before .before .before .before .before .before .before .before .before .before .before .before .before .return-of .kept .1 .0 ∙ c .before .before .before .before .before .before .before .before .before .before .before .before .before .before .before .before .before .before .before .is-err-call .kept .1 .0 ∙ c .before .before .before .before .before .before .before .before .before .before .before .before .before .before .before .before .before .before .before .before .before .before .before .before .ident .kept .1 .0
 
--- src/wrapping.rt:22:1
 same-length-2 : tie.Need-same-length-2
 same-length-2 c = c .before .before .push .kept .1 .0 ∙ c .before .before .before .before .before .before .before .before .only-if .kept .1 .1 .0 ∙ c .before .before .before .before .before .before .before .before .before .before .before .before .before .before .before .before .before .before .before .is-err-call .kept .1 .1 .0
 
--- src/wrapping.rt:22:1
 returns : tie.Need-returns
 returns c im = skip-err-does _ (c .before .before .before .before .before .before .before .before .before .before .before .before .before .before .before .before .before .before .before .before .before .before .before .before .ident .ensures im 0 _) (c .before .before .before .before .before .before .before .before .before .before .before .before .before .before .before .before .before .before .before .is-err-call .ensures im 0) (c .before .before .before .before .before .before .before .before .before .before .before .before .before .return-of .ensures im _) (c .before .before .before .before .before .before .before .before .only-if .ensures im) (c .before .before .push .ensures _)
 

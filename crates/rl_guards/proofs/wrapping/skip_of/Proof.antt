@@ -3,23 +3,18 @@ use Rattle.rl_guards.proofs.WrapLaws.{skip-some, skip-none}
 use Rattle.rl_guards.proofs.wrapping.skip_of.Statement.{statement}
 use Rattle.rl_guards.proofs.wrapping.skip_of.Tie as tie
 
--- src/wrapping.rt:38:9
 skip-err-requires : tie.Need-skip-err-requires
 skip-err-requires c κs = search needs
 
--- src/wrapping.rt:38:9
 same-length : tie.Need-same-length
 same-length c = search needs
 
--- src/wrapping.rt:38:9
 same-length-2 : tie.Need-same-length-2
 same-length-2 c = search needs
 
--- src/wrapping.rt:38:9
 returns : tie.Need-returns
 returns c im = skip-some _ _ (c .before .before .before .before .before .before .before .if1 .taken) (c .before .before .before .before .skip-err .ensures im)
 
--- src/wrapping.rt:34:1
 returns-2 : tie.Need-returns-2
 returns-2 c im = skip-none _ _ (c .if1 .left)
 

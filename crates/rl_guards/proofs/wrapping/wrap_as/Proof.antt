@@ -5,59 +5,45 @@ use Rattle.rl_spec.specs.Tree.{ascii}
 use Rattle.rl_guards.proofs.wrapping.wrap_as.Statement.{statement}
 use Rattle.rl_guards.proofs.wrapping.wrap_as.Tie as tie
 
--- src/wrapping.rt:59:9
 declare-requires : tie.Need-declare-requires
 declare-requires c κs = search needs
 
--- src/wrapping.rt:60:9
 push-requires : tie.Need-push-requires
 push-requires c κs = search needs
 
--- src/wrapping.rt:61:9
 skip-of-requires : tie.Need-skip-of-requires
 skip-of-requires c κs = search needs
 
--- src/wrapping.rt:62:9
 inner-of-requires : tie.Need-inner-of-requires
 inner-of-requires c κs = search needs
 
--- src/wrapping.rt:63:42
 slice-aggregate-declare : tie.Need-slice-aggregate-declare
 slice-aggregate-declare c = search needs
 
--- src/wrapping.rt:63:9
 declare-requires-2 : tie.Need-declare-requires-2
 declare-requires-2 c κs = search needs
 
--- src/wrapping.rt:64:9
 push-requires-2 : tie.Need-push-requires-2
 push-requires-2 c κs = search needs
 
--- src/wrapping.rt:65:62
 slice-aggregate-clause-guards : tie.Need-slice-aggregate-clause-guards
 slice-aggregate-clause-guards c = search needs
 
--- src/wrapping.rt:65:9
 clause-guards-requires : tie.Need-clause-guards-requires
 clause-guards-requires c κs = search needs
 
--- src/wrapping.rt:66:9
 return-of-requires : tie.Need-return-of-requires
 return-of-requires c κs = search needs
 
--- src/wrapping.rt:67:5
 push-requires-3 : tie.Need-push-requires-3
 push-requires-3 c κs = search needs
 
--- src/wrapping.rt:56:1
 same-length : tie.Need-same-length
 same-length c = c .before .before .before .before .before .before .return-of .kept .1 .0 ∙ c .before .before .before .before .before .before .before .before .before .before .before .before .clause-guards .kept .1 .1 .1 .1 .1 .1 .0 ∙ c .before .before .before .before .before .before .before .before .before .before .before .before .before .before .before .before .before .before .before .before .before .before .declare2 .kept .1 .0 ∙ c .before .before .before .before .before .before .before .before .before .before .before .before .before .before .before .before .before .before .before .before .before .before .before .before .before .before .before .before .before .inner-of .kept .1 .1 .0 ∙ c .before .before .before .before .before .before .before .before .before .before .before .before .before .before .before .before .before .before .before .before .before .before .before .before .before .before .before .before .before .before .before .before .before .before .before .before .skip-of .kept .1 .1 .0 ∙ c .before .before .before .before .before .before .before .before .before .before .before .before .before .before .before .before .before .before .before .before .before .before .before .before .before .before .before .before .before .before .before .before .before .before .before .before .before .before .before .before .before .before .before .before .before .declare .kept .1 .0
 
--- src/wrapping.rt:56:1
 same-length-2 : tie.Need-same-length-2
 same-length-2 c = c .before .before .push3 .kept .1 .0 ∙ c .before .before .before .before .before .before .before .before .before .before .before .before .clause-guards .kept .1 .1 .1 .1 .1 .1 .1 .0 ∙ c .before .before .before .before .before .before .before .before .before .before .before .before .before .before .before .before .before .before .push2 .kept .1 .0 ∙ c .before .before .before .before .before .before .before .before .before .before .before .before .before .before .before .before .before .before .before .before .before .before .before .before .before .before .before .before .before .inner-of .kept .1 .1 .1 .0 ∙ c .before .before .before .before .before .before .before .before .before .before .before .before .before .before .before .before .before .before .before .before .before .before .before .before .before .before .before .before .before .before .before .before .before .before .before .before .skip-of .kept .1 .1 .1 .0 ∙ c .before .before .before .before .before .before .before .before .before .before .before .before .before .before .before .before .before .before .before .before .before .before .before .before .before .before .before .before .before .before .before .before .before .before .before .before .before .before .before .before .before .push .kept .1 .0
 
--- src/wrapping.rt:56:1
 returns : tie.Need-returns
 unfolding ascii
 returns c q h = wrap-does _ _ _ _ (c .before .before .before .before .before .before .before .before .before .before .before .before .before .before .before .before .before .before .before .before .before .before .before .before .before .before .before .before .before .before .before .before .before .before .before .before .before .before .before .before .before .before .before .before .before .declare .ensures _ 1 _) (c .before .before .before .before .before .before .before .before .before .before .before .before .before .before .before .before .before .before .before .before .before .before .before .before .before .before .before .before .before .before .before .before .before .before .before .before .before .before .before .before .before .push .ensures _) (c .before .before .before .before .before .before .before .before .before .before .before .before .before .before .before .before .before .before .before .before .before .before .before .before .before .before .before .before .before .before .before .before .before .before .before .before .skip-of .ensures _) (c .before .before .before .before .before .before .before .before .before .before .before .before .before .before .before .before .before .before .before .before .before .before .before .before .before .before .before .before .before .inner-of .ensures _) (c .before .before .before .before .before .before .before .before .before .before .before .before .before .before .before .before .before .before .before .before .before .before .declare2 .ensures _ 0 _) (c .before .before .before .before .before .before .before .before .before .before .before .before .before .before .before .before .before .before .push2 .ensures _) (c .before .before .before .before .before .before .before .before .before .before .before .before .clause-guards .ensures q h) (c .before .before .before .before .before .before .return-of .ensures _ _) (c .before .before .push3 .ensures _)

@@ -5,55 +5,42 @@ use mathlib.Core.Path.{refl}
 use Rattle.rl_guards.proofs.wrapping.wrap_return.Statement.{statement}
 use Rattle.rl_guards.proofs.wrapping.wrap_return.Tie as tie
 
--- src/wrapping.rt:74:26
 slice-aggregate-put-text : tie.Need-slice-aggregate-put-text
 slice-aggregate-put-text c = search needs
 
--- src/wrapping.rt:74:40
 slice-aggregate-put-text-2 : tie.Need-slice-aggregate-put-text-2
 slice-aggregate-put-text-2 c = search needs
 
--- src/wrapping.rt:74:9
 put-text-requires : tie.Need-put-text-requires
 put-text-requires c κs = search needs
 
--- src/wrapping.rt:75:26
 slice-aggregate-put-number : tie.Need-slice-aggregate-put-number
 slice-aggregate-put-number c = search needs
 
--- src/wrapping.rt:75:44
 cast-put-number : tie.Need-cast-put-number
 cast-put-number c = search needs
 
--- src/wrapping.rt:75:9
 put-number-requires : tie.Need-put-number-requires
 put-number-requires c κs = search needs
 
--- src/wrapping.rt:76:9
 take-temp-requires : tie.Need-take-temp-requires
 take-temp-requires c κs = search needs
 
--- src/wrapping.rt:78:47
 slice-aggregate-part : tie.Need-slice-aggregate-part
 slice-aggregate-part c = search needs
 
--- src/wrapping.rt:78:42
 part-requires : tie.Need-part-requires
 part-requires c κs = search needs
 
--- src/wrapping.rt:78:5
 wrap-as-requires : tie.Need-wrap-as-requires
 wrap-as-requires c κs = search needs
 
--- src/wrapping.rt:70:1
 same-length : tie.Need-same-length
 same-length c = search needs
 
--- src/wrapping.rt:70:1
 same-length-2 : tie.Need-same-length-2
 same-length-2 c = search needs
 
--- src/wrapping.rt:70:1
 returns : tie.Need-returns
 returns c q h = wrap-return-does _ _ _ (temp-name _ _ _ _ _ _ _ refl (c .before .before .before .before .before .before .before .before .before .before .before .before .before .before .before .put-text .ensures .0) (c .before .before .before .before .before .before .before .before .before .before .before .before .before .before .before .put-text .ensures .1) (c .before .before .before .before .before .before .before .before .before .before .before .put-number .ensures .0) (c .before .before .before .before .before .before .before .before .before .before .before .put-number .ensures .1) (c .before .before .before .before .before .before .before .part .ensures)) (c .before .before .before .before .before .before .before .before .before .take-temp .ensures _ _ _) (c .before .before .before .before .wrap-as .ensures q h)
 

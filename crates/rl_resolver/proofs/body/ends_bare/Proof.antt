@@ -4,39 +4,30 @@ use Rattle.rl_resolver.proofs.Lasts.{none-bare, some-bare}
 use Rattle.rl_resolver.proofs.body.ends_bare.Statement.{statement}
 use Rattle.rl_resolver.proofs.body.ends_bare.Tie as tie
 
--- src/body.rt:96:9
 returns : tie.Need-returns
 returns c fit = none-bare (imageFound (c .before .before .before .before .args .image .now) (c .before .before .before .before .args .starts .now) (c .before .before .before .before .args .counts)) (c .before .before .before .before .args .body) (c .if1 .taken)
 
--- src/body.rt:98:41
 cast-entry-at : tie.Need-cast-entry-at
 cast-entry-at c = search needs
 
--- src/body.rt:98:63
 cast-entry-at-2 : tie.Need-cast-entry-at-2
 cast-entry-at-2 c = search needs
 
--- src/body.rt:98:40
 add-entry-at : tie.Need-add-entry-at
 add-entry-at c = search needs
 
--- src/body.rt:98:40
 sub-entry-at : tie.Need-sub-entry-at
 sub-entry-at c = search needs
 
--- src/body.rt:98:9
 entry-at-requires : tie.Need-entry-at-requires
 entry-at-requires c κs = search needs
 
--- src/body.rt:99:31
 statement-start-requires : tie.Need-statement-start-requires
 statement-start-requires c κs = search needs
 
--- src/body.rt:99:9
 kind-at-requires : tie.Need-kind-at-requires
 kind-at-requires c κs = search needs
 
--- src/body.rt:92:1
 returns-2 : tie.Need-returns-2
 returns-2 c fit = some-bare _ _ _ (c .before .before .before .before .before .before .before .before .before .args .body) fit (c .before .before .before .before .before .if1 .left) _ _ (c .before .before .entry-at .ensures _) (c .before .statement-start .ensures) _ (c .kind-at .ensures)
 

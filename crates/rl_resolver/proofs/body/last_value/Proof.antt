@@ -4,47 +4,36 @@ use Rattle.rl_resolver.proofs.Lasts.{bare-none, value-is}
 use Rattle.rl_resolver.proofs.body.last_value.Statement.{statement}
 use Rattle.rl_resolver.proofs.body.last_value.Tie as tie
 
--- src/body.rt:108:9
 returns : tie.Need-returns
 returns c fit b = absurd (bare-none (imageFound (c .before .before .before .before .args .image .now) (c .before .before .before .before .args .starts .now) (c .before .before .before .before .args .counts)) (c .before .before .before .before .args .body) (c .if1 .taken) b)
 
--- src/body.rt:110:41
 cast-entry-at : tie.Need-cast-entry-at
 cast-entry-at c = search needs
 
--- src/body.rt:110:63
 cast-entry-at-2 : tie.Need-cast-entry-at-2
 cast-entry-at-2 c = search needs
 
--- src/body.rt:110:40
 add-entry-at : tie.Need-add-entry-at
 add-entry-at c = search needs
 
--- src/body.rt:110:40
 sub-entry-at : tie.Need-sub-entry-at
 sub-entry-at c = search needs
 
--- src/body.rt:110:9
 entry-at-requires : tie.Need-entry-at-requires
 entry-at-requires c κs = search needs
 
--- src/body.rt:111:20
 statement-start-requires : tie.Need-statement-start-requires
 statement-start-requires c κs = search needs
 
--- src/body.rt:111:20
 cast-u16-at : tie.Need-cast-u16-at
 cast-u16-at c = search needs
 
--- src/body.rt:111:19
 add-u16-at : tie.Need-add-u16-at
 add-u16-at c = search needs
 
--- src/body.rt:111:5
 u16-at-requires : tie.Need-u16-at-requires
 u16-at-requires c κs = search needs
 
--- src/body.rt:104:1
 returns-2 : tie.Need-returns-2
 returns-2 c fit b = value-is _ _ _ (c .before .before .before .before .before .before .before .before .before .args .body) fit (c .before .before .before .before .before .if1 .left) _ _ (c .before .before .entry-at .ensures _) (c .before .statement-start .ensures) _ (c .u16-at .ensures) b
 

@@ -6,31 +6,24 @@ use Rattle.rl_resolver.proofs.NewBody.{required-inside, ready, body-ins
 use Rattle.rl_resolver.proofs.body.new_body.Statement.{statement}
 use Rattle.rl_resolver.proofs.body.new_body.Tie as tie
 
--- src/body.rt:205:9
 function-at-requires : tie.Need-function-at-requires
 function-at-requires c κs = search needs
 
--- src/body.rt:207:9
 refinement-guards-requires : tie.Need-refinement-guards-requires
 refinement-guards-requires c κs = search needs
 
--- src/body.rt:214:9
 slice-aggregate-clause-guards : tie.Need-slice-aggregate-clause-guards
 slice-aggregate-clause-guards c = search needs
 
--- src/body.rt:209:9
 clause-guards-requires : tie.Need-clause-guards-requires
 clause-guards-requires c κs = search needs
 
--- src/body.rt:222:9
 rest-requires : tie.Need-rest-requires
 rest-requires c κs = search needs
 
--- src/body.rt:223:5
 new-list-requires : tie.Need-new-list-requires
 new-list-requires c κs = search needs
 
--- src/body.rt:192:1
 same-length : tie.Need-same-length
 same-length c =
     let listed = c .before .before in
@@ -39,7 +32,6 @@ same-length c =
     let refined = required .before .before .before .before .before .before .before .before .before .before .before in
     refined .refinement-guards .kept .1 .1 .1 .0
 
--- src/body.rt:192:1
 same-length-2 : tie.Need-same-length-2
 same-length-2 c =
     let listed = c .before .before in
@@ -48,7 +40,6 @@ same-length-2 c =
     let refined = required .before .before .before .before .before .before .before .before .before .before .before in
     listed .new-list .kept .1 .0 ∙ rest .rest .kept .1 .1 .1 .1 .1 .1 .0 ∙ required .clause-guards .kept .1 .1 .1 .1 .1 .1 .0 ∙ refined .refinement-guards .kept .1 .1 .1 .1 .0
 
--- src/body.rt:192:1
 same-length-3 : tie.Need-same-length-3
 same-length-3 c =
     let listed = c .before .before in
@@ -57,7 +48,6 @@ same-length-3 c =
     let refined = required .before .before .before .before .before .before .before .before .before .before .before in
     rest .rest .kept .1 .1 .1 .1 .1 .1 .1 .0 ∙ required .clause-guards .kept .1 .1 .1 .1 .1 .1 .1 .0 ∙ refined .refinement-guards .kept .1 .1 .1 .1 .1 .0
 
--- src/body.rt:192:1
 returns : tie.Need-returns
 unfolding ascii
 returns c rows there long well fresh =

@@ -3,31 +3,24 @@ use Rattle.rl_resolver.proofs.NewBody.{rest-plain, rest-ensured}
 use Rattle.rl_resolver.proofs.body.rest.Statement.{statement}
 use Rattle.rl_resolver.proofs.body.rest.Tie as tie
 
--- src/body.rt:187:9
 push-entries-requires : tie.Need-push-entries-requires
 push-entries-requires c κs = search needs
 
--- src/body.rt:187:9
 same-length : tie.Need-same-length
 same-length c = search needs
 
--- src/body.rt:187:9
 returns : tie.Need-returns
 returns c r fit = rest-plain _ _ _ _ _ (c .before .before .before .before .if1 .taken) (c .before .before .push-entries .ensures _ _ _)
 
--- src/body.rt:189:5
 ensured-body-requires : tie.Need-ensured-body-requires
 ensured-body-requires c κs = search needs
 
--- src/body.rt:173:1
 same-length-2 : tie.Need-same-length-2
 same-length-2 c = search needs
 
--- src/body.rt:173:1
 same-length-3 : tie.Need-same-length-3
 same-length-3 c = search needs
 
--- src/body.rt:173:1
 returns-2 : tie.Need-returns-2
 returns-2 c r fit = rest-ensured _ _ _ _ _ (c .before .before .before .before .before .before .before .if1 .left) (c .before .before .before .before .ensured-body .ensures r fit)
 

@@ -3,23 +3,18 @@ use Rattle.rl_copy.proofs.Fields.{two-words}
 use Rattle.rl_transform.proofs.rebuild.list_word.Statement.{statement}
 use Rattle.rl_transform.proofs.rebuild.list_word.Tie as tie
 
--- src/rebuild.rt:119:6
 cast-result : tie.Need-cast-result
 cast-result c = search needs
 
--- src/rebuild.rt:119:28
 cast-result-2 : tie.Need-cast-result-2
 cast-result-2 c = search needs
 
--- src/rebuild.rt:119:27
 mul-result : tie.Need-mul-result
 mul-result c = search needs
 
--- src/rebuild.rt:119:5
 add-result : tie.Need-add-result
 add-result c = search needs
 
--- src/rebuild.rt:116:1
 returns : tie.Need-returns
 returns c = two-words _ _ (search needs)
 
