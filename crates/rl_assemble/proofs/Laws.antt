@@ -57,13 +57,6 @@ given-all im out r after h room p =
           ∙ ap (λ b. pick b out (encode im ++ drop (length (encode im)) out)) (sym (le-ltb 65535 (length (encode im)) h));
     }
 
--- in a slice of zeros
-pub given-cleared : (im : Image) (k n : ℕ) (after : List ℕ) → Given im (replicate k 0) n after →
-    after ≡ pick (ltb 65535 (length (encode im))) (replicate k 0) (encode im ++ replicate (k - length (encode im)) 0)
-given-cleared im k n after g =
-    g .bytes
-    ∙ ap (λ r. pick (ltb 65535 (length (encode im))) (replicate k 0) (encode im ++ r)) (drop-replicate (length (encode im)) k 0)
-
 -- ---- the three ways out
 
 module _ (s p : List ℕ) (c : Counts) (ctx : Ctx) (z : List ℕ) (f : ℕ) (list : Interval) (out : List ℕ) where

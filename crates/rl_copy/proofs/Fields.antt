@@ -41,12 +41,6 @@ module _ (s : list.List ℕ) (code place : ℕ) (o : Sort) (e : o ≡ sortOf cod
       go true q k = absurd (subst T q tt)
       go false q k = ap num k
 
-pub nodes-left : (left right : Target) (b : Bool) → b ≡ isNode left → b ≡ true → true ≡ isNode left || isNode right
-nodes-left left right b e t = rw (← e, t) refl
-
-pub nodes-right : (left right : Target) (b : Bool) → b ≡ isNode left → b ≡ false → (r : Bool) → r ≡ isNode right → r ≡ isNode left || isNode right
-nodes-right left right b e t r h = rw (← e, t) h
-
 module _ (sort : Sort) (left right : Target) (n : ℕ) (e : sort ≡ Many left right n) (b : Bool) (q : b ≡ isNode left || isNode right) where
   pub plan-list : b ≡ true → List left right ≡ planOf sort
   plan-list t = sym (ap planOf e ∙ ap (λ z. pick z (List left right) Keep) (sym q ∙ t))

@@ -1,32 +1,27 @@
 -- The new body of a function: the guards of refinements, those of requires, and the body or what stands for it, as one list.
 -- Assumes nothing.
-use Prim.Native.Nat.{ℕ, zero, suc, _+_, _≤_, _<_}
+use Prim.Native.Nat.{ℕ, _+_, _<_}
 use mathlib.Core.Path.{_≡_, refl, ap, sym, _∙_, subst}
 use mathlib.Core.List.{List, [], _∷_, _++_, map, append-assoc}
 use mathlib.Core.Option.{Option, none, some}
 use native.Mathlib.Omega.{arith}
-use native.Mathlib.Nat.{add-zero}
 use lib.ListN.{length}
 use Rattle.rl_spec.specs.declared.Clause.{Clause}
 use Rattle.rl_spec.specs.declared.Counts.{Counts}
 use Rattle.rl_spec.specs.declared.Function.{Function}
 use Rattle.rl_spec.specs.declared.Interval.{Interval}
-use Rattle.rl_spec.specs.declared.Section.the-variants.{Expressions, Statements, Clauses, Functions}
+use Rattle.rl_spec.specs.declared.Section.the-variants.{Expressions, Statements, Functions}
 use Rattle.rl_spec.specs.declared.Target.the-variants.{Statement}
 use Rattle.rl_spec.specs.Bytes.{pick}
-use Rattle.rl_spec.specs.Reading.{Check}
-use Rattle.rl_spec.specs.Image.{pair, Image, sizeOf, entryOf, Entries, WellFormed}
+use Rattle.rl_spec.specs.Image.{pair, Image, sizeOf, entryOf, WellFormed}
 use Rattle.rl_spec.specs.Found.{imageFound}
 use Rattle.rl_spec.specs.Tree.{ascii}
 use Rattle.rl_spec.specs.Records.{clauseAt, functionAt}
 use Rattle.rl_spec.specs.Contracts.{upFrom, isEmpty}
-use Rattle.rl_spec.specs.Functions.{Text}
 use Rattle.rl_spec.specs.Make.{Context, Make, andThen, _>>=_, give, newList, each, flatMap}
 use Rattle.rl_spec.specs.Lower.{clauseGuard, refinementGuard, ensuredBody, desugarFnContracts, paramsIn, requiresIn, ensuresIn, bodyIn, newBody}
 use Rattle.rl_laws.specs.Found.{size-found}
-use Rattle.rl_theorems.specs.Copied.{inside-of}
-use Rattle.rl_theorems.specs.Guarded.{Checks, aCheck}
-use Rattle.rl_theorems.specs.FunctionViews.{clauses-check, function-fits}
+use Rattle.rl_theorems.specs.FunctionViews.{function-fits}
 use Rattle.rl_schema.specs.Codes.{table}
 use Rattle.rl_context.specs.declared.Ctx.{Ctx}
 use Rattle.rl_context.specs.Additions.{none-new, grown, Live}
@@ -35,7 +30,9 @@ use Rattle.rl_context.proofs.Composed.{Keeps, does-then, does-same, does-list}
 use Rattle.rl_context.proofs.More.{More, more-bind, more-give, more-pick, more-each, more-list, keeps-more, keeps-all}
 use Rattle.rl_context.proofs.MoreLower.{more-clause, more-ensured, more-desugar}
 use Rattle.rl_guards.specs.Guards.{Gathers, clausesIn, ConditionsIn}
+use Rattle.rl_guards.proofs.Conditions.{required-in, ensured-in}
 use Rattle.rl_transform.specs.Transforms.{Ready}
+use Rattle.rl_transform.proofs.Loops.{entries-in}
 use Rattle.rl_resolver.specs.Bodies.{Fresh, refinedIn, entriesIn, Waits, BodyFits, restIn}
 use Rattle.rl_resolver.proofs.Lasts.{not-empty}
 use Rattle.rl_resolver.proofs.Beginning.{grown-none}
@@ -62,24 +59,6 @@ module _ (im : Image) (body ensured : Interval) (s t : State) where
 
 -- ---- what a function of a well-formed image refers to is there
 
-next : (a i : ℕ) → a + 1 + i ≡ a + suc i
-next a i = omega arith
-
-conditions-inside : (im : Image) (default : Text) (a n : ℕ) (ks : List (Check Text)) → Checks im default (map (clauseAt im) (upFrom a n)) ks →
-    (i : ℕ) → i < n → clauseAt im (a + i) .condition < sizeOf im Expressions
-unfolding upFrom
-conditions-inside im default a zero ks h i l = absurd (omega arith)
-conditions-inside im default a (suc n) (k ∷ ks) (aCheck x m hs) zero l =
-    subst (λ z. clauseAt im z .condition < sizeOf im Expressions) (sym (add-zero a)) (inside-of x)
-conditions-inside im default a (suc n) (k ∷ ks) (aCheck x m hs) (suc i) l =
-    subst (λ z. clauseAt im z .condition < sizeOf im Expressions) (next a i) (conditions-inside im default (a + 1) n ks hs i (omega arith))
-
-entries-inside : (im : Image) (f n a : ℕ) → Entries im Functions f n a Statement Statement → (i : ℕ) → i < n → entryOf im (a + i) < sizeOf im Statements
-entries-inside im f zero a h i l = absurd (omega arith)
-entries-inside im f (suc n) a h zero l = subst (λ z. entryOf im z < sizeOf im Statements) (sym (add-zero a)) (h .0 .earlier)
-entries-inside im f (suc n) a h (suc i) l =
-    subst (λ z. entryOf im z < sizeOf im Statements) (next a i) (entries-inside im f n (a + 1) (h .1) i (omega arith))
-
 module _ (s p : List ℕ) (c : Counts) (f : ℕ) (there : f < c .functions) (well : WellFormed (imageFound s p c)) where
   abbrev im : Image
   im = imageFound s p c
@@ -87,35 +66,26 @@ module _ (s p : List ℕ) (c : Counts) (f : ℕ) (there : f < c .functions) (wel
   inside : f < sizeOf im Functions
   inside = subst (λ n. f < n) (sym (size-found s p c Functions)) there
 
-  conditions-of : (clauses : Interval) → clauses .first + clauses .count ≤ sizeOf im Clauses → ConditionsIn im clauses (c .expressions)
-  conditions-of clauses h i l =
-      subst (λ n. clauseAt im (clauses .first + i) .condition < n) (size-found s p c Expressions)
-      (conditions-inside im [] (clauses .first) (clauses .count) _ (clauses-check im well [] (clauses .first) (clauses .count) h) i l)
-
-  required-of : ConditionsIn im (functionAt im f .required) (c .expressions)
-  unfolding functionAt
-  required-of = conditions-of (functionAt im f .required) (function-fits im well f inside .required)
-
-  ensured-of : ConditionsIn im (functionAt im f .ensured) (c .expressions)
-  unfolding functionAt
-  ensured-of = conditions-of (functionAt im f .ensured) (function-fits im well f inside .ensured)
-
   body-of : BodyFits s p c (functionAt im f .body)
   unfolding functionAt
   body-of i l =
       subst (λ n. entryOf im (functionAt im f .body .first + i) < n) (size-found s p c Statements)
-      (entries-inside im f (functionAt im f .body .count) (functionAt im f .body .first) (function-fits im well f inside .entries) i l)
+      (entries-in im Functions f (functionAt im f .body .count) (functionAt im f .body .first) Statement (function-fits im well f inside .entries) i l .earlier)
 
   module _ (g : Function) (e : (q : List ℕ) → g ≡ functionAt (imageFound s q c) f) where
     pub required-inside : ConditionsIn im (g .required) (c .expressions)
-    required-inside = subst (λ (h : Function). ConditionsIn im (h .required) (c .expressions)) (sym (e p)) required-of
+    required-inside =
+        subst (λ (h : Function). ConditionsIn im (h .required) (c .expressions)) (sym (e p))
+        (subst (ConditionsIn im (functionAt im f .required)) (size-found s p c Expressions) (required-in im well f inside))
 
     pub ready : (rows : List ℕ) → rows ≡ table → Ready s p c rows (g .ensured)
     ready rows is =
         record {
           rows-are = is;
           well = well;
-          conditions = subst (λ (h : Function). ConditionsIn im (h .ensured) (c .expressions)) (sym (e p)) ensured-of;
+          conditions =
+              subst (λ (h : Function). ConditionsIn im (h .ensured) (c .expressions)) (sym (e p))
+              (subst (ConditionsIn im (functionAt im f .ensured)) (size-found s p c Expressions) (ensured-in im well f inside));
         }
 
     pub body-inside : BodyFits s p c (g .body)

@@ -1,12 +1,14 @@
 -- The loops over a list's statements and arms.
 -- Assumes nothing.
-use Prim.Native.Nat.{ℕ, suc, _+_, _-_, _≤_, _<_}
+use Prim.Native.Nat.{ℕ, zero, suc, _+_, _-_, _≤_, _<_}
 use mathlib.Core.Path.{_≡_, refl, ap, ap₂, sym, _∙_, subst}
 use mathlib.Core.List.{List, [], _∷_, _++_, map, append-assoc}
 use native.Mathlib.Omega.{arith}
 use native.Mathlib.Nat.{add-zero, sub-zero, add-assoc}
 use lib.ListN.{length}
-use Rattle.rl_spec.specs.Image.{Image, entryOf}
+use Rattle.rl_spec.specs.declared.Section.{Section}
+use Rattle.rl_spec.specs.declared.Target.{Target}
+use Rattle.rl_spec.specs.Image.{Image, entryOf, Refers, Entries}
 use Rattle.rl_spec.specs.Contracts.{upFrom}
 use Rattle.rl_spec.specs.Make.{Make, give, each, flatMap}
 use Rattle.rl_context.specs.Does.{State, nothing, one, all, Does, Pushes}
@@ -35,6 +37,16 @@ module _ {A : Type 0} (g : ℕ → A) (a n : ℕ) where
     where
       z : n - i ≡ 0
       z = omega arith
+
+-- ---- an entry of a list that fits
+
+pub entries-in : (im : Image) (o : Section) (i n k : ℕ) (l : Target) → Entries im o i n k l l → (j : ℕ) → j < n → Refers im o i l (entryOf im (k + j))
+entries-in im o i zero k l es j h = absurd (omega arith)
+entries-in im o i (suc n) k l es zero h = subst (λ z. Refers im o i l (entryOf im z)) (sym (add-zero k)) (es .0)
+entries-in im o i (suc n) k l es (suc j) h = subst (λ z. Refers im o i l (entryOf im z)) (next k j) (entries-in im o i n (k + 1) l (es .1) j (omega arith))
+  where
+    next : (a b : ℕ) → a + 1 + b ≡ a + suc b
+    next a b = omega arith
 
 -- ---- each by a list
 

@@ -44,6 +44,7 @@ use Rattle.rl_copy.proofs.Copying.{old-entries}
 use Rattle.rl_copy.proofs.Entries.{two}
 use Rattle.rl_guards.specs.Guards.{Makes, Gathers, clausesIn}
 use Rattle.rl_transform.specs.Transforms.{walkBelow, rebuilt, listField, listPlace, flagField, bodyOf, Ready, ArmsIn, Returns, Below, OneStatement, Conditional, Otherwise, Match, Arms, Body}
+use Rattle.rl_transform.proofs.Loops.{entries-in}
 
 last-loop : (k : ℕ) → 70 ≤ k → k ≤ 74 → (k ≡ 70 → ⊥) → (k ≡ 71 → ⊥) → (k ≡ 72 → ⊥) → (k ≡ 73 → ⊥) → k ≡ 74
 last-loop k a b d e f g = omega arith
@@ -105,10 +106,6 @@ module _ (s p : List ℕ) (c : Counts) (ensured : Interval) where
   module _ (id start kind : ℕ) (h : id < c .statements) (e : start ≡ getD p (c .expressions + id) 0) (q : kind ≡ getD s start 0) where
     is-record : recordOf im Statements id ≡ recordAs s kind start
     is-record = statement-is s p c id start kind h e q
-
-    is-kind : recordOf im Statements id .kind ≡ kind
-    unfolding recordAs
-    is-kind = ap (λ r. r .kind) is-record
 
     as-kind : (k : ℕ) → kind ≡ k → recordOf im Statements id ≡ recordAs s k start
     as-kind k g = is-record ∙ ap (λ z. recordAs s z start) g
@@ -341,14 +338,6 @@ module _ (s p : List ℕ) (c : Counts) (rows : List ℕ) (ensured : Interval) (r
 
   -- ---- a match, and its arms
 
-  entries-in : (i n k : ℕ) (l : Target) → Entries of Statements i n k l l → (j : ℕ) → j < n → Refers of Statements i l (entryOf of (k + j))
-  entries-in i zero k l es j h = absurd (omega arith)
-  entries-in i (suc n) k l es zero h = subst (λ z. Refers of Statements i l (entryOf of z)) (sym (add-zero k)) (es .0)
-  entries-in i (suc n) k l es (suc j) h = subst (λ z. Refers of Statements i l (entryOf of z)) (next k j) (entries-in i n (k + 1) l (es .1) j (omega arith))
-    where
-      next : (a b : ℕ) → a + 1 + b ≡ a + suc b
-      next a b = omega arith
-
   arm-body : (limit x : ℕ) → x < c .statements → recordOf of Statements x .kind ≡ 76 → transformArmBy (walkBelow clauses limit) (recordOf of Statements x) ≡ bodyOf (walkBelow clauses limit) (recordOf of Statements x)
   unfolding recordAs fieldsAt fieldsOf fieldsIn schema sortOf stmt
   arm-body limit x h k = subst (λ r. transformArmBy (walkBelow clauses limit) r ≡ bodyOf (walkBelow clauses limit) r) (sym is-76) refl
@@ -400,7 +389,7 @@ module _ (s p : List ℕ) (c : Counts) (rows : List ℕ) (ensured : Interval) (r
 
       pub arms-in : ArmsIn s p c a n
       arms-in i l =
-          (omega (arith, entries-in id n a Arm (arms-fit .1) i l .earlier), eqb-true (recordOf of Statements (entryOf of (a + i)) .kind) 76 (entries-in id n a Arm (arms-fit .1) i l .taken))
+          (omega (arith, entries-in of Statements id n a Arm (arms-fit .1) i l .earlier), eqb-true (recordOf of Statements (entryOf of (a + i)) .kind) 76 (entries-in of Statements id n a Arm (arms-fit .1) i l .taken))
 
       pub match-done : (t u v z : State) (waits word index : ℕ) (list : Interval) → waits ≡ t .ctx .waiting → Arms s p c ensured id a n t u → Listed waits u list v →
           pair (word % 65536) (word / 65536) ≡ pair (list .first) (list .count) → Makes of (append Statements (rebuilt (recordOf of Statements id) 2 word 7 0 ∷ [])) v index z → Match s p c ensured id t index z
