@@ -33,7 +33,7 @@ use Rattle.rl_spec.specs.Runner.{outcomeIn, allHave, given, valuesOf, ranIn, ru
 use Rattle.rl_theorems.specs.Answers.{lowered-encoded, bytes-by, well-formed-by}
 use Rattle.rl_theorems.specs.LowerFrame.{Clean, begins, CleanChecks}
 use Rattle.rl_theorems.specs.LowerBodies.{Ensured}
-use Rattle.rl_theorems.specs.LoweredRuns.{CleanOption, CleanStmt, CleanBody, CleanTexts, Premises}
+use Rattle.rl_theorems.specs.LoweredRuns.{Premises}
 use Rattle.rl_theorems.specs.MarkedImages.{made as a, bool, identifier, parameter, clause, function, build}
 use Rattle.rl_theorems.specs.LowerExamples.{loop-and-last, loop-and-last-lowered, loop-and-last-whole, lowering, running}
 use Rattle.rl_theorems.specs.Marked.{decoding, measuring}
@@ -180,12 +180,12 @@ answering = tt
 
 -- both meet the premises
 echo-premises : Premises (contractFunction (imageOf (encode echo)) 0)
-unfolding answering CleanTexts CleanChecks CleanStmt CleanOption Clean begins
-echo-premises = record { params = (refl, tt); entry = (tt, tt, tt); ensures = tt; body = (refl, tt); last = tt }
+unfolding answering CleanChecks
+echo-premises = record { ensures = tt; last = tt }
 
 ret-premises : Premises (contractFunction (imageOf (encode (promising "ret"))) 0)
-unfolding answering CleanTexts CleanChecks CleanStmt CleanOption Clean begins
-ret-premises = record { params = tt; entry = tt; ensures = (refl, tt, tt); body = (tt, tt); last = tt }
+unfolding answering CleanChecks Clean begins
+ret-premises = record { ensures = (refl, tt, tt); last = tt }
 
 -- on the text "x"
 pub echo-example : (o : Outcome) × (n : ℕ) × (runs echo-lowered (text 2) ≡ Ran o n) × ((outcomeIn echo-lowered o, n) ≡ reads echo (text 2))
@@ -230,17 +230,17 @@ pub last-needed : (runs loop-and-last-lowered nothing ≡ Ran yes 9) × (reads l
 unfolding answering
 last-needed = (refl, refl)
 
--- the last two meet the rest
+-- the last two meet the other premise
 abbrev looking : Function Text
 looking = contractFunction (promising "__ensure_ret_0") 0
 
 abbrev trailing : Function Text
 trailing = contractFunction loop-and-last 0
 
-looking-rest : CleanTexts (looking .params) × CleanChecks (looking .entry) × CleanBody (looking .body) × Ensured (looking .ensures) (looking .body)
-unfolding answering CleanTexts CleanChecks CleanStmt CleanOption Clean begins
-looking-rest = (tt, tt, (tt, tt), tt)
+looking-last : Ensured (looking .ensures) (looking .body)
+unfolding answering
+looking-last = tt
 
-trailing-rest : CleanTexts (trailing .params) × CleanChecks (trailing .entry) × CleanChecks (trailing .ensures) × CleanBody (trailing .body)
-unfolding answering CleanTexts CleanChecks CleanStmt CleanOption Clean begins
-trailing-rest = (tt, tt, (refl, tt, tt), ((tt, tt), (tt, tt)))
+trailing-ensures : CleanChecks (trailing .ensures)
+unfolding answering CleanChecks Clean begins
+trailing-ensures = (refl, tt, tt)

@@ -19,7 +19,7 @@ use Rattle.rl_spec.specs.Reading.{Check, Function, checks, turns, stmt, body, t
 use Rattle.rl_theorems.specs.LowerTrees.{_⧺_, guards, transformStmt, trailing, withoutLast, lowered}
 use Rattle.rl_theorems.specs.LowerFrame.{begins, Clean, CleanChecks}
 use Rattle.rl_theorems.specs.LowerBodies.{Ensured}
-use Rattle.rl_theorems.specs.LoweredRuns.{CleanOption, CleanStmt, CleanBody, CleanTexts, Premises}
+use Rattle.rl_theorems.specs.LoweredRuns.{Premises}
 
 -- ---- small trees
 
@@ -88,26 +88,12 @@ resultOne =
     }
 
 pub plain-meets : Premises plainOne
-unfolding CleanTexts CleanChecks CleanStmt CleanOption Clean begins ascii
-plain-meets =
-    record {
-      params = (refl, tt);
-      entry = ((refl, tt), tt, tt);
-      ensures = ((refl, tt), tt, tt);
-      body = (
-        ((refl, tt), ((refl, (refl, tt)), tt)),
-        (
-          (((refl, tt), (refl, tt)), (((refl, tt), (tt, tt)), tt)),
-          (refl, tt),
-        ),
-      );
-      last = refl;
-    }
+unfolding CleanChecks Clean begins ascii
+plain-meets = record { ensures = ((refl, tt), tt, tt); last = refl }
 
 pub result-meets : Premises resultOne
-unfolding CleanTexts CleanChecks CleanStmt CleanOption Clean begins ascii
-result-meets =
-    record { params = (refl, tt); entry = tt; ensures = ((refl, tt), tt, tt); body = (refl, tt); last = tt }
+unfolding CleanChecks Clean begins ascii
+result-meets = record { ensures = ((refl, tt), tt, tt); last = tt }
 
 -- ---- what lowering makes of them
 
@@ -178,14 +164,13 @@ given (some e) = true
 pub after-fails : Premises after → ⊥
 after-fails p = true≢false (ap given (p .last))
 
--- each of them meets the rest
-pub five-rest : (c : Check Text) → CleanTexts (five c .params) × CleanChecks (five c .entry) × CleanBody (five c .body) × Ensured (five c .ensures) (five c .body)
-unfolding CleanTexts CleanChecks CleanStmt Clean
-five-rest c = (tt, tt, (tt, tt), tt)
+-- each of them meets the other premise
+pub five-last : (c : Check Text) → Ensured (five c .ensures) (five c .body)
+five-last c = tt
 
-pub after-rest : CleanTexts (after .params) × CleanChecks (after .entry) × CleanChecks (after .ensures) × CleanBody (after .body)
-unfolding CleanTexts CleanChecks CleanStmt Clean begins ascii
-after-rest = (tt, tt, (tt, tt, tt), ((refl, tt), (refl, tt)))
+pub after-ensures : CleanChecks (after .ensures)
+unfolding CleanChecks Clean
+after-ensures = (tt, tt, tt)
 
 -- ---- the list: the run of the lowered function, and the reading
 

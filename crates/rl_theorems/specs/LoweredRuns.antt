@@ -5,58 +5,22 @@ use Prim.Native.Nat.{ℕ}
 use mathlib.Core.Path.{_≡_, refl, ap, sym, _∙_, subst}
 use mathlib.Core.Bool.{Bool}
 use mathlib.Core.List.{List, [], _∷_}
-use mathlib.Core.Option.{Option, none, some}
-use Rattle.rl_spec.specs.Tree.{Expr, ascii}
-use Rattle.rl_spec.specs.Statement.{Stmt, declaration, expression, return, returnAlone, conditional, while, loop, break, continue, otherStatement, Body, nil, _▸_, Branch, branch, Else, noElse, elseBranch, elseConditional}
+use mathlib.Core.Option.{none}
+use Rattle.rl_spec.specs.Tree.{ascii}
+use Rattle.rl_spec.specs.Statement.{Stmt, declaration, expression, return, returnAlone, conditional, while, loop, break, continue, otherStatement, Body, nil, _▸_}
 use Rattle.rl_spec.specs.Functions.{Text}
 use Rattle.rl_spec.specs.Run.{Value}
 use Rattle.rl_spec.specs.Reading.{Check, Function, runFunction, reading}
 use Rattle.rl_theorems.specs.LowerTrees.{_⧺_, temporary, wrapReturn, transformStmt, transformBody, trailing, withoutLast, wrapTrailing, ensured, lowered}
-use Rattle.rl_theorems.specs.LowerFrame.{Free, Clean, CleanChecks}
+use Rattle.rl_theorems.specs.LowerFrame.{CleanChecks}
 use Rattle.rl_theorems.specs.LowerBodies.{NoBareLast, Ensured, append-nil, trailing-no-bare, trailing-append, temporary-reserved}
 use Rattle.rl_theorems.specs.LoweredTo.{BodyTo, stmt-to, body-to, no-bare-to, something-to, EnsuredTo, asIs, wrapped, onlyWrapped, LoweredTo, lowered-to-runs}
 
--- ---- the premises: no name begins with `__ensure_ret_`, whether it is bound, looked up or assigned
+-- ---- the premises: no name in what is ensured begins with `__ensure_ret_`, whether it is looked up or assigned; and, where something is
+-- ensured, a bare last expression is the only statement
 
-unfoldable pub CleanOption : Option (Expr Text) → Type 0
-CleanOption none = Unit {0}
-CleanOption (some e) = Clean e
-
-unfoldable mutual
-  pub CleanStmt : Stmt Text → Type 0
-  CleanStmt (declaration x e) = Free x × Clean e
-  CleanStmt (expression e) = Clean e
-  CleanStmt (return e) = Clean e
-  CleanStmt returnAlone = Unit {0}
-  CleanStmt (conditional b e) = CleanBranch b × CleanElse e
-  CleanStmt (while e b) = Clean e × CleanBody b
-  CleanStmt (loop b) = CleanBody b
-  CleanStmt break = Unit {0}
-  CleanStmt continue = Unit {0}
-  CleanStmt otherStatement = Unit {0}
-
-  pub CleanBody : Body Text → Type 0
-  CleanBody nil = Unit {0}
-  CleanBody (s ▸ b) = CleanStmt s × CleanBody b
-
-  pub CleanBranch : Branch Text → Type 0
-  CleanBranch (branch c b) = CleanOption c × CleanBody b
-
-  pub CleanElse : Else Text → Type 0
-  CleanElse noElse = Unit {0}
-  CleanElse (elseBranch b) = CleanBranch b
-  CleanElse (elseConditional b e) = CleanBranch b × CleanElse e
-
-unfoldable pub CleanTexts : List Text → Type 0
-CleanTexts [] = Unit {0}
-CleanTexts (x ∷ xs) = Free x × CleanTexts xs
-
--- and, where something is ensured, a bare last expression is the only statement. The proof uses `ensures` and `last` alone.
 pub record Premises (f : Function Text) : Type 0 where
-  pub params : CleanTexts (f .params)
-  pub entry : CleanChecks (f .entry)
   pub ensures : CleanChecks (f .ensures)
-  pub body : CleanBody (f .body)
   pub last : Ensured (f .ensures) (f .body)
 
 -- ---- the lowered function is one that the function is lowered to

@@ -377,8 +377,8 @@ module _ (s : List ℕ) (k f room : ℕ) (im′ : Image) (bytes : AllBytes s) (e
     pub first-half-refused : (q : Cause) (p : ℕ) → runOf s k f args budget ≡ run.Refused q p → runOf (encode im′) k f args budget ≡ run.Refused q p
     first-half-refused = FirstHalf.first-half-refused s k f room im′ bytes e args budget texts
 
-    -- otherwise the lowered body's run and the original's contract reading end alike: no name begins with `__ensure_ret_`, and where
-    -- something is ensured a bare last expression is the only statement
+    -- otherwise the lowered body's run and the original's contract reading end alike, where no name in what is ensured begins with
+    -- `__ensure_ret_` and, where something is ensured, a bare last expression is the only statement
     pub first-half : LoweredRuns.Premises (contractFunction (imageOf s) f) → (o : Ending) (n : ℕ) → runOf s k f args budget ≡ run.Ran o n → (o′ : Ending) × (n′ : ℕ) × (runOf (encode im′) k f args budget ≡ run.Ran o′ n′) × ((outcomeIn im′ o′, n′) ≡ readingIn (imageOf s) f (valuesOf (given args)) budget)
     first-half = FirstHalf.first-half s k f room im′ bytes e args budget texts
 

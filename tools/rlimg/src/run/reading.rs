@@ -5,10 +5,10 @@ use super::program::Program;
 use super::values::{shown, Ending, Fault, Shown, Value, NULL};
 use super::{fault, folded, Runner};
 use crate::fold::{self, Folded};
-use crate::image::{Image, Record, NONE};
+use crate::image::{Image, Record, Value as Field, NONE};
 use crate::lower::Contract;
 use crate::prove::refinement;
-use crate::schema::Section;
+use crate::schema::{self, Section, Sort};
 
 /// What a return has checked.
 #[derive(Clone, Copy)]
@@ -35,17 +35,48 @@ enum Message {
 }
 
 /// Whether running the lowered function must be as reading the contract: no
-/// text could be the name of a temporary and, with ensures, a bare last
-/// expression is the only statement.
+/// name in what is ensured could be that of a temporary and, with ensures, a
+/// bare last expression is the only statement.
 pub fn premises_hold(image: &Image, function: usize) -> bool {
-    let mut texts = (0..image.texts.len() as u16).filter_map(|text| image.text_of(text));
     let function = &image.of(Section::Function)[function];
     let (first, count) = function.range(4);
     let body = image.list(first, count).expect("a list of the image");
     let bare = |last: &u16| image.of(Section::Statement)[usize::from(*last)].kind == 65;
     let ensures = Contract::of(image, function).ensures;
-    !texts.any(|text| text.starts_with(b"__ensure_ret_"))
+    let nodes = ensures.iter().flat_map(|clause| [clause.number(0), clause.number(1)]);
+    let nodes = nodes.map(|node| node as u16).filter(|node| *node != NONE);
+    !names_temporary(image, nodes.collect())
         && (ensures.is_empty() || count == 1 || !body.last().is_some_and(bare))
+}
+
+/// Whether one of these expressions looks up or assigns what could be the name
+/// of a temporary.
+fn names_temporary(image: &Image, mut nodes: Vec<u16>) -> bool {
+    let expressions = image.of(Section::Expression);
+    let mut seen = vec![false; expressions.len()];
+    while let Some(node) = nodes.pop() {
+        if std::mem::replace(&mut seen[usize::from(node)], true) {
+            continue;
+        }
+        let record = &expressions[usize::from(node)];
+        let name = || image.text_of(record.number(1) as u16).expect("a text of the image");
+        if matches!(record.kind, 30 | 31 | 39 | 40) && name().starts_with(b"__ensure_ret_") {
+            return true;
+        }
+        let sorts = schema::of_kind(record.kind).expect("a kind of the format").sorts;
+        for (sort, field) in sorts.iter().zip(&record.values) {
+            match field {
+                Field::Number(child) if *sort == Sort::Node => nodes.push(*child as u16),
+                Field::Range(first, count) if sort.is_list() => {
+                    let list = image.list(*first, *count).expect("a list of the image");
+                    let children = list.iter().enumerate().filter(|(at, _)| sort.holds_node(*at));
+                    nodes.extend(children.map(|(_, child)| *child));
+                }
+                _ => {}
+            }
+        }
+    }
+    false
 }
 
 impl Program<'_> {
