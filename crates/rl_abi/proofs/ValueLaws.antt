@@ -17,7 +17,7 @@ use Rattle.rl_spec.specs.declared.Outcome.the-variants as outcome
 use Rattle.rl_spec.specs.declared.Plain.{Plain}
 use Rattle.rl_spec.specs.declared.Value.{Value}
 use Rattle.rl_spec.specs.declared.Value.the-variants.{Plain as Bare}
-use Rattle.rl_spec.specs.Contracts.{upFrom}
+use Rattle.rl_spec.specs.Ranges.{upFrom}
 use Rattle.rl_spec.specs.Runner.{valueSort, valuePayload, valueOfWords}
 use Rattle.rl_abi.specs.Boundary.{isPlain, isValue, areValues, argumentAt, argumentsOf, outcomeWords}
 

@@ -22,7 +22,7 @@ use Rattle.rl_spec.specs.declared.Value.the-variants.{Plain as Bare}
 use Rattle.rl_spec.specs.Bytes.{pick}
 use Rattle.rl_spec.specs.Read.{numberOf}
 use Rattle.rl_spec.specs.Fold.{foldOf, foldNumber, workUnless}
-use Rattle.rl_spec.specs.Contracts.{upFrom}
+use Rattle.rl_spec.specs.Ranges.{upFrom}
 use Rattle.rl_spec.specs.Runner.{valueSort, valuePayload, valueOfWords, runOf, runNumber}
 use Rattle.rl_spec.specs.Words.{sortWordOf, payloadWordOf}
 

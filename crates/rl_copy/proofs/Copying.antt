@@ -18,7 +18,7 @@ use Rattle.rl_spec.specs.Schema.{sortOf, widthOf, fieldsOf}
 use Rattle.rl_spec.specs.Image.{Field, Rec, Image, sizeOf, noRecord, recordsOf, recordOf, fieldOf, entryOf, first, fieldIn, fieldsAt, recordIn, FieldFits, FieldsFit, RecordFits, WellFormed}
 use Rattle.rl_spec.specs.Found.{recordAs, recordFound, imageFound}
 use Rattle.rl_spec.specs.Tree.{descend}
-use Rattle.rl_spec.specs.Contracts.{upFrom}
+use Rattle.rl_spec.specs.Ranges.{upFrom}
 use Rattle.rl_spec.specs.Make.{Context, Make, andThen, _>>=_, give, fail, self, append, made}
 use Rattle.rl_spec.specs.Lower.{isLambda, cloneField, cloneFields, cloneRecord, deepCloneExpr}
 use mir.Syntax.{w64}

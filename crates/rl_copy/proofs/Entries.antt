@@ -21,8 +21,8 @@ use Rattle.rl_spec.specs.Schema.{sortOf, widthOf}
 use Rattle.rl_spec.specs.Image.{Field, num, pair, Image, recordsOf, sizeOf, noRecord, recordOf, fieldOf, first, second, entryOf, isPair, fieldIn, FieldFits, WellFormed}
 use Rattle.rl_spec.specs.Found.{imageFound}
 use Rattle.rl_spec.specs.Tree.{below}
-use Rattle.rl_spec.specs.Records.{interval}
-use Rattle.rl_spec.specs.Contracts.{upFrom, numbersIn}
+use Rattle.rl_spec.specs.Ranges.{interval}
+use Rattle.rl_spec.specs.Ranges.{upFrom, numbersIn}
 use Rattle.rl_spec.specs.Make.{Context, Make, andThen, _>>=_, give, fail, self, newList, entriesOf}
 use Rattle.rl_spec.specs.Lower.{isNode, cloneEntries, cloneField, deepCloneExpr}
 use Rattle.rl_laws.specs.Tests.{by-ltb}

@@ -11,7 +11,7 @@ use Rattle.rl_spec.specs.Bytes.{pick}
 use Rattle.rl_spec.specs.Schema.{sortOf}
 use Rattle.rl_spec.specs.Image.{Image, sizeOf, entryOf, fieldIn, FieldFits, WellFormed}
 use Rattle.rl_spec.specs.Tree.{below}
-use Rattle.rl_spec.specs.Contracts.{upFrom}
+use Rattle.rl_spec.specs.Ranges.{upFrom}
 use Rattle.rl_spec.specs.Make.{Make, give, fail}
 use Rattle.rl_spec.specs.Lower.{isNode, cloneEntries, cloneField, deepCloneExpr}
 use Rattle.rl_encode.specs.Words.{wordField}

@@ -14,7 +14,8 @@ use Rattle.rl_spec.specs.Schema.{fieldsOf}
 use Rattle.rl_spec.specs.Image.{num, Rec, Image, textOf}
 use Rattle.rl_spec.specs.Records.{clauseAt, functionAt}
 use Rattle.rl_spec.specs.Words.{bits64}
-use Rattle.rl_spec.specs.Contracts.{RefineOperand, integer, str, bool, param, ParamRefinement, Param, paramOf, operandOf, numbersIn}
+use Rattle.rl_spec.specs.Ranges.{numbersIn}
+use Rattle.rl_spec.specs.Contracts.{RefineOperand, integer, str, bool, param, ParamRefinement, Param, paramOf, operandOf}
 use Rattle.rl_spec.specs.Make.{Make, _>>=_, give, append, made, newText}
 use Rattle.rl_spec.specs.Lower.{expr, ident, strLit, unwrapCall, violation, onlyIf, guard, refinePredicate, refinementGuard}
 use Rattle.rl_schema.specs.Codes.{codes}

@@ -30,9 +30,9 @@ module _ {X : Type 0} (d : X) (step : ℕ → (ℕ → X) → X) where
   descend-is i = ap (step i) (below-same i d _ _ (λ j l. any-fuel i (suc j) j l (omega arith)))
 
 -- THEOREM: the tree of an expression is its form with the trees of the expressions before it
-pub tree-is : (im : Image) (i : ℕ) → exprTree im i ≡ treeBy (formOf im i) (below i other (exprTree im))
+pub tree-is : (im : Image) (i : ℕ) → exprTree im i ≡ treeBy im (formOf im i) (below i other (exprTree im))
 unfolding exprTree
-tree-is im i = descend-is other (λ n tree. treeBy (formOf im n) tree) i
+tree-is im i = descend-is other (λ n tree. treeBy im (formOf im n) tree) i
 
 -- THEOREM: the item of a statement is its form with the items of the statements before it
 pub item-is : (im : Image) (i : ℕ) → itemTree im i ≡ itemBy im (statementOf im i) (below i (aStatement otherStatement) (itemTree im))

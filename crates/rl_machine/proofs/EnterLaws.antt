@@ -42,7 +42,7 @@ folded-nothing v r e f = rw (e, f) (λ im base rest k env n. refl, λ im b t. tt
 
 abbrev pub Entered : Form → ℕ → State → Type 0
 Entered x at r =
-    ((im : Image) → Enters im (treeBy x (treeUnder im at)) r) × ((im : Image) → EntersRoom im (treeBy x (treeUnder im at)) r)
+    ((im : Image) → Enters im (treeBy im x (treeUnder im at)) r) × ((im : Image) → EntersRoom im (treeBy im x (treeUnder im at)) r)
 
 module _ (x : Form) (at : ℕ) where
   pub enter-null : x ≡ form.Null → Entered x at (Give (Plain Null))

@@ -78,11 +78,11 @@ module _ (im : Image) where
 
   -- a body, run plainly; a function's own `ret` is not read then
   abbrev pub bodyRun : Body ℕ → Run ℕ Flow
-  bodyRun b env n = flows (body (textOf im) 0 plainly b env n)
+  bodyRun b env n = flows (body (textOf im) plainly b env n)
 
   -- a statement once its step is charged
   abbrev pub begunRun : Stmt ℕ → Run ℕ Flow
-  begunRun s env n = flows (stmt (textOf im) 0 plainly s env (suc n))
+  begunRun s env n = flows (stmt (textOf im) plainly s env (suc n))
 
   -- a statement that holds statements
   abbrev pub compound : Stmt ℕ → Run ℕ Flow
@@ -103,7 +103,7 @@ module _ (im : Image) where
 
   -- a body in a scope, where its condition holds
   abbrev pub guarded : Option (Expr ℕ) → Body ℕ → Run ℕ Flow
-  guarded c b = taken (textOf im) 0 c >>= λ t. tested t (λ env n. leaving (length env) (bodyRun b env n))
+  guarded c b = taken (textOf im) c >>= λ t. tested t (λ env n. leaving (length env) (bodyRun b env n))
 
   -- a condition, or none
   abbrev pub conditionIf : Bool → ℕ → Option (Expr ℕ)

@@ -26,8 +26,8 @@ fn push(frame: Frame, node: u16, at: u16) -> State
 
 // What a node of a form comes to, once its step is charged.
 fn entered_form(form: Form, at: u16) -> State
-    ensures { λ r. ⌜ ((im : Image) → Enters im (treeBy form (treeUnder im at)) r) ⌝ }
-    ensures { λ r. ⌜ ((im : Image) → EntersRoom im (treeBy form (treeUnder im at)) r) ⌝ }
+    ensures { λ r. ⌜ ((im : Image) → Enters im (treeBy im form (treeUnder im at)) r) ⌝ }
+    ensures { λ r. ⌜ ((im : Image) → EntersRoom im (treeBy im form (treeUnder im at)) r) ⌝ }
 {
     match form {
         Form::Null => State::Give(Value::Plain(Plain::Null)),

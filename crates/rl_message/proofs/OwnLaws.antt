@@ -34,36 +34,36 @@ use Rattle.rl_message.specs.Own.{textOption}
 -- ---- the text of a String
 
 abbrev StringOf : Form → Option ℕ → Type 0
-StringOf f r = (tree : ℕ → Expr ℕ) → r ≡ stringIn (treeBy f tree)
+StringOf f r = (im : Image) (tree : ℕ → Expr ℕ) → r ≡ stringIn (treeBy im f tree)
 
 -- every form but a literal
 pub no-literal : (f : Form) → OneOf (0 ∷ 2 ∷ 3 ∷ 4 ∷ 5 ∷ 6 ∷ 7 ∷ 8 ∷ 9 ∷ 10 ∷ 11 ∷ []) (tagOf forms.the-type f) → StringOf f none
-no-literal form.Null h tree = refl
-no-literal (form.Literal v) h tree = absurd (miss (0 ∷ 2 ∷ 3 ∷ 4 ∷ 5 ∷ 6 ∷ 7 ∷ 8 ∷ 9 ∷ 10 ∷ 11 ∷ []) 1 tt h)
-no-literal (form.Identifier t) h tree = refl
-no-literal (form.Unary op e) h tree = refl
-no-literal (form.Binary l op r) h tree = refl
-no-literal (form.Grouping e) h tree = refl
-no-literal (form.Assign t e) h tree = refl
-no-literal (form.OkLiteral e) h tree = refl
-no-literal (form.ErrLiteral e) h tree = refl
-no-literal (form.IsErr e) h tree = refl
-no-literal (form.ResultUnwrap e) h tree = refl
-no-literal form.Other h tree = refl
+no-literal form.Null h im tree = refl
+no-literal (form.Literal v) h im tree = absurd (miss (0 ∷ 2 ∷ 3 ∷ 4 ∷ 5 ∷ 6 ∷ 7 ∷ 8 ∷ 9 ∷ 10 ∷ 11 ∷ []) 1 tt h)
+no-literal (form.Identifier t) h im tree = refl
+no-literal (form.Unary op e) h im tree = refl
+no-literal (form.Binary l op r) h im tree = refl
+no-literal (form.Grouping e) h im tree = refl
+no-literal (form.Assign t e) h im tree = refl
+no-literal (form.OkLiteral e) h im tree = refl
+no-literal (form.ErrLiteral e) h im tree = refl
+no-literal (form.IsErr e) h im tree = refl
+no-literal (form.ResultUnwrap e) h im tree = refl
+no-literal form.Other h im tree = refl
 
 module _ (f : Form) (v : Folded) (e : f ≡ form.Literal v) where
   pub no-value : v ≡ Nothing → StringOf f none
-  no-value g tree = rw (e, g) refl
+  no-value g im tree = rw (e, g) refl
 
   -- every value but a text
   pub no-string : (x : ConstVal) → v ≡ Value x → OneOf (0 ∷ 1 ∷ 3 ∷ []) (tagOf const-val.the-type x) → StringOf f none
-  no-string (kind.Int x) g h tree = rw (e, g) refl
-  no-string (kind.Float x) g h tree = rw (e, g) refl
-  no-string (kind.Str x) g h tree = absurd (miss (0 ∷ 1 ∷ 3 ∷ []) 2 tt h)
-  no-string (kind.Bool x) g h tree = rw (e, g) refl
+  no-string (kind.Int x) g h im tree = rw (e, g) refl
+  no-string (kind.Float x) g h im tree = rw (e, g) refl
+  no-string (kind.Str x) g h im tree = absurd (miss (0 ∷ 1 ∷ 3 ∷ []) 2 tt h)
+  no-string (kind.Bool x) g h im tree = rw (e, g) refl
 
   pub a-string : (x : ConstVal) (t : ℕ) → v ≡ Value x → x ≡ kind.Str t → StringOf f (some t)
-  a-string x t g h tree = rw (e, g, h) refl
+  a-string x t g h im tree = rw (e, g, h) refl
 
 -- ---- the text of a message's node
 
@@ -72,7 +72,7 @@ module _ (im : Image) (n : ℕ) where
   no-message e = rw e refl
 
   pub a-message : (n ≡ 65535 → ⊥) → (f : Form) (r : Option ℕ) → f ≡ formOf im n → StringOf f r → r ≡ ownString (messageNode im n)
-  a-message h f r e g = rw (ne-eqb n 65535 h, tree-is im n, ← e) (g _)
+  a-message h f r e g = rw (ne-eqb n 65535 h, tree-is im n, ← e) (g im _)
 
 -- ---- the text of a violation
 

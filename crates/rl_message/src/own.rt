@@ -13,6 +13,7 @@ use rl_spec::Violation;
 ghost use mathlib.Core.Path.{_≡_};
 ghost use mathlib.Core.List.{List};
 ghost use Prim.Native.Nat.{ℕ, _+_};
+ghost use Rattle.rl_spec.specs.Image.{Image};
 ghost use Rattle.rl_spec.specs.Tree.{Expr, treeBy};
 ghost use Rattle.rl_spec.specs.Records.{clauseAt, functionAt};
 ghost use Rattle.rl_spec.specs.Contracts.{messageNode};
@@ -22,7 +23,7 @@ ghost use Rattle.rl_message.specs.Own.{textOption};
 
 // The text of a String.
 fn string_in(form: Form) -> OwnText
-    ensures { λ r. ⌜ ((tree : ℕ → Expr ℕ) → textOption r ≡ stringIn (treeBy form tree)) ⌝ }
+    ensures { λ r. ⌜ ((im : Image) (tree : ℕ → Expr ℕ) → textOption r ≡ stringIn (treeBy im form tree)) ⌝ }
 {
     let Form::Literal(folded) = form else {
         return OwnText::Default;

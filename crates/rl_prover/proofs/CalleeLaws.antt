@@ -19,7 +19,8 @@ use Rattle.rl_spec.specs.Image.{Image, textOf}
 use Rattle.rl_spec.specs.Values.{sameText}
 use Rattle.rl_spec.specs.Found.{imageFound}
 use Rattle.rl_spec.specs.Records.{paramAt, functionAt}
-use Rattle.rl_spec.specs.Contracts.{paramOf, clauseOf, upFrom, numbersIn, refinementOf, isSome, anyRefined, contractsOf, hasContracts, isCallee, calleeAmong}
+use Rattle.rl_spec.specs.Ranges.{upFrom, numbersIn}
+use Rattle.rl_spec.specs.Contracts.{paramOf, clauseOf, refinementOf, isSome, anyRefined, contractsOf, hasContracts, isCallee, calleeAmong}
 use Rattle.rl_names.specs.Names.{Classes}
 use Rattle.rl_prover.specs.declared.callee.Callee.{Callee}
 use Rattle.rl_prover.specs.declared.callee.Callee.the-variants.{Found, Missing}

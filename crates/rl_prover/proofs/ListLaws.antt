@@ -6,7 +6,8 @@ use mathlib.Core.List.{[], _∷_, map}
 use native.Mathlib.Omega.{arith}
 use lib.Dec.{eqb}
 use borrow.Author.Tests.{ne-eqb}
-use Rattle.rl_spec.specs.Contracts.{upFrom, isEmpty}
+use Rattle.rl_spec.specs.Ranges.{upFrom}
+use Rattle.rl_spec.specs.Contracts.{isEmpty}
 
 pub from-start : (k n : ℕ) → upFrom (k + 0) (n - 0) ≡ upFrom k n
 from-start k n =

@@ -16,7 +16,8 @@ use Rattle.rl_spec.specs.Tree.{Expr, exprTree}
 use Rattle.rl_spec.specs.Fold.{Binding, constEval}
 use Rattle.rl_spec.specs.Found.{imageFound}
 use Rattle.rl_spec.specs.Records.{paramAt}
-use Rattle.rl_spec.specs.Contracts.{Param, paramOf, upFrom}
+use Rattle.rl_spec.specs.Ranges.{upFrom}
+use Rattle.rl_spec.specs.Contracts.{Param, paramOf}
 use Rattle.rl_spec.specs.Prove.{bound, bindArguments}
 use Rattle.rl_memory.specs.Memory.{Right}
 use Rattle.rl_names.specs.Names.{Classes}

@@ -17,7 +17,8 @@ use Rattle.rl_spec.specs.Image.{Image, textOf, entryOf}
 use Rattle.rl_spec.specs.Fold.{Binding}
 use Rattle.rl_spec.specs.Found.{imageFound}
 use Rattle.rl_spec.specs.Records.{paramAt, clauseAt}
-use Rattle.rl_spec.specs.Contracts.{Param, ContractClause, paramOf, clauseOf, upFrom}
+use Rattle.rl_spec.specs.Ranges.{upFrom}
+use Rattle.rl_spec.specs.Contracts.{Param, ContractClause, paramOf, clauseOf}
 use Rattle.rl_spec.specs.Prove.{report, failedRefinements, failedRequires, reportEntries}
 use Rattle.rl_prover.specs.Passes.{Passing, paramsIn, argsIn, clausesIn}
 use Rattle.rl_prover.specs.Reports.{Reports}

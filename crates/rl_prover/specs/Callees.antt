@@ -8,7 +8,8 @@ use Rattle.rl_spec.specs.declared.ParamRefinement.{ParamRefinement}
 use Rattle.rl_spec.specs.declared.ParamRefinement.the-variants.{Unrefined, Refined}
 use Rattle.rl_spec.specs.declared.Function.{Function}
 use Rattle.rl_spec.specs.Image.{Image}
-use Rattle.rl_spec.specs.Contracts.{paramOf, numbersIn, anyRefined}
+use Rattle.rl_spec.specs.Ranges.{numbersIn}
+use Rattle.rl_spec.specs.Contracts.{paramOf, anyRefined}
 use Rattle.rl_prover.specs.declared.callee.Callee.{Callee}
 use Rattle.rl_prover.specs.declared.callee.Callee.the-variants.{Found, Missing}
 

@@ -9,7 +9,8 @@ use Rattle.rl_spec.specs.Image.{Image, textOf, entryOf}
 use Rattle.rl_spec.specs.Folded.{foldedOf}
 use Rattle.rl_spec.specs.Tree.{Expr, exprTree}
 use Rattle.rl_spec.specs.Fold.{Binding}
-use Rattle.rl_spec.specs.Contracts.{Param, ContractClause, paramOf, clauseOf, numbersIn}
+use Rattle.rl_spec.specs.Ranges.{numbersIn}
+use Rattle.rl_spec.specs.Contracts.{Param, ContractClause, paramOf, clauseOf}
 use Rattle.rl_spec.specs.Prove.{bound, bindArguments}
 use Rattle.rl_memory.specs.Memory.{Right}
 use Rattle.rl_names.specs.Names.{Classes}

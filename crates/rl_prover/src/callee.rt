@@ -11,7 +11,8 @@ ghost use mathlib.Core.List.{List, map};
 ghost use Prim.Native.Nat.{ℕ};
 ghost use Rattle.rl_spec.specs.Image.{textOf};
 ghost use Rattle.rl_spec.specs.Found.{imageFound};
-ghost use Rattle.rl_spec.specs.Contracts.{numbersIn, paramOf, anyRefined, isCallee, calleeAmong};
+ghost use Rattle.rl_spec.specs.Ranges.{numbersIn};
+ghost use Rattle.rl_spec.specs.Contracts.{paramOf, anyRefined, isCallee, calleeAmong};
 ghost use Rattle.rl_names.specs.Names.{Classes};
 ghost use Rattle.rl_prover.specs.Callees.{isRefined, recorded, calleeIn};
 

@@ -24,7 +24,8 @@ use Rattle.rl_spec.specs.Bytes.{numAt, u16At, u32At}
 use Rattle.rl_spec.specs.Schema.{sortOf, schema, fieldsIn, fieldsOf}
 use Rattle.rl_spec.specs.Image.{pair, fieldsAt}
 use Rattle.rl_spec.specs.Tree.{signed}
-use Rattle.rl_spec.specs.Records.{interval, refineOp, refineOperand, refinementBy, paramAt, clauseAt, functionAt, callAt}
+use Rattle.rl_spec.specs.Ranges.{interval}
+use Rattle.rl_spec.specs.Records.{refineOp, refineOperand, refinementBy, paramAt, clauseAt, functionAt, callAt}
 use Rattle.rl_spec.specs.Found.{callsAt, functionsAt, clausesAt, parametersAt, recordAs, recordFound, imageFound}
 use Rattle.rl_laws.specs.Found.{record-found, record-missing}
 use Rattle.rl_bytes.proofs.Laws.{one, two, four}

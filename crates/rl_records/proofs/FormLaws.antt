@@ -26,7 +26,7 @@ use Rattle.rl_spec.specs.Schema.{sortOf, schema, fieldsIn, fieldsOf}
 use Rattle.rl_spec.specs.Values.{sameText}
 use Rattle.rl_spec.specs.Image.{pair, entryOf, textOf, fieldsAt}
 use Rattle.rl_spec.specs.Tree.{ascii, signed, unsigned, isResPath, callForm, formBy, formOf}
-use Rattle.rl_spec.specs.Records.{interval}
+use Rattle.rl_spec.specs.Ranges.{interval}
 use Rattle.rl_spec.specs.Found.{recordAs, recordFound, imageFound}
 use Rattle.rl_laws.specs.Found.{record-found, record-missing}
 use Rattle.rl_bytes.proofs.Laws.{one, two, four}

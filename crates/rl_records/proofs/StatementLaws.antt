@@ -14,7 +14,7 @@ use Rattle.rl_spec.specs.Bytes.{u16At}
 use Rattle.rl_spec.specs.Schema.{sortOf, schema, fieldsIn, fieldsOf}
 use Rattle.rl_spec.specs.Image.{pair, fieldsAt}
 use Rattle.rl_spec.specs.Statement.{statementBy, statementOf}
-use Rattle.rl_spec.specs.Records.{interval}
+use Rattle.rl_spec.specs.Ranges.{interval}
 use Rattle.rl_spec.specs.Found.{recordAs, recordFound, imageFound}
 use Rattle.rl_laws.specs.Found.{record-found, record-missing}
 use Rattle.rl_bytes.proofs.Laws.{two}

@@ -7,7 +7,7 @@ use lib.ListN.{take, drop}
 use Rattle.rl_spec.specs.declared.Counts.{Counts}
 use Rattle.rl_spec.specs.Bytes.{u16At}
 use Rattle.rl_spec.specs.Image.{pair, entryOf, textOf}
-use Rattle.rl_spec.specs.Records.{interval}
+use Rattle.rl_spec.specs.Ranges.{interval}
 use Rattle.rl_spec.specs.Found.{imageFound}
 use Rattle.rl_laws.specs.Found.{entry-found, entry-missing, text-found, text-missing}
 

@@ -9,7 +9,7 @@ ghost use mathlib.Core.List.{List};
 ghost use Prim.Native.Nat.{ℕ, _+_};
 ghost use Rattle.rl_spec.specs.Bytes.{u16At};
 ghost use Rattle.rl_spec.specs.Image.{pair, entryOf, textOf};
-ghost use Rattle.rl_spec.specs.Records.{interval};
+ghost use Rattle.rl_spec.specs.Ranges.{interval};
 ghost use Rattle.rl_spec.specs.Found.{imageFound};
 
 // The k-th list entry.

@@ -10,7 +10,8 @@ use Rattle.rl_spec.specs.declared.Counts.{Counts}
 use Rattle.rl_spec.specs.declared.Function.{Function}
 use Rattle.rl_spec.specs.Found.{imageFound}
 use Rattle.rl_spec.specs.Records.{clauseAt, functionAt}
-use Rattle.rl_spec.specs.Contracts.{paramOf, numbersIn, anyRefined}
+use Rattle.rl_spec.specs.Ranges.{numbersIn}
+use Rattle.rl_spec.specs.Contracts.{paramOf, anyRefined}
 use Rattle.rl_spec.specs.Lower.{hasContracts}
 use Rattle.rl_prover.proofs.ListLaws.{empty-is}
 

@@ -20,7 +20,8 @@ use Rattle.rl_spec.specs.Image.{Image, recordsOf, sizeOf, noRecord, recordOf, e
 use Rattle.rl_spec.specs.Found.{imageFound}
 use Rattle.rl_spec.specs.Tree.{ascii, number}
 use Rattle.rl_spec.specs.Message.{decimal}
-use Rattle.rl_spec.specs.Contracts.{upFrom, isEmpty}
+use Rattle.rl_spec.specs.Ranges.{upFrom}
+use Rattle.rl_spec.specs.Contracts.{isEmpty}
 use Rattle.rl_spec.specs.Make.{Context, Make, andThen, _>>=_, give, fail, counted, each, flatMap}
 use Rattle.rl_spec.specs.Lower.{ident, unwrapCall, clauseGuard, declare, returnOf, skipErr, wrapAs, wrapReturn, transformStatement, lastOf, wrapTrailing, ensuredBody}
 use Rattle.rl_laws.specs.Tests.{by-eqb}

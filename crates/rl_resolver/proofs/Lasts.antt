@@ -17,7 +17,8 @@ use Rattle.rl_spec.specs.Schema.{sortOf, schema, fieldsIn, fieldsOf}
 use Rattle.rl_spec.specs.Image.{Image, recordOf, entryOf, fieldsAt, recordIn}
 use Rattle.rl_spec.specs.Found.{recordAs, imageFound}
 use Rattle.rl_spec.specs.Tree.{number}
-use Rattle.rl_spec.specs.Contracts.{upFrom, isEmpty}
+use Rattle.rl_spec.specs.Ranges.{upFrom}
+use Rattle.rl_spec.specs.Contracts.{isEmpty}
 use Rattle.rl_spec.specs.Lower.{lastOf}
 use Rattle.rl_copy.proofs.Copying.{kind-in}
 use Rattle.rl_copy.proofs.Entries.{two}

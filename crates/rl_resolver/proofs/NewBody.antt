@@ -17,7 +17,8 @@ use Rattle.rl_spec.specs.Image.{pair, Image, sizeOf, entryOf, WellFormed}
 use Rattle.rl_spec.specs.Found.{imageFound}
 use Rattle.rl_spec.specs.Tree.{ascii}
 use Rattle.rl_spec.specs.Records.{clauseAt, functionAt}
-use Rattle.rl_spec.specs.Contracts.{upFrom, isEmpty}
+use Rattle.rl_spec.specs.Ranges.{upFrom}
+use Rattle.rl_spec.specs.Contracts.{isEmpty}
 use Rattle.rl_spec.specs.Make.{Context, Make, andThen, _>>=_, give, newList, each, flatMap}
 use Rattle.rl_spec.specs.Lower.{clauseGuard, refinementGuard, ensuredBody, desugarFnContracts, paramsIn, requiresIn, ensuresIn, bodyIn, newBody}
 use Rattle.rl_laws.specs.Found.{size-found}

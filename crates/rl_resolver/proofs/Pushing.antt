@@ -12,7 +12,8 @@ use Rattle.rl_spec.specs.declared.Interval.{Interval}
 use Rattle.rl_spec.specs.Image.{Image, entryOf}
 use Rattle.rl_spec.specs.Found.{imageFound}
 use Rattle.rl_spec.specs.Records.{functionAt}
-use Rattle.rl_spec.specs.Contracts.{Param, paramOf, upFrom, numbersIn}
+use Rattle.rl_spec.specs.Ranges.{upFrom, numbersIn}
+use Rattle.rl_spec.specs.Contracts.{Param, paramOf}
 use Rattle.rl_spec.specs.Make.{flatMap}
 use Rattle.rl_context.specs.Does.{State, Pushes}
 use Rattle.rl_context.proofs.Composed.{does-then, does-give, does-push}

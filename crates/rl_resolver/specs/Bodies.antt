@@ -11,7 +11,8 @@ use Rattle.rl_spec.specs.declared.Interval.{Interval}
 use Rattle.rl_spec.specs.Bytes.{pick}
 use Rattle.rl_spec.specs.Image.{Image, sizeOf, entryOf}
 use Rattle.rl_spec.specs.Found.{imageFound}
-use Rattle.rl_spec.specs.Contracts.{paramOf, numbersIn, isEmpty}
+use Rattle.rl_spec.specs.Ranges.{numbersIn}
+use Rattle.rl_spec.specs.Contracts.{paramOf, isEmpty}
 use Rattle.rl_spec.specs.Records.{functionAt}
 use Rattle.rl_spec.specs.Make.{Make, give, flatMap}
 use Rattle.rl_spec.specs.Lower.{lastOf, ensuredBody}

@@ -17,7 +17,7 @@ use Rattle.rl_spec.specs.declared.Value.the-variants.{Plain as Bare}
 use Rattle.rl_spec.specs.Image.{Image}
 use Rattle.rl_spec.specs.Found.{imageFound}
 use Rattle.rl_spec.specs.Records.{paramAt}
-use Rattle.rl_spec.specs.Contracts.{upFrom}
+use Rattle.rl_spec.specs.Ranges.{upFrom}
 use Rattle.rl_spec.specs.Run as run
 use Rattle.rl_spec.specs.Reading.{bindAll}
 use Rattle.rl_spec.specs.Runner.{valueOf, given, valuesOf}

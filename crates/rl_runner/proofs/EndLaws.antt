@@ -25,13 +25,13 @@ use Rattle.rl_spec.specs.Image.{Image, entryOf, textOf}
 use Rattle.rl_spec.specs.Found.{imageFound}
 use Rattle.rl_spec.specs.Folded.{constOf, asConst}
 use Rattle.rl_spec.specs.Records.{functionAt}
-use Rattle.rl_spec.specs.Contracts.{upFrom}
+use Rattle.rl_spec.specs.Ranges.{upFrom}
 use Rattle.rl_spec.specs.Tree.{Expr}
 use Rattle.rl_spec.specs.Statement.{Stmt, declaration, expression, return, returnAlone, conditional, while, loop, break, continue, otherStatement, Body, nil, _▸_, Item, aStatement, bodyFrom, itemTree, bodyTree}
 use Rattle.rl_spec.specs.Run as run
 use Rattle.rl_spec.specs.Run.{Env, Result, got, ended, andThen, leaving, eval}
 use Rattle.rl_spec.specs.Reading as reading
-use Rattle.rl_spec.specs.Reading.{plainly, stmt, body, top, finish, followed, followedTop, bindAll, runFunction}
+use Rattle.rl_spec.specs.Reading.{plainly, stmt, body, top, followed, followedTop, bindAll, runFunction}
 use Rattle.rl_spec.specs.Functions.{plainFunction}
 use Rattle.rl_spec.specs.Runner.{plainOf, valueOf, asPlain, asValue, asOutcome, given, valuesOf, ranOf, ranIn}
 use Rattle.rl_laws.specs.Tests.{by-ltb}
@@ -46,6 +46,10 @@ use Rattle.rl_statements.specs.Bindings.{bounds}
 use Rattle.rl_statements.specs.Lists.{lastReturned, bodyLeft, listRun, Runs}
 use Rattle.rl_runner.specs.Bound.{paramNames, BindsAll}
 use Rattle.rl_runner.specs.Ends.{outcomeAfter}
+
+-- the outcome and the steps used
+abbrev finish : ℕ → Result ℕ (run.Value ℕ) → run.Outcome ℕ × ℕ
+finish budget r = run.used budget (run.ending r)
 
 -- ---- the declared types and the definitions' say the same
 
@@ -94,12 +98,12 @@ module _ (budget : ℕ) where
   module _ (bytes : ℕ → List ℕ) where
     -- a last bare expression gives the value
     last-value : (r : Result ℕ (run.Value ℕ)) →
-        finish bytes 0 budget r ≡ endOf (flows (andThen (andThen r (λ v. run.halt (run.returned v))) (λ f. followed f (body bytes 0 plainly nil))))
+        finish budget r ≡ endOf (flows (andThen (andThen r (λ v. run.halt (run.returned v))) (λ f. followed f (body bytes plainly nil))))
     last-value (got v env n) = refl
     last-value (ended o n) = refl
 
     last-expression : (e : Expr ℕ) (env : Env ℕ) (n : ℕ) →
-        finish bytes 0 budget (top bytes 0 plainly (expression e ▸ nil) env n) ≡ endOf (flows (body bytes 0 plainly (return e ▸ nil) env n))
+        finish budget (top bytes plainly (expression e ▸ nil) env n) ≡ endOf (flows (body bytes plainly (return e ▸ nil) env n))
     unfolding top body stmt
     last-expression e env zero = refl
     last-expression e env (suc n) = last-value (eval bytes e env n)
@@ -108,7 +112,7 @@ module _ (budget : ℕ) where
     nothing = run.give (run.plain run.nothing)
 
     last-flow : (r : Result ℕ reading.Flow) →
-        finish bytes 0 budget (andThen r (λ f. followedTop f nothing)) ≡ endOf (flows (andThen r (λ f. followed f (body bytes 0 plainly nil))))
+        finish budget (andThen r (λ f. followedTop f nothing)) ≡ endOf (flows (andThen r (λ f. followed f (body bytes plainly nil))))
     unfolding body
     last-flow (got reading.onward env n) = refl
     last-flow (got reading.breaks env n) = refl
@@ -116,34 +120,34 @@ module _ (budget : ℕ) where
     last-flow (ended o n) = refl
 
     last-one : (s : Stmt ℕ) (env : Env ℕ) (n : ℕ) →
-        finish bytes 0 budget (top bytes 0 plainly (s ▸ nil) env n) ≡ endOf (flows (body bytes 0 plainly (asReturn s ▸ nil) env n))
+        finish budget (top bytes plainly (s ▸ nil) env n) ≡ endOf (flows (body bytes plainly (asReturn s ▸ nil) env n))
     unfolding top body
-    last-one (declaration x e) env n = last-flow (stmt bytes 0 plainly (declaration x e) env n)
+    last-one (declaration x e) env n = last-flow (stmt bytes plainly (declaration x e) env n)
     last-one (expression e) env n = last-expression e env n
-    last-one (return e) env n = last-flow (stmt bytes 0 plainly (return e) env n)
-    last-one returnAlone env n = last-flow (stmt bytes 0 plainly returnAlone env n)
-    last-one (conditional b e) env n = last-flow (stmt bytes 0 plainly (conditional b e) env n)
-    last-one (while e b) env n = last-flow (stmt bytes 0 plainly (while e b) env n)
-    last-one (loop b) env n = last-flow (stmt bytes 0 plainly (loop b) env n)
-    last-one break env n = last-flow (stmt bytes 0 plainly break env n)
-    last-one continue env n = last-flow (stmt bytes 0 plainly continue env n)
-    last-one otherStatement env n = last-flow (stmt bytes 0 plainly otherStatement env n)
+    last-one (return e) env n = last-flow (stmt bytes plainly (return e) env n)
+    last-one returnAlone env n = last-flow (stmt bytes plainly returnAlone env n)
+    last-one (conditional b e) env n = last-flow (stmt bytes plainly (conditional b e) env n)
+    last-one (while e b) env n = last-flow (stmt bytes plainly (while e b) env n)
+    last-one (loop b) env n = last-flow (stmt bytes plainly (loop b) env n)
+    last-one break env n = last-flow (stmt bytes plainly break env n)
+    last-one continue env n = last-flow (stmt bytes plainly continue env n)
+    last-one otherStatement env n = last-flow (stmt bytes plainly otherStatement env n)
 
     -- a statement, and then the rest
-    first-flow : (b c : Body ℕ) → ((env : Env ℕ) (n : ℕ) → finish bytes 0 budget (top bytes 0 plainly b env n) ≡ endOf (flows (body bytes 0 plainly c env n)))
+    first-flow : (b c : Body ℕ) → ((env : Env ℕ) (n : ℕ) → finish budget (top bytes plainly b env n) ≡ endOf (flows (body bytes plainly c env n)))
         → (r : Result ℕ reading.Flow)
-        → finish bytes 0 budget (andThen r (λ f. followedTop f (top bytes 0 plainly b))) ≡ endOf (flows (andThen r (λ f. followed f (body bytes 0 plainly c))))
+        → finish budget (andThen r (λ f. followedTop f (top bytes plainly b))) ≡ endOf (flows (andThen r (λ f. followed f (body bytes plainly c))))
     first-flow b c h (got reading.onward env n) = h env n
     first-flow b c h (got reading.breaks env n) = refl
     first-flow b c h (got reading.continues env n) = refl
     first-flow b c h (ended o n) = refl
 
     top-ends : (b : Body ℕ) (env : Env ℕ) (n : ℕ) →
-        finish bytes 0 budget (top bytes 0 plainly b env n) ≡ endOf (flows (body bytes 0 plainly (lastReturned b) env n))
+        finish budget (top bytes plainly b env n) ≡ endOf (flows (body bytes plainly (lastReturned b) env n))
     unfolding top body
     top-ends nil env n = refl
     top-ends (s ▸ nil) env n = last-one s env n
-    top-ends (s ▸ (t ▸ b)) env n = first-flow (t ▸ b) (lastReturned (t ▸ b)) (top-ends (t ▸ b)) (stmt bytes 0 plainly s env n)
+    top-ends (s ▸ (t ▸ b)) env n = first-flow (t ▸ b) (lastReturned (t ▸ b)) (top-ends (t ▸ b)) (stmt bytes plainly s env n)
 
 -- ---- the list of a body is its tree
 
@@ -183,7 +187,7 @@ module _ (s p : List ℕ) (c : Counts) (bytes : (i : ℕ) → Fits w8 (getD s i 
   im = imageFound s p c
 
   body-ran : (list : Interval) (e : Held) (budget : ℕ) (r : Ran) → Runs (listRun im 65536 true false false 0 list) e budget r
-      → finish (textOf im) 0 budget (top (textOf im) 0 plainly (bodyTree im list) (bounds e) budget)
+      → finish budget (top (textOf im) plainly (bodyTree im list) (bounds e) budget)
       ≡ (outcomeOf (outcomeAfter (r .flow)), budget - r .left)
   body-ran list e budget r h =
       top-ends budget (textOf im) (bodyTree im list) (bounds e) budget
@@ -201,8 +205,8 @@ module _ (s p : List ℕ) (c : Counts) (bytes : (i : ℕ) → Fits w8 (getD s i 
   function-ran f x args budget e r o k l m b h d =
       ap (λ z. Answered z (budget - r .left)) (d ∙ sym (same-outcome (outcomeAfter (r .flow))))
       ∙ sym
-      (ap (λ z. ranOf (finish (textOf im) 0 budget (andThen (bindAll (paramNames im (z .params)) (valuesOf (given args)) [] budget) (λ _. top (textOf im) 0 plainly (bodyTree im (z .body)))))) (sym (k p))
-      ∙ ap (λ z. ranOf (finish (textOf im) 0 budget (andThen z (λ _. top (textOf im) 0 plainly (bodyTree im (x .body)))))) (b p l (omega (arith, m, ap (λ z. z .params .count) (k p))) budget)
+      (ap (λ z. ranOf (finish budget (andThen (bindAll (paramNames im (z .params)) (valuesOf (given args)) [] budget) (λ _. top (textOf im) plainly (bodyTree im (z .body)))))) (sym (k p))
+      ∙ ap (λ z. ranOf (finish budget (andThen z (λ _. top (textOf im) plainly (bodyTree im (x .body)))))) (b p l (omega (arith, m, ap (λ z. z .params .count) (k p))) budget)
       ∙ ap ranOf (body-ran (x .body) e budget r h))
 
 pub after-onward : (f : Flow) → f ≡ Onward → Returned (Bare Null) ≡ outcomeAfter f

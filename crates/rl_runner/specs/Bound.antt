@@ -6,7 +6,7 @@ use Rattle.rl_spec.specs.declared.Arguments.{Arguments}
 use Rattle.rl_spec.specs.declared.Interval.{Interval}
 use Rattle.rl_spec.specs.Image.{Image}
 use Rattle.rl_spec.specs.Records.{paramAt}
-use Rattle.rl_spec.specs.Contracts.{numbersIn}
+use Rattle.rl_spec.specs.Ranges.{numbersIn}
 use Rattle.rl_spec.specs.Run.{got}
 use Rattle.rl_spec.specs.Reading.{bindAll}
 use Rattle.rl_spec.specs.Runner.{given, valuesOf}

@@ -16,6 +16,7 @@ use Rattle.rl_spec.specs.Image.{Image, sizeOf, entryOf, textOf}
 use Rattle.rl_spec.specs.Values.{RefineOp, sameText}
 use Rattle.rl_spec.specs.Folded.{opOf}
 use Rattle.rl_spec.specs.Tree.{Expr, exprTree}
+use Rattle.rl_spec.specs.Ranges.{numbersIn}
 use Rattle.rl_spec.specs.Records.{paramAt, clauseAt, functionAt, callAt}
 
 pub data RefineOperand (T : Type 0) : Type 0 where
@@ -65,14 +66,6 @@ clauseOf im i =
       condition = exprTree im (clauseAt im i .condition);
       message = messageNode im (clauseAt im i .message);
     }
-
--- n numbers from k on, and those of an interval
-unfoldable pub upFrom : ℕ → ℕ → List ℕ
-upFrom k zero = []
-upFrom k (suc n) = k ∷ upFrom (k + 1) n
-
-abbrev pub numbersIn : Interval → List ℕ
-numbersIn i = upFrom (i .first) (i .count)
 
 unfoldable pub contractsOf : Image → ℕ → FnContracts ℕ
 contractsOf im f =

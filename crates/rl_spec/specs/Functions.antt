@@ -10,9 +10,10 @@ use Rattle.rl_spec.specs.Values.{ConstVal, RefineOp, gt, ge, lt, le, eq,
 use Rattle.rl_spec.specs.Tree.{Expr, null, literal, identifier, unary, binary, grouping, assign, okLiteral, errLiteral, isErr, resultUnwrap, other, ascii}
 use Rattle.rl_spec.specs.Statement.{Stmt, declaration, expression, return, returnAlone, conditional, while, loop, break, continue, otherStatement, Body, nil, _▸_, Branch, branch, Else, noElse, elseBranch, elseConditional, bodyTree}
 use Rattle.rl_spec.specs.Records.{paramAt, functionAt}
-use Rattle.rl_spec.specs.Contracts.{RefineOperand, integer, str, bool, param, ParamRefinement, Param, ContractClause, paramOf, clauseOf, numbersIn}
+use Rattle.rl_spec.specs.Ranges.{numbersIn}
+use Rattle.rl_spec.specs.Contracts.{RefineOperand, integer, str, bool, param, ParamRefinement, Param, ContractClause, paramOf, clauseOf}
 use Rattle.rl_spec.specs.Message.{refinementText}
-use Rattle.rl_spec.specs.Run.{Plain, nothing, folded, Value, plain, ok, err, Outcome, returned, stopped, fault, spent}
+use Rattle.rl_spec.specs.Run.{Plain, nothing, folded, Value, plain, ok, err, Outcome, returned, stopped, fault, spent, used}
 use Rattle.rl_spec.specs.Reading.{Check, Function, reading}
 
 -- ---- another account of the texts
@@ -87,6 +88,7 @@ module _ {A B : Type 0} (f : A → B) where
 unfoldable pub plainFunction : Image → ℕ → Function ℕ
 plainFunction im f =
     record {
+      name = functionAt im f .name;
       params = map (λ i. paramAt im i .name) (numbersIn (functionAt im f .params));
       isResult = functionAt im f .result;
       entry = [];
@@ -146,6 +148,7 @@ clauseCheck im default c =
 unfoldable pub contractFunction : Image → ℕ → Function Text
 contractFunction im f =
     record {
+      name = textOf im (functionAt im f .name);
       params = map (λ i. textOf im (paramAt im i .name)) (numbersIn (functionAt im f .params));
       isResult = functionAt im f .result;
       entry =
@@ -157,4 +160,4 @@ contractFunction im f =
 
 -- THE CONTRACT READING of a function of an image, on values whose texts are the image's
 unfoldable pub readingIn : Image → ℕ → List (Value ℕ) → ℕ → Outcome Text × ℕ
-readingIn im f vs budget = reading (λ t. t) (ascii "ret") (contractFunction im f) (map (mapValue (textOf im)) vs) budget
+readingIn im f vs budget = used budget (reading (λ t. t) (ascii "ret") (contractFunction im f) (map (mapValue (textOf im)) vs) budget)

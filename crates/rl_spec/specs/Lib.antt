@@ -6,6 +6,7 @@ pub mod Read
 pub mod Image
 pub mod Values
 pub mod Folded
+pub mod Ranges
 pub mod Tree
 pub mod Fold
 pub mod Found

@@ -19,7 +19,8 @@ use Rattle.rl_spec.specs.Values.{RefineOp, gt, ge, lt, le, eq, ne}
 use Rattle.rl_spec.specs.Tree.{ascii, number, descend}
 use Rattle.rl_spec.specs.Words.{bits64}
 use Rattle.rl_spec.specs.Records.{clauseAt, functionAt}
-use Rattle.rl_spec.specs.Contracts.{RefineOperand, integer, str, bool, param, ParamRefinement, Param, paramOf, numbersIn, anyRefined, isEmpty}
+use Rattle.rl_spec.specs.Ranges.{numbersIn}
+use Rattle.rl_spec.specs.Contracts.{RefineOperand, integer, str, bool, param, ParamRefinement, Param, paramOf, anyRefined, isEmpty}
 use Rattle.rl_spec.specs.Message.{decimal, refinementText}
 use Rattle.rl_spec.specs.Make.{Context, Make, _>>=_, give, fail, self, takeTemp, each, flatMap, withRecords, append, made, newText, newList, stmt, newStmt, absent, entriesOf}
 

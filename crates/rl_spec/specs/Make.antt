@@ -10,8 +10,8 @@ use Rattle.rl_spec.specs.declared.Section.the-variants.{Texts, Lists, St
 use Rattle.rl_spec.specs.Bytes.{pick}
 use Rattle.rl_spec.specs.Schema.{limits}
 use Rattle.rl_spec.specs.Image.{Field, num, pair, Rec, Image, orderOf, recordsOf, sizeOf, entryOf}
-use Rattle.rl_spec.specs.Records.{interval}
-use Rattle.rl_spec.specs.Contracts.{numbersIn}
+use Rattle.rl_spec.specs.Ranges.{interval}
+use Rattle.rl_spec.specs.Ranges.{numbersIn}
 
 infixl 1 _>>=_
 -- ---- making: from the context to what is made and the context then; none where a limit would be passed

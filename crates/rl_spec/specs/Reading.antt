@@ -1,11 +1,11 @@
 -- Statements and bodies, run plainly or under a contract; a function's plain run, and 01's "Contract reading".
-use Prim.Native.Nat.{ℕ, zero, suc, _-_}
+use Prim.Native.Nat.{ℕ, zero, suc}
 use mathlib.Core.Bool.{Bool, true, false}
 use mathlib.Core.List.{List, [], _∷_}
 use mathlib.Core.Option.{Option, none, some}
 use Rattle.rl_spec.specs.Tree.{Expr}
 use Rattle.rl_spec.specs.Statement.{Stmt, declaration, expression, return, returnAlone, conditional, while, loop, break, continue, otherStatement, Body, nil, _▸_, Branch, branch, Else, noElse, elseBranch, elseConditional}
-use Rattle.rl_spec.specs.Run.{Plain, nothing, Value, plain, ok, err, Bound, named, hidden, Env, Outcome, returned, stopped, Result, got, ended, Run, andThen, _>>=_, _>>_, give, halt, fail, tick, charge, bind, scoped, truth, plainOf, eval}
+use Rattle.rl_spec.specs.Run.{Plain, nothing, Value, plain, ok, err, Bound, named, hidden, Env, Outcome, returned, stopped, Result, got, ended, Ending, ending, Run, andThen, _>>=_, _>>_, give, halt, fail, tick, charge, bind, scoped, truth, plainOf, eval}
 
 -- a condition that must hold, and the message where it does not
 pub record Check (T : Type 0) : Type 0 where
@@ -14,6 +14,7 @@ pub record Check (T : Type 0) : Type 0 where
 
 -- the entry checks are the refinements and then the requires
 pub record Function (T : Type 0) : Type 0 where
+  pub name : T
   pub params : List T
   pub isResult : Bool
   pub entry : List (Check T)
@@ -22,14 +23,14 @@ pub record Function (T : Type 0) : Type 0 where
 
 -- ---- where a return is checked
 
--- a return is plain, or it is checked by a function's ensures
+-- a return is plain, or it is checked by a function's ensures, under this name for the value
 pub data Mode (T : Type 0) : Type 0 where
   plainly : Mode T
-  checked : Bool → List (Check T) → Mode T
+  checked : T → Bool → List (Check T) → Mode T
 
-abbrev pub modeOf : {T : Type 0} → Bool → List (Check T) → Mode T
-modeOf r [] = plainly
-modeOf r (c ∷ cs) = checked r (c ∷ cs)
+abbrev pub modeOf : {T : Type 0} → T → Bool → List (Check T) → Mode T
+modeOf ret r [] = plainly
+modeOf ret r (c ∷ cs) = checked ret r (c ∷ cs)
 
 abbrev pub bare : {T : Type 0} → Stmt T → Option (Expr T)
 bare (declaration x e) = none
@@ -125,7 +126,7 @@ subject true v = do
   charge 3
   give w
 
-module _ {T : Type 0} (bytes : T → List ℕ) (ret : T) where
+module _ {T : Type 0} (bytes : T → List ℕ) where
   abbrev ev : Expr T → Run T (Value T)
   ev = eval bytes
 
@@ -160,8 +161,8 @@ module _ {T : Type 0} (bytes : T → List ℕ) (ret : T) where
   -- ---- a return
 
   -- take one hidden binding; bind `ret`; check the ensures in order; charge 2, return the first value
-  abbrev pub checkedReturn : Bool → List (Check T) → Value T → Run T Flow
-  checkedReturn r cs v = do
+  abbrev pub checkedReturn : T → Bool → List (Check T) → Value T → Run T Flow
+  checkedReturn ret r cs v = do
     bind (hidden v)
     w ← subject r v
     bind (named ret w)
@@ -171,14 +172,14 @@ module _ {T : Type 0} (bytes : T → List ℕ) (ret : T) where
 
   abbrev pub returning : Mode T → Value T → Run T Flow
   returning plainly v = halt (returned v)
-  returning (checked r cs) v = checkedReturn r cs v
+  returning (checked ret r cs) v = checkedReturn ret r cs v
 
   -- Null costs 1 where the return is checked
   abbrev pub returningNull : Mode T → Run T Flow
   returningNull plainly = halt (returned (plain nothing))
-  returningNull (checked r cs) = do
+  returningNull (checked ret r cs) = do
     charge 1
-    checkedReturn r cs (plain nothing)
+    checkedReturn ret r cs (plain nothing)
 
   -- ---- statements: each begun costs 1, a 68's branches 0
 
@@ -264,22 +265,17 @@ module _ {T : Type 0} (bytes : T → List ℕ) (ret : T) where
     f ← stmt m s
     followedTop f (top m (t ▸ b))
 
-  -- ---- functions: the outcome, and the steps used
-
-  abbrev pub finish : ℕ → Result T (Value T) → Outcome T × ℕ
-  finish budget (got v env left) = (returned v, budget - left)
-  finish budget (ended o left) = (o, budget - left)
+  -- ---- functions: the outcome, and the budget that is left
 
   -- THE RUN of a function's body
-  unfoldable pub runFunction : Function T → List (Value T) → ℕ → Outcome T × ℕ
-  runFunction f vs budget = finish budget ((bindAll (f .params) vs >> top plainly (f .body)) [] budget)
+  unfoldable pub runFunction : Function T → List (Value T) → ℕ → Ending T
+  runFunction f vs budget = ending ((bindAll (f .params) vs >> top plainly (f .body)) [] budget)
 
   -- the entry checks, which are passed when all of them held
   abbrev pub entering : Function T → List (Value T) → Run T (Unit {0})
   entering f vs = bindAll (f .params) vs >> checks (f .isResult) (f .entry)
 
-  -- THE CONTRACT READING
-  unfoldable pub reading : Function T → List (Value T) → ℕ → Outcome T × ℕ
-  reading f vs budget =
-      finish budget
-      ((entering f vs >> top (modeOf (f .isResult) (f .ensures)) (bodyUnder (f .ensures) (f .body))) [] budget)
+  -- THE CONTRACT READING; `ret` is the name that the ensures have for the value
+  unfoldable pub reading : T → Function T → List (Value T) → ℕ → Ending T
+  reading ret f vs budget =
+      ending ((entering f vs >> top (modeOf ret (f .isResult) (f .ensures)) (bodyUnder (f .ensures) (f .body))) [] budget)

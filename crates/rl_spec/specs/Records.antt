@@ -16,10 +16,8 @@ use Rattle.rl_spec.specs.declared.Function.{Function}
 use Rattle.rl_spec.specs.declared.Call.{Call}
 use Rattle.rl_spec.specs.Bytes.{pick}
 use Rattle.rl_spec.specs.Image.{Field, Rec, Image, first, second, recordOf, fieldOf}
+use Rattle.rl_spec.specs.Ranges.{interval}
 use Rattle.rl_spec.specs.Tree.{signed, number}
-
-abbrev pub interval : Field → Interval
-interval f = record { first = first f; count = second f }
 
 -- 1 Gt, 2 Ge, 3 Lt, 4 Le, 5 Eq, 6 Ne
 abbrev pub refineOp : ℕ → RefineOp

@@ -43,6 +43,18 @@ pub data Result (T A : Type 0) : Type 0 where
   got : A → Env T → ℕ → Result T A
   ended : Outcome T → ℕ → Result T A
 
+-- how a function's run ends: its outcome, and the budget that is left
+abbrev pub Ending : Type 0 → Type 0
+Ending T = Outcome T × ℕ
+
+abbrev pub ending : {T : Type 0} → Result T (Value T) → Ending T
+ending (got v env left) = (returned v, left)
+ending (ended o left) = (o, left)
+
+-- with the steps used
+abbrev pub used : {T : Type 0} → ℕ → Ending T → Outcome T × ℕ
+used budget e = (e .0, budget - e .1)
+
 abbrev pub Run : Type 0 → Type 0 → Type 0
 Run T A = Env T → ℕ → Result T A
 

@@ -104,7 +104,7 @@ ranOf r = Ran (asOutcome (r .0)) (r .1)
 
 -- the run of a function of an image
 unfoldable pub ranIn : Image → ℕ → List Argument → ℕ → RunAnswer
-ranIn im f vs budget = ranOf (runFunction (textOf im) 0 (plainFunction im f) (valuesOf vs) budget)
+ranIn im f vs budget = ranOf (run.used budget (runFunction (textOf im) (plainFunction im f) (valuesOf vs) budget))
 
 -- as many values as parameters, and no more than sixteen
 abbrev pub isFor : ℕ → ℕ → Bool

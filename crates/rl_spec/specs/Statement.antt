@@ -10,8 +10,8 @@ use Rattle.rl_spec.specs.declared.StatementForm.the-variants.{Declaratio
 use Rattle.rl_spec.specs.Bytes.{pick}
 use Rattle.rl_spec.specs.Image.{Rec, Image, recordOf, fieldOf, entryOf}
 use Rattle.rl_spec.specs.Tree.{Expr, number, descend, exprTree}
-use Rattle.rl_spec.specs.Records.{interval}
-use Rattle.rl_spec.specs.Contracts.{numbersIn}
+use Rattle.rl_spec.specs.Ranges.{interval}
+use Rattle.rl_spec.specs.Ranges.{numbersIn}
 
 infixr 5 _▸_
 mutual

@@ -108,19 +108,19 @@ unfoldable pub descend : {X : Type 0} → X → (ℕ → (ℕ → X) → X) → 
 descend d step i = descendBy d step (suc i) i
 
 -- a form with the trees of its parts
-abbrev pub treeBy : Form → (ℕ → Expr ℕ) → Expr ℕ
-treeBy Null tree = null
-treeBy (Literal v) tree = literal (foldedOf v)
-treeBy (Identifier t) tree = identifier t
-treeBy (Unary op n) tree = unary op (tree n)
-treeBy (Binary l op r) tree = binary (tree l) op (tree r)
-treeBy (Grouping n) tree = grouping (tree n)
-treeBy (Assign t n) tree = assign t (tree n)
-treeBy (OkLiteral n) tree = okLiteral (tree n)
-treeBy (ErrLiteral n) tree = errLiteral (tree n)
-treeBy (IsErr n) tree = isErr (tree n)
-treeBy (ResultUnwrap n) tree = resultUnwrap (tree n)
-treeBy Other tree = other
+abbrev pub treeBy : Image → Form → (ℕ → Expr ℕ) → Expr ℕ
+treeBy im Null tree = null
+treeBy im (Literal v) tree = literal (foldedOf v)
+treeBy im (Identifier t) tree = identifier t
+treeBy im (Unary op n) tree = unary op (tree n)
+treeBy im (Binary l op r) tree = binary (tree l) op (tree r)
+treeBy im (Grouping n) tree = grouping (tree n)
+treeBy im (Assign t n) tree = assign t (tree n)
+treeBy im (OkLiteral n) tree = okLiteral (tree n)
+treeBy im (ErrLiteral n) tree = errLiteral (tree n)
+treeBy im (IsErr n) tree = isErr (tree n)
+treeBy im (ResultUnwrap n) tree = resultUnwrap (tree n)
+treeBy im Other tree = other
 
 unfoldable pub exprTree : Image → ℕ → Expr ℕ
-exprTree im = descend other (λ i tree. treeBy (formOf im i) tree)
+exprTree im = descend other (λ i tree. treeBy im (formOf im i) tree)

@@ -10,7 +10,7 @@ use Rattle.rl_spec.specs.declared.Interval.{Interval}
 use Rattle.rl_spec.specs.Image.{Image, entryOf, textOf}
 use Rattle.rl_spec.specs.Tree.{Expr, null, literal, identifier, unary, binary, grouping, assign, okLiteral, errLiteral, isErr, resultUnwrap, other}
 use Rattle.rl_spec.specs.Statement.{Stmt, declaration, expression, return, returnAlone, conditional, while, loop, break, continue, otherStatement, Body, nil, _▸_, asStatement, bodyFrom}
-use Rattle.rl_spec.specs.Contracts.{upFrom}
+use Rattle.rl_spec.specs.Ranges.{upFrom}
 use Rattle.rl_spec.specs.Run.{Env, spent, Result, got, ended, andThen, leaving, eval}
 use Rattle.rl_spec.specs.Reading as reading
 use Rattle.rl_spec.specs.Reading.{plainly, followed, stmt, body}
@@ -34,7 +34,7 @@ eval-spent bytes (isErr e) env = refl
 eval-spent bytes (resultUnwrap e) env = refl
 eval-spent bytes other env = refl
 
-stmt-spent : (bytes : ℕ → List ℕ) (s : Stmt ℕ) (env : Env ℕ) → stmt bytes 0 plainly s env 0 ≡ ended spent 0
+stmt-spent : (bytes : ℕ → List ℕ) (s : Stmt ℕ) (env : Env ℕ) → stmt bytes plainly s env 0 ≡ ended spent 0
 unfolding stmt
 stmt-spent bytes (declaration x e) env = refl
 stmt-spent bytes (expression e) env = refl
@@ -54,7 +54,7 @@ unfolding body
 first-spent im base s b env = rw (stmt-spent (textOf im) s env) refl
 
 parts : (im : Image) (base : ℕ) (b : Body ℕ) (r : Result ℕ reading.Flow) →
-    leaving base (flows (andThen r (λ f. followed f (body (textOf im) 0 plainly b)))) ≡ andThen (flows r) (after im base b)
+    leaving base (flows (andThen r (λ f. followed f (body (textOf im) plainly b)))) ≡ andThen (flows r) (after im base b)
 parts im base b (got reading.onward env n) = refl
 parts im base b (got reading.breaks env n) = refl
 parts im base b (got reading.continues env n) = refl
@@ -63,7 +63,7 @@ parts im base b (ended o n) = refl
 pub first-begun : (im : Image) (base : ℕ) (s : Stmt ℕ) (b : Body ℕ) (env : Env ℕ) (n : ℕ) →
     leaving base (bodyRun im (s ▸ b) env (suc n)) ≡ andThen (begunRun im s env n) (after im base b)
 unfolding body
-first-begun im base s b env n = parts im base b (stmt (textOf im) 0 plainly s env (suc n))
+first-begun im base s b env n = parts im base b (stmt (textOf im) plainly s env (suc n))
 
 -- ---- what is left
 

@@ -39,22 +39,22 @@ turn-ended k base (got reading.continues env n) = refl
 turn-ended k base (ended o n) = refl
 
 turn-tested : (im : Image) (b : Body ℕ) (k : Run ℕ reading.Flow) (r : Result ℕ Bool) →
-    andThen (andThen r (λ t. tested im t (λ env n. leaving (length env) (flows (body (textOf im) 0 plainly b env n))))) (byTurn k)
-    ≡ andThen r (λ t. when t (λ env n. andThen (scoped (body (textOf im) 0 plainly b) env n) (λ f. again f k)) (run.give reading.onward))
-turn-tested im b k (got true env n) = turn-ended k (length env) (body (textOf im) 0 plainly b env n)
+    andThen (andThen r (λ t. tested im t (λ env n. leaving (length env) (flows (body (textOf im) plainly b env n))))) (byTurn k)
+    ≡ andThen r (λ t. when t (λ env n. andThen (scoped (body (textOf im) plainly b) env n) (λ f. again f k)) (run.give reading.onward))
+turn-tested im b k (got true env n) = turn-ended k (length env) (body (textOf im) plainly b env n)
 turn-tested im b k (got false env n) = refl
 turn-tested im b k (ended o n) = refl
 
 turn-guarded : (im : Image) (c : Option (Expr ℕ)) (b : Body ℕ) (k : Run ℕ reading.Flow) (env : run.Env ℕ) (n : ℕ) →
     andThen (guarded im c b env n) (byTurn k) ≡ turnOf im c b k env n
-turn-guarded im none b k env n = turn-ended k (length env) (body (textOf im) 0 plainly b env n)
-turn-guarded im (some e) b k env n = turn-tested im b k (taken (textOf im) 0 (some e) env n)
+turn-guarded im none b k env n = turn-ended k (length env) (body (textOf im) plainly b env n)
+turn-guarded im (some e) b k env n = turn-tested im b k (taken (textOf im) (some e) env n)
 
 -- a turn, and the rest of the loop
 loop-turn : (im : Image) (c : Option (Expr ℕ)) (b : Body ℕ) (env : run.Env ℕ) (n : ℕ) →
     turned im true c b (guarded im c b env n) ≡ flows (loopRest im c b env (suc n))
-loop-turn im none b env n = ap flows (turn-guarded im none b (loopRest im none b) env n ∙ sym (loop-unfolds (textOf im) 0 plainly b env (suc n)))
-loop-turn im (some e) b env n = ap flows (turn-guarded im (some e) b (loopRest im (some e) b) env n ∙ sym (while-unfolds (textOf im) 0 plainly e b env (suc n)))
+loop-turn im none b env n = ap flows (turn-guarded im none b (loopRest im none b) env n ∙ sym (loop-unfolds (textOf im) plainly b env (suc n)))
+loop-turn im (some e) b env n = ap flows (turn-guarded im (some e) b (loopRest im (some e) b) env n ∙ sym (while-unfolds (textOf im) plainly e b env (suc n)))
 
 loop-spent : (im : Image) (c : Option (Expr ℕ)) (b : Body ℕ) (env : run.Env ℕ) → flows (loopRest im c b env 0) ≡ ended run.spent 0
 unfolding turns

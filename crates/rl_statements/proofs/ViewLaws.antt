@@ -115,16 +115,16 @@ module _ (im : Image) (k : Run ℕ reading.Flow) where
   left-scope base (ended o n) = refl
 
   by-test : (b : Body ℕ) (r : Result ℕ Bool) →
-      flows (andThen r (λ t. when t (scoped (body (textOf im) 0 plainly b)) k))
+      flows (andThen r (λ t. when t (scoped (body (textOf im) plainly b)) k))
       ≡ andThen (andThen r (λ t. tested im t (λ env n. leaving (length env) (bodyRun im b env n)))) els
-  by-test b (got true env n) = left-scope (length env) (body (textOf im) 0 plainly b env n)
+  by-test b (got true env n) = left-scope (length env) (body (textOf im) plainly b env n)
   by-test b (got false env n) = refl
   by-test b (ended o n) = refl
 
   branch-or : (p : Branch ℕ) (env : Env ℕ) (n : ℕ) →
-      flows (branchOr (textOf im) 0 plainly p k env n) ≡ andThen (lists.branchOf im p env n) els
+      flows (branchOr (textOf im) plainly p k env n) ≡ andThen (lists.branchOf im p env n) els
   unfolding branchOr
-  branch-or (branch c b) env n = by-test b (taken (textOf im) 0 c env n)
+  branch-or (branch c b) env n = by-test b (taken (textOf im) c env n)
 
 unskips : (r : Result ℕ Flow) → andThen r (orElse (give Onward)) ≡ andThen r (λ f. resultOf (unskipped f))
 unskips (got Onward env n) = refl
@@ -138,7 +138,7 @@ unskips (ended o n) = refl
 
 module _ (im : Image) (limit other : ℕ) where
   abbrev elseIn : Else ℕ → Run ℕ Flow
-  elseIn x env n = flows (reading.orElse (textOf im) 0 plainly x env n)
+  elseIn x env n = flows (reading.orElse (textOf im) plainly x env n)
 
   no-else : elseBy (itemUnder im limit) other ≡ noElse → ElseIs im limit other elses.Missing
   unfolding reading.orElse
@@ -184,7 +184,7 @@ module _ (im : Image) (s : ℕ) where
   compound-is form.ReturnAlone e = made _ e
   compound-is (form.Conditional b other) e =
       λ env n. made _ e env n
-      ∙ branch-or im (reading.orElse (textOf im) 0 plainly (elseBy (itemUnder im s) other)) (asBranch (itemUnder im s b)) env n
+      ∙ branch-or im (reading.orElse (textOf im) plainly (elseBy (itemUnder im s) other)) (asBranch (itemUnder im s b)) env n
   compound-is (form.Branch n list) e = made _ e
   compound-is (form.While n list) e =
       λ env m. made _ e env m

@@ -9,7 +9,7 @@ use Rattle.rl_spec.specs.declared.Interval.{Interval}
 use Rattle.rl_spec.specs.Image.{Image, entryOf, textOf}
 use Rattle.rl_spec.specs.Tree.{Expr}
 use Rattle.rl_spec.specs.Statement.{Body, nil, _▸_, Branch, branch, asStatement, asBranch, bodyFrom, elseBy, itemTree}
-use Rattle.rl_spec.specs.Contracts.{upFrom}
+use Rattle.rl_spec.specs.Ranges.{upFrom}
 use Rattle.rl_spec.specs.Run as run
 use Rattle.rl_spec.specs.Run.{Result, Run, andThen, give, halt, fail}
 use Rattle.rl_spec.specs.Reading as reading
@@ -50,8 +50,8 @@ listLeft im bound outermost list done = lastIf outermost (bodyLeft im bound list
 -- ---- the runs
 
 abbrev pub turnOf : Image → Option (Expr ℕ) → Body ℕ → Run ℕ reading.Flow → Run ℕ reading.Flow
-turnOf im none b = loopTurn (body (textOf im) 0 plainly b)
-turnOf im (some e) b = whileTurn (textOf im) 0 e (body (textOf im) 0 plainly b)
+turnOf im none b = loopTurn (body (textOf im) plainly b)
+turnOf im (some e) b = whileTurn (textOf im) e (body (textOf im) plainly b)
 
 -- a loop after a turn: it goes on, or it ends
 abbrev pub byTurn : Run ℕ reading.Flow → Flow → Run ℕ reading.Flow
@@ -89,7 +89,7 @@ abbrev pub branchRun : Image → ℕ → ℕ → Run ℕ Flow
 branchRun im limit b = branchOf im (asBranch (itemUnder im limit b))
 
 abbrev pub otherwiseRun : Image → ℕ → ℕ → Run ℕ Flow
-otherwiseRun im limit other env n = flows (orElse (textOf im) 0 plainly (elseBy (itemUnder im limit) other) env n)
+otherwiseRun im limit other env n = flows (orElse (textOf im) plainly (elseBy (itemUnder im limit) other) env n)
 
 -- a skipped branch is over
 abbrev pub unskipped : Flow → Flow

@@ -18,7 +18,7 @@ use Rattle.rl_spec.specs.Schema.{schema, sortOf, fieldsIn, fieldsOf}
 use Rattle.rl_spec.specs.Image.{Field, pair, Image, sizeOf, recordOf, entryOf, Refers, Entries, RecordFits, WellFormed}
 use Rattle.rl_spec.specs.Tree.{Expr}
 use Rattle.rl_spec.specs.Statement.{conditional, Body, nil, _▸_, Branch, Else, statementBy}
-use Rattle.rl_spec.specs.Contracts.{upFrom}
+use Rattle.rl_spec.specs.Ranges.{upFrom}
 use Rattle.rl_spec.specs.Functions.{Text}
 use Rattle.rl_spec.specs.Make.{made}
 use Rattle.rl_laws.specs.Tests.{by-eqb}

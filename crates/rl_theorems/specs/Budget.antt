@@ -13,8 +13,8 @@ use Rattle.rl_spec.specs.Values.{ConstVal}
 use Rattle.rl_spec.specs.Fold.{unaryValue, binaryValue}
 use Rattle.rl_spec.specs.Tree.{Expr, null, literal, identifier, unary, binary, grouping, assign, okLiteral, errLiteral, isErr, resultUnwrap, other}
 use Rattle.rl_spec.specs.Statement.{Stmt, declaration, expression, return, returnAlone, conditional, while, loop, break, continue, otherStatement, Body, nil, _▸_, Branch, branch, Else, noElse, elseBranch, elseConditional}
-use Rattle.rl_spec.specs.Run.{nothing, folded, Value, plain, ok, err, Bound, hidden, Env, Outcome, returned, fault, spent, Result, got, ended, Run, andThen, _>>=_, _>>_, give, halt, orFault, tick, charge, bind, leaving, scoped, truth, plainOf, errOf, unwrapped, operand, find, update, look, store, unaryOn, binaryOn, eval}
-use Rattle.rl_spec.specs.Reading.{Check, Function, Mode, plainly, checked, modeOf, bodyUnder, bare, Flow, onward, breaks, continues, followed, followedTop, again, turns, repeat, loopTurn, when, unless, bindAll, content, subject, violated, checks, checkedReturn, returning, returningNull, taken, whileTurn, stmt, body, branchOr, orElse, lastOr, top, finish, entering, runFunction, reading}
+use Rattle.rl_spec.specs.Run.{nothing, folded, Value, plain, ok, err, Bound, hidden, Env, Outcome, returned, fault, spent, Result, got, ended, ending, used, Run, andThen, _>>=_, _>>_, give, halt, orFault, tick, charge, bind, leaving, scoped, truth, plainOf, errOf, unwrapped, operand, find, update, look, store, unaryOn, binaryOn, eval}
+use Rattle.rl_spec.specs.Reading.{Check, Function, Mode, plainly, checked, modeOf, bodyUnder, bare, Flow, onward, breaks, continues, followed, followedTop, again, turns, repeat, loopTurn, when, unless, bindAll, content, subject, violated, checks, checkedReturn, returning, returningNull, taken, whileTurn, stmt, body, branchOr, orElse, lastOr, top, entering, runFunction, reading}
 use Rattle.rl_theorems.specs.Steps.{NotSpent, Turn}
 
 -- what is left is k more
@@ -223,36 +223,36 @@ module _ {T : Type 0} (bytes : T → List ℕ) where
   pub eval-steady : (e : Expr T) → Steady (eval bytes e)
   eval-steady e = steady (evals e)
 
-module _ {T : Type 0} (bytes : T → List ℕ) (ret : T) where
+module _ {T : Type 0} (bytes : T → List ℕ) where
   -- ---- checks and returns
 
-  takens : (c : Option (Expr T)) → Grows (taken bytes ret c)
+  takens : (c : Option (Expr T)) → Grows (taken bytes c)
   takens none = gives true
   takens (some e) = then (evals bytes e) (truths 2)
 
-  violateds : (r : Bool) (m : Expr T) → Grows (violated bytes ret r m)
+  violateds : (r : Bool) (m : Expr T) → Grows (violated bytes r m)
   violateds false m = then (charges 3) (λ _. then (evals bytes m) (λ w. then (plainOfs w) (λ p. halts _)))
   violateds true m = then (charges 2) (λ _. then (evals bytes m) (λ w. then (plainOfs w) (λ p. halts _)))
 
-  checkses : (r : Bool) (cs : List (Check T)) → Grows (checks bytes ret r cs)
+  checkses : (r : Bool) (cs : List (Check T)) → Grows (checks bytes r cs)
   unfolding checks
   checkses r [] = gives tt
   checkses r (c ∷ cs) =
       then (then (charges 2) (λ _. then (evals bytes (c .condition)) (λ w. then (truths 4 w) (λ b. unlesses b (violateds r (c .message))))))
       (λ _. checkses r cs)
 
-  checkedReturns : (r : Bool) (cs : List (Check T)) (v : Value T) → Grows (checkedReturn bytes ret r cs v)
-  checkedReturns r cs v =
+  checkedReturns : (ret : T) (r : Bool) (cs : List (Check T)) (v : Value T) → Grows (checkedReturn bytes ret r cs v)
+  checkedReturns ret r cs v =
       then (binds (hidden v)) (λ _. then (subjects r v) (λ w. then (binds _)
       (λ _. then (checkses r cs) (λ _. then (charges 2) (λ _. halts _)))))
 
-  returns : (m : Mode T) (v : Value T) → Grows (returning bytes ret m v)
+  returns : (m : Mode T) (v : Value T) → Grows (returning bytes m v)
   returns plainly v = halts _
-  returns (checked r cs) v = checkedReturns r cs v
+  returns (checked ret r cs) v = checkedReturns ret r cs v
 
-  returnNulls : (m : Mode T) → Grows (returningNull bytes ret m)
+  returnNulls : (m : Mode T) → Grows (returningNull bytes m)
   returnNulls plainly = halts _
-  returnNulls (checked r cs) = then (charges 1) (λ _. checkedReturns r cs (plain nothing))
+  returnNulls (checked ret r cs) = then (charges 1) (λ _. checkedReturns ret r cs (plain nothing))
 
   -- ---- statements and bodies, in both modes
 
@@ -261,7 +261,7 @@ module _ {T : Type 0} (bytes : T → List ℕ) (ret : T) where
   when-follows {k = k} true b p q h g env m l = grown-then (λ f. again f p) (λ f. again f q) (scopes h k env m) (λ f. again-follows f p q (λ e i r. g e i (le-trans r l)))
   when-follows false b p q h g env m l = going (le-refl m)
 
-  whileTurns : (e : Expr T) {b : Run T Flow} → Grows b → (k : ℕ) → Even k (whileTurn bytes ret e b)
+  whileTurns : (e : Expr T) {b : Run T Flow} → Grows b → (k : ℕ) → Even k (whileTurn bytes e b)
   whileTurns e {b = b} h k p q n g env =
       grown-then (λ t. when t (scoped b >>= λ f. again f p) (give onward)) (λ t. when t (scoped b >>= λ f. again f q) (give onward))
       (takens (some e) k env n) (λ t. when-follows t b p q h g)
@@ -269,35 +269,35 @@ module _ {T : Type 0} (bytes : T → List ℕ) (ret : T) where
   mutual
     unfolding stmt
 
-    stmts : (m : Mode T) (s : Stmt T) → Grows (stmt bytes ret m s)
+    stmts : (m : Mode T) (s : Stmt T) → Grows (stmt bytes m s)
     stmts m (declaration x e) = then ticks (λ _. then (evals bytes e) (λ v. then (binds _) (λ _. gives _)))
     stmts m (expression e) = then ticks (λ _. then (evals bytes e) (λ v. gives _))
     stmts m (return e) = then ticks (λ _. then (evals bytes e) (returns m))
     stmts m returnAlone = then ticks (λ _. returnNulls m)
-    stmts m (conditional b e) = then ticks (λ _. branches m b (orElse bytes ret m e) (elses m e))
-    stmts m (while e b) = then ticks (λ _. repeats (whileTurn bytes ret e (body bytes ret m b)) (whileTurns e (bodies m b)))
-    stmts m (loop b) = then ticks (λ _. repeats (loopTurn (body bytes ret m b)) (loopTurns (bodies m b)))
+    stmts m (conditional b e) = then ticks (λ _. branches m b (orElse bytes m e) (elses m e))
+    stmts m (while e b) = then ticks (λ _. repeats (whileTurn bytes e (body bytes m b)) (whileTurns e (bodies m b)))
+    stmts m (loop b) = then ticks (λ _. repeats (loopTurn (body bytes m b)) (loopTurns (bodies m b)))
     stmts m break = then ticks (λ _. gives _)
     stmts m continue = then ticks (λ _. gives _)
     stmts m otherStatement = then ticks (λ _. halts _)
 
-    bodies : (m : Mode T) (b : Body T) → Grows (body bytes ret m b)
+    bodies : (m : Mode T) (b : Body T) → Grows (body bytes m b)
     bodies m nil = gives _
     bodies m (s ▸ b) = then (stmts m s) (λ f. followeds f (bodies m b))
 
-    branches : (m : Mode T) (b : Branch T) (k : Run T Flow) → Grows k → Grows (branchOr bytes ret m b k)
+    branches : (m : Mode T) (b : Branch T) (k : Run T Flow) → Grows k → Grows (branchOr bytes m b k)
     branches m (branch c b) k h = then (takens c) (λ t. whens t (scopes (bodies m b)) h)
 
-    elses : (m : Mode T) (e : Else T) → Grows (orElse bytes ret m e)
+    elses : (m : Mode T) (e : Else T) → Grows (orElse bytes m e)
     elses m noElse = gives _
     elses m (elseBranch b) = branches m b (give onward) (gives onward)
-    elses m (elseConditional b e) = branches plainly b (orElse bytes ret plainly e) (elses plainly e)
+    elses m (elseConditional b e) = branches plainly b (orElse bytes plainly e) (elses plainly e)
 
-  lasts : (m : Mode T) (s : Stmt T) (o : Option (Expr T)) → Grows (lastOr bytes ret o (stmt bytes ret m s))
+  lasts : (m : Mode T) (s : Stmt T) (o : Option (Expr T)) → Grows (lastOr bytes o (stmt bytes m s))
   lasts m s none = then (stmts m s) (λ f. tops-next f (gives _))
   lasts m s (some e) = then ticks (λ _. evals bytes e)
 
-  tops : (m : Mode T) (b : Body T) → Grows (top bytes ret m b)
+  tops : (m : Mode T) (b : Body T) → Grows (top bytes m b)
   unfolding top
   tops m nil = gives _
   tops m (s ▸ nil) = lasts m s (bare s)
@@ -305,32 +305,32 @@ module _ {T : Type 0} (bytes : T → List ℕ) (ret : T) where
 
   -- ---- functions: the same outcome and the same steps used
 
-  enterings : (f : Function T) (vs : List (Value T)) → Grows (entering bytes ret f vs)
+  enterings : (f : Function T) (vs : List (Value T)) → Grows (entering bytes f vs)
   enterings f vs = then (bindAlls (f .params) vs) (λ _. checkses (f .isResult) (f .entry))
 
-  finishes : {n k : ℕ} {x y : Result T (Value T)} → Grown n k x y → NotSpent (finish bytes ret n x .0) → finish bytes ret (n + k) y ≡ finish bytes ret n x
+  finishes : {n k : ℕ} {x y : Result T (Value T)} → Grown n k x y → NotSpent (ending x .0) → used (n + k) (ending y) ≡ used n (ending x)
   finishes (going {a = a} p) h = ap (λ i. (returned a, i)) (omega arith)
   finishes (over {o = o} p) h = ap (λ i. (o, i)) (omega arith)
   finishes dry h = absurd h
 
-  pub run-steady : (f : Function T) (vs : List (Value T)) (n k : ℕ) → NotSpent (runFunction bytes ret f vs n .0) → runFunction bytes ret f vs (n + k) ≡ runFunction bytes ret f vs n
+  pub run-steady : (f : Function T) (vs : List (Value T)) (n k : ℕ) → NotSpent (runFunction bytes f vs n .0) → used (n + k) (runFunction bytes f vs (n + k)) ≡ used n (runFunction bytes f vs n)
   unfolding runFunction
   run-steady f vs n k h = finishes (then (bindAlls (f .params) vs) (λ _. tops plainly (f .body)) k [] n) h
 
-  pub reading-steady : (f : Function T) (vs : List (Value T)) (n k : ℕ) → NotSpent (reading bytes ret f vs n .0) → reading bytes ret f vs (n + k) ≡ reading bytes ret f vs n
+  pub reading-steady : (ret : T) (f : Function T) (vs : List (Value T)) (n k : ℕ) → NotSpent (reading bytes ret f vs n .0) → used (n + k) (reading bytes ret f vs (n + k)) ≡ used n (reading bytes ret f vs n)
   unfolding reading
-  reading-steady f vs n k h = finishes (then (enterings f vs) (λ _. tops (modeOf (f .isResult) (f .ensures)) (bodyUnder (f .ensures) (f .body))) k [] n) h
+  reading-steady ret f vs n k h = finishes (then (enterings f vs) (λ _. tops (modeOf ret (f .isResult) (f .ensures)) (bodyUnder (f .ensures) (f .body))) k [] n) h
 
   -- ---- runs
 
-  pub checks-steady : (r : Bool) (cs : List (Check T)) → Steady (checks bytes ret r cs)
+  pub checks-steady : (r : Bool) (cs : List (Check T)) → Steady (checks bytes r cs)
   checks-steady r cs = steady (checkses r cs)
 
-  pub stmt-steady : (m : Mode T) (s : Stmt T) → Steady (stmt bytes ret m s)
+  pub stmt-steady : (m : Mode T) (s : Stmt T) → Steady (stmt bytes m s)
   stmt-steady m s = steady (stmts m s)
 
-  pub body-steady : (m : Mode T) (b : Body T) → Steady (body bytes ret m b)
+  pub body-steady : (m : Mode T) (b : Body T) → Steady (body bytes m b)
   body-steady m b = steady (bodies m b)
 
-  pub top-steady : (m : Mode T) (b : Body T) → Steady (top bytes ret m b)
+  pub top-steady : (m : Mode T) (b : Body T) → Steady (top bytes m b)
   top-steady m b = steady (tops m b)

@@ -31,9 +31,8 @@ use Rattle.rl_theorems.specs.Known.{counts}
 use Rattle.rl_theorems.specs.Outcome.{accepted-header}
 use Rattle.rl_theorems.specs.Starts.{section-size}
 use Rattle.rl_theorems.specs.TextRuns.{mapFunction, mapEnded, run-mapped}
-use Rattle.rl_theorems.specs.PlainRuns.{run-same}
 use Rattle.rl_theorems.specs.LoweredRuns.{Premises}
-use Rattle.rl_theorems.specs.LoweredTrees.{lowered-reads}
+use Rattle.rl_theorems.specs.LoweredTrees.{lowered-reads, plain-runs}
 use Rattle.rl_theorems.specs.LowerAnswers.{Made, made-for}
 use Rattle.rl_theorems.specs.LoweredBytes.{original-well-formed, function-there, made-accepted, made-followed}
 use Rattle.rl_theorems.specs.LoweredArguments.{values-same, values-have, params-same, functions-same}
@@ -119,7 +118,7 @@ module _ (s : List ℕ) (k f room : ℕ) (im′ : Image) (bytes : AllBytes s) (e
     vs = valuesOf (given args)
 
     abbrev ended : run.Outcome ℕ × ℕ
-    ended = runFunction (textOf im′) 0 (plainFunction im′ f) vs budget
+    ended = run.used budget (runFunction (textOf im′) (plainFunction im′ f) vs budget)
 
     -- the run of the lowered function, with the bytes of its texts, is the contract reading
     reads : mapEnded (textOf im′) ended ≡ readingIn im f vs budget
@@ -128,12 +127,13 @@ module _ (s : List ℕ) (k f room : ℕ) (im′ : Image) (bytes : AllBytes s) (e
         let wf = original-well-formed s k f room im′ bytes e in
         let to = made-followed s k f room im′ bytes e in
         let g : Function Text = mapFunction (textOf im′) (plainFunction im′ f) in
-        sym (run-mapped (textOf im′) (textOf im′) (λ t. t) (λ t. refl) 0 (textOf im′ 0) refl (plainFunction im′ f) vs budget)
-        ∙ run-same (λ t. t) (textOf im′ 0) (ascii "ret") g (map (mapValue (textOf im′)) vs) budget
-        ∙ ap (λ xs. runFunction (λ t. t) (ascii "ret") g xs budget)
+        ap (run.used budget)
+        (sym (run-mapped (textOf im′) (textOf im′) (λ t. t) (λ t. refl) (plainFunction im′ f) vs budget)
+        ∙ ap (λ xs. runFunction (λ t. t) g xs budget)
         (values-same im im′ f wf to (countsOf s) (counts im′) (section-size s Texts) refl (given args) texts)
+        ∙ plain-runs im′ f (map (mapValue (textOf im)) vs) budget
         ∙ lowered-reads im im′ f wf (function-there s k f room im′ bytes e) (by .is) (h .last) (h .ensures)
-        (map (mapValue (textOf im)) vs) budget
+        (map (mapValue (textOf im)) vs) budget)
 
     -- THEOREM: where it does not, both run, and the lowered body's run is the original's contract reading
     pub first-half : (o : Outcome) (n : ℕ) → runOf s k f args budget ≡ Ran o n →

@@ -145,9 +145,9 @@ module _ {T : Type 0} (bytes : T → List ℕ) where
     here : {c : Check T} {cs : List (Check T)} → constEval bytes names (c .condition) ≡ some (value.bool false) → Fails names (c ∷ cs)
     there : {c : Check T} {cs : List (Check T)} → NoAssign (c .condition) → Fails names cs → Fails names (c ∷ cs)
 
-module _ {T : Type 0} (bytes : T → List ℕ) (ret : T) where
+module _ {T : Type 0} (bytes : T → List ℕ) where
   -- what is violated is over, whatever the message does
-  pub violated-over : (r : Bool) (m : Expr T) (env : Env T) (n : ℕ) → Over (violated bytes ret r m env n)
+  pub violated-over : (r : Bool) (m : Expr T) (env : Env T) (n : ℕ) → Over (violated bytes r m env n)
   violated-over false m env n =
       then-over (charge 3 env n) (λ _. eval bytes m >>= λ v. plainOf v >>= λ p. halt (stopped p))
       (λ _ e k. then-over (eval bytes m e k) (λ v. plainOf v >>= λ p. halt (stopped p))
@@ -160,16 +160,16 @@ module _ {T : Type 0} (bytes : T → List ℕ) (ret : T) where
   over-keeps : {A : Type 0} {env : Env T} {x : Result T A} → Over x → Keeps env x
   over-keeps over = ends
 
-  unlesses : (r b : Bool) (m : Expr T) → Still (unless b (violated bytes ret r m))
+  unlesses : (r b : Bool) (m : Expr T) → Still (unless b (violated bytes r m))
   unlesses r true m env n = kept
   unlesses r false m env n = over-keeps (violated-over r m env n)
 
   -- a check without assignment in its condition keeps the bindings
-  pub check-still : (r : Bool) (c : Check T) → NoAssign (c .condition) → Still (check bytes ret r c)
+  pub check-still : (r : Bool) (c : Check T) → NoAssign (c .condition) → Still (check bytes r c)
   check-still r c h = then (charges 2) (λ _. then (evals-still bytes (c .condition) h) (λ w. then (truths 4 w) (λ b. unlesses r b (c .message))))
 
   judged : {env : Env T} {n : ℕ} {x : Result T (Value T)} (r : Bool) (m : Expr T) → Gives env (value.bool false) n x →
-      Over (andThen x (λ v. truth 4 v >>= λ b. unless b (violated bytes ret r m)))
+      Over (andThen x (λ v. truth 4 v >>= λ b. unless b (violated bytes r m)))
   judged {env = env} r m (given {m = k} p) = violated-over r m env k
   judged r m dry = over
 
@@ -179,22 +179,22 @@ module _ {T : Type 0} (bytes : T → List ℕ) (ret : T) where
 
   -- A CHECK THAT FOLDS TO FALSE IS NOT PASSED
   pub check-over : (r : Bool) (c : Check T) (names : List (Binding T)) (env : Env T) → Agrees bytes names env → constEval bytes names (c .condition) ≡ some (value.bool false) →
-      (n : ℕ) → Over (check bytes ret r c env n)
+      (n : ℕ) → Over (check bytes r c env n)
   check-over r c names env h e n =
-      charged (eval bytes (c .condition) >>= λ v. truth 4 v >>= λ b. unless b (violated bytes ret r (c .message))) (charges 2 env n)
+      charged (eval bytes (c .condition) >>= λ v. truth 4 v >>= λ b. unless b (violated bytes r (c .message))) (charges 2 env n)
       (λ m. judged r (c .message) (folds-run bytes names env h (c .condition) (value.bool false) e m))
 
   pub check-never : (r : Bool) (c : Check T) (names : List (Binding T)) (env : Env T) → Agrees bytes names env → constEval bytes names (c .condition) ≡ some (value.bool false) →
-      (n : ℕ) (env′ : Env T) (n′ : ℕ) → check bytes ret r c env n ≡ got tt env′ n′ → ⊥
+      (n : ℕ) (env′ : Env T) (n′ : ℕ) → check bytes r c env n ≡ got tt env′ n′ → ⊥
   check-never r c names env h e n env′ n′ p = never-got (check-over r c names env h e n) p
 
   -- NOR IS A LIST OF CHECKS WITH SUCH A ONE
   pub checks-over : (r : Bool) (cs : List (Check T)) (names : List (Binding T)) (env : Env T) → Agrees bytes names env → Fails bytes names cs →
-      (n : ℕ) → Over (checks bytes ret r cs env n)
+      (n : ℕ) → Over (checks bytes r cs env n)
   unfolding checks
-  checks-over r (c ∷ cs) names env h (here e) n = over-then (λ _. checks bytes ret r cs) (check-over r c names env h e n)
-  checks-over r (c ∷ cs) names env h (there s f) n = charged (checks bytes ret r cs) (check-still r c s env n) (checks-over r cs names env h f)
+  checks-over r (c ∷ cs) names env h (here e) n = over-then (λ _. checks bytes r cs) (check-over r c names env h e n)
+  checks-over r (c ∷ cs) names env h (there s f) n = charged (checks bytes r cs) (check-still r c s env n) (checks-over r cs names env h f)
 
   pub checks-never : (r : Bool) (cs : List (Check T)) (names : List (Binding T)) (env : Env T) → Agrees bytes names env → Fails bytes names cs →
-      (n : ℕ) (env′ : Env T) (n′ : ℕ) → checks bytes ret r cs env n ≡ got tt env′ n′ → ⊥
+      (n : ℕ) (env′ : Env T) (n′ : ℕ) → checks bytes r cs env n ≡ got tt env′ n′ → ⊥
   checks-never r cs names env h f n env′ n′ p = never-got (checks-over r cs names env h f n) p

@@ -255,7 +255,7 @@ desugar-grow params body requires ensures ctx =
     each-grow _ (clause-grow _) requires c ⇒ λ required d.
     by-test (isEmpty ensures) (gives-grow body) (ensured-grow ensures body) d ⇒ λ rest e. done
 
-body-grow : (im : Image) (f : ℕ) → AllGrow (lower.newBody im f)
+pub body-grow : (im : Image) (f : ℕ) → AllGrow (lower.newBody im f)
 unfolding lower.newBody
 body-grow im f ctx = desugar-grow _ _ _ _ ctx ⇒ λ ss c. grown (list-good ss c)
 

@@ -21,7 +21,8 @@ use Rattle.rl_spec.specs.Image.{Field, num, pair, noField, Rec, Image, sizeOf, 
 use Rattle.rl_spec.specs.Tree.{signed, number}
 use Rattle.rl_spec.specs.Words.{bits64}
 use Rattle.rl_spec.specs.Records.{refineOp, refineOperand, refinementBy, paramAt, clauseAt, functionAt}
-use Rattle.rl_spec.specs.Contracts.{operandOf, refinementOf, paramOf, upFrom}
+use Rattle.rl_spec.specs.Ranges.{upFrom}
+use Rattle.rl_spec.specs.Contracts.{operandOf, refinementOf, paramOf}
 use Rattle.rl_spec.specs.Lower.{start, paramsIn, requiresIn, ensuresIn, bodyIn}
 use Rattle.rl_theorems.specs.Good.{Every, noMore, more}
 use Rattle.rl_theorems.specs.Heights.{FieldIs}
@@ -72,7 +73,7 @@ range-within (pair a n) e = e .fits
 -- ---- a parameter
 
 -- a field, with the number before it
-fit-after : (im : Image) (o : Section) (i b j : ℕ) (cs : List ℕ) (fs : List Field) → suc j < length cs → FieldsFit im o i b cs fs →
+pub fit-after : (im : Image) (o : Section) (i b j : ℕ) (cs : List ℕ) (fs : List Field) → suc j < length cs → FieldsFit im o i b cs fs →
     FieldFits im o i (first (getD fs j noField)) (sortOf (getD cs (suc j) 0)) (getD fs (suc j) noField)
 fit-after im o i b j [] fs p h = absurd (omega arith)
 fit-after im o i b j (c ∷ cs) [] p h = absurd h
@@ -81,11 +82,11 @@ fit-after im o i b zero (c ∷ d ∷ cs) (f ∷ []) p h = absurd (h .1)
 fit-after im o i b zero (c ∷ d ∷ cs) (f ∷ g ∷ fs) p h = h .1 .0
 fit-after im o i b (suc j) (c ∷ cs) (f ∷ fs) p h = fit-after im o i (first f) j cs fs (omega arith) (h .1)
 
-sort-fits : (im : Image) (o : Section) (i b : ℕ) (f : Field) → FieldFits im o i b OperandSort f → SortFits b (first f)
+pub sort-fits : (im : Image) (o : Section) (i b : ℕ) (f : Field) → FieldFits im o i b OperandSort f → SortFits b (first f)
 sort-fits im o i b (num x) h = h
 sort-fits im o i b (pair x y) h = absurd h
 
-operand-fits : (im : Image) (o : Section) (i b : ℕ) (f : Field) → FieldFits im o i b Operand f → OperandFits im b (first f)
+pub operand-fits : (im : Image) (o : Section) (i b : ℕ) (f : Field) → FieldFits im o i b Operand f → OperandFits im b (first f)
 operand-fits im o i b (num x) h = h
 operand-fits im o i b (pair x y) h = absurd h
 

@@ -13,8 +13,10 @@ use Rattle.rl_spec.specs.Schema.{schema, sortOf, fieldsIn, fieldsOf}
 use Rattle.rl_spec.specs.Image.{Field, Rec, Image, sizeOf, recordOf, fieldOf, first, second, entryOf, textOf, Entries, RecordFits, WellFormed}
 use Rattle.rl_spec.specs.Tree.{number, exprTree}
 use Rattle.rl_spec.specs.Statement.{Body, nil, _▸_, bodyTree}
-use Rattle.rl_spec.specs.Records.{interval, paramAt, clauseAt}
-use Rattle.rl_spec.specs.Contracts.{clauseOf, messageNode, upFrom}
+use Rattle.rl_spec.specs.Ranges.{interval}
+use Rattle.rl_spec.specs.Records.{paramAt, clauseAt}
+use Rattle.rl_spec.specs.Ranges.{upFrom}
+use Rattle.rl_spec.specs.Contracts.{clauseOf, messageNode}
 use Rattle.rl_spec.specs.Functions.{Text, mapExpr, mapBody, messageOr, clauseCheck}
 use Rattle.rl_spec.specs.Make.{made}
 use Rattle.rl_theorems.specs.Suits.{kind-range}
@@ -33,7 +35,7 @@ module _ (im : Image) (wf : WellFormed im) where
 
   -- ---- clauses
 
-  abbrev ClauseFits : Rec → Type 0
+  abbrev pub ClauseFits : Rec → Type 0
   ClauseFits r = (number r 0 < sizeOf im Expressions) × ((number r 1 ≡ 65535) ⊎ (number r 1 < sizeOf im Expressions))
 
   clause-view : {i : ℕ} {fs : List Field} → AllFit im Clauses i (map sortOf (fieldsOf 81)) fs → ClauseFits (made 81 fs)
@@ -41,7 +43,7 @@ module _ (im : Image) (wf : WellFormed im) where
   clause-view (aReference r ▹ anOption (inl q) ▹ noFields) = (r .earlier, inl q)
   clause-view (aReference r ▹ anOption (inr s) ▹ noFields) = (r .earlier, inr (s .earlier))
 
-  clause-fits : (i : ℕ) → i < sizeOf im Clauses → ClauseFits (recordOf im Clauses i)
+  pub clause-fits : (i : ℕ) → i < sizeOf im Clauses → ClauseFits (recordOf im Clauses i)
   clause-fits i h =
       let r = recordOf im Clauses i in
       let f : RecordFits im Clauses i r = wf .fits Clauses i h in
@@ -78,6 +80,7 @@ module _ (im : Image) (wf : WellFormed im) where
   -- ---- the function's record
 
   pub record FunctionFits (f : ℕ) (r : Rec) : Type 0 where
+    pub name : number r 0 < sizeOf im Texts
     pub params : first (fieldOf r 2) + second (fieldOf r 2) ≤ sizeOf im Parameters
     pub inside : first (fieldOf r 4) + second (fieldOf r 4) ≤ sizeOf im Lists
     pub entries : Entries im Functions f (second (fieldOf r 4)) (first (fieldOf r 4)) Statement Statement
@@ -88,7 +91,7 @@ module _ (im : Image) (wf : WellFormed im) where
   function-view : {f : ℕ} {fs : List Field} → AllFit im Functions f (map sortOf (fieldsOf 82)) fs → FunctionFits f (made 82 fs)
   unfolding fieldsOf fieldsIn schema sortOf
   function-view (aReference t ▹ aRaw ▹ aRange p ▹ aByte l h ▹ aList b e ▹ aRange r ▹ aRange s ▹ noFields) =
-      record { params = p; inside = b; entries = e; required = r; ensured = s; long = refl }
+      record { name = t .earlier; params = p; inside = b; entries = e; required = r; ensured = s; long = refl }
 
   pub function-fits : (f : ℕ) → f < sizeOf im Functions → FunctionFits f (recordOf im Functions f)
   function-fits f h =

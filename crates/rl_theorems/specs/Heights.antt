@@ -125,7 +125,7 @@ module _ (im : Image) (i : ℕ) (h : List ℕ) (t : ℕ → Expr ℕ) (low : (n 
     top = tallestChild im Expressions h (fieldsOf (r .kind)) (r .fields) + 1
 
     record Low (f : Form) : Type 0 where
-      low-is : exprHeight (treeBy f t) ≤ top
+      low-is : exprHeight (treeBy im f t) ≤ top
 
     by-test : (b : Bool) (x y : Form) → (b ≡ true → Low x) → Low y → Low (pick b x y)
     by-test true x y f g = f refl
@@ -194,7 +194,7 @@ module _ (im : Image) (wf : WellFormed im) where
   unfolding formBy
   tree-missing i l =
       let e : recordOf im Expressions i ≡ noRecord = List·getD-eq-default (recordsOf im Expressions) noRecord l in
-      tree-is im i ∙ ap (λ (r : Rec). treeBy (formBy im r) (below i other (exprTree im))) e
+      tree-is im i ∙ ap (λ (r : Rec). treeBy im (formBy im r) (below i other (exprTree im))) e
 
   -- THEOREM: no tree is taller than an expression may be
   pub trees-low : (i : ℕ) → exprHeight (exprTree im i) ≤ 68

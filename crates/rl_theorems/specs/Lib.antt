@@ -69,6 +69,7 @@ pub mod Desugared
 pub mod FunctionViews
 pub mod SameTrees
 pub mod LoweredTrees
+pub mod LoweredOthers
 pub mod LoweredTreesExample
 pub mod LoweredRuns
 pub mod LoweredRunExamples
@@ -94,8 +95,8 @@ pub mod LoweredWellFormedExample
 pub mod LowerAnswers
 pub mod LowerAnswersExamples
 pub mod LoweredBytes
-pub mod PlainRuns
 pub mod LoweredArguments
+pub mod LoweredAll
 pub mod FirstHalf
 pub mod FirstHalfExamples
 pub mod Theorems

@@ -11,7 +11,7 @@ use Rattle.rl_spec.specs.Message.{decimal}
 use Rattle.rl_spec.specs.Functions.{Text}
 use Rattle.rl_spec.specs.Run.{Value, Result, got, ended, Run, andThen, _>>=_, give}
 use Rattle.rl_spec.specs.Reading.{Check, Mode, bare, Flow, onward, breaks, continues, followed, followedTop, stmt, body, top}
-use Rattle.rl_theorems.specs.LowerTrees.{_⧺_, guards, reserved, temporary, retName, skipErr, wrapAs, expressionOf, trailing}
+use Rattle.rl_theorems.specs.LowerTrees.{_⧺_, guards, reserved, temporary, skipErr, wrapAs, expressionOf, trailing}
 use Rattle.rl_theorems.specs.LowerGuard.{own, top-cons}
 use Rattle.rl_theorems.specs.LowerFrame.{begins, begins-append}
 
@@ -43,13 +43,13 @@ alone (got continues env n) = refl
 alone (ended o n) = refl
 
 abbrev pub run : Mode Text → Body Text → Run Text Flow
-run = body own retName
+run = body own
 
 abbrev pub st : Mode Text → Stmt Text → Run Text Flow
-st = stmt own retName
+st = stmt own
 
 abbrev pub whole : Mode Text → Body Text → Run Text (Value Text)
-whole = top own retName
+whole = top own
 
 -- ---- what the transform makes is no bare expression, and is something
 

@@ -18,7 +18,8 @@ use Rattle.rl_spec.specs.Read.{countsOf, countsFrom, headerOf, recordsFrom, sec
 use Rattle.rl_spec.specs.Image.{Field, num, pair, Rec, Image, noRecord, recordsOf, entryOf, textOf, sizeOf, bytesOf, encodeFields, encodeRecord, encodeRecords, encodeSections, encodeCounts, encode}
 use Rattle.rl_spec.specs.Tree.{ascii, descendBy, descend, formBy, callForm, isResPath, exprTree}
 use Rattle.rl_spec.specs.Records.{paramAt, clauseAt, functionAt}
-use Rattle.rl_spec.specs.Contracts.{upFrom, paramOf, clauseOf, isSome, anyRefined}
+use Rattle.rl_spec.specs.Ranges.{upFrom}
+use Rattle.rl_spec.specs.Contracts.{paramOf, clauseOf, isSome, anyRefined}
 use Rattle.rl_spec.specs.Message.{decimalBy, decimal}
 use Rattle.rl_spec.specs.Make.{Context, each, flatMap, append, appendBytes, made, newText, newList, stmt, absent}
 use Rattle.rl_spec.specs.Lower.{expr, ident, strLit, errLit, resCall, cloneEntries, cloneFields, deepCloneExpr, violation, onlyIf, guard, declare, returnOf, wrapAs, wrapReturn, refinePredicate, transformBranch, transformArm, transformStatement, wrapTrailing, desugarFnContracts, hasContracts, newBody, fitting, lowered}
@@ -26,7 +27,7 @@ use Rattle.rl_spec.specs.Values as value
 use Rattle.rl_spec.specs.Values.{sameText, compareValues, bang}
 use Rattle.rl_spec.specs.Fold.{unaryValue, binaryValue}
 use Rattle.rl_spec.specs.Statement.{statementBy, itemTree}
-use Rattle.rl_spec.specs.Run.{folded, Value, ok, folds, Outcome, returned, stopped, fault, spent, find, update, eval}
+use Rattle.rl_spec.specs.Run.{folded, Value, ok, folds, Outcome, returned, stopped, fault, spent, used, find, update, eval}
 use Rattle.rl_spec.specs.Reading as reading
 use Rattle.rl_spec.specs.Reading.{checks, turns, top, runFunction}
 use Rattle.rl_spec.specs.Functions.{mapExpr, mapStmt, mapBody, mapBranch, mapElse, refinementChecks, contractFunction}
@@ -383,10 +384,10 @@ running = tt
 -- the run of a function's body, and the reading of its contracts
 abbrev run : Option Image → List (Value (List ℕ)) → ℕ → Outcome (List ℕ) × ℕ
 run none vs budget = (fault 0, 0)
-run (some im) vs budget = runFunction (λ t. t) (ascii "ret") (contractFunction im 0) vs budget
+run (some im) vs budget = used budget (runFunction (λ t. t) (contractFunction im 0) vs budget)
 
 abbrev read : Image → List (Value (List ℕ)) → ℕ → Outcome (List ℕ) × ℕ
-read im vs budget = reading.reading (λ t. t) (ascii "ret") (contractFunction im 0) vs budget
+read im vs budget = used budget (reading.reading (λ t. t) (ascii "ret") (contractFunction im 0) vs budget)
 
 abbrev int : ℕ → Value (List ℕ)
 int n = folds (value.int (pos n))

@@ -13,7 +13,7 @@ use Rattle.rl_spec.specs.Tree.{Expr, null, literal, identifier, unary, binary, 
 use Rattle.rl_spec.specs.Functions.{Text}
 use Rattle.rl_spec.specs.Run.{nothing, folded, Value, plain, ok, err, named, hidden, Env, Outcome, Result, got, ended, Run, andThen, _>>=_, give, halt, orFault, tick, charge, truth, plainOf, errOf, unwrapped, operand, find, behind, update, look, store, unaryOn, binaryOn, eval}
 use Rattle.rl_spec.specs.Reading.{Check, unless, violated, check, checks}
-use Rattle.rl_theorems.specs.LowerTrees.{reserved, retName}
+use Rattle.rl_theorems.specs.LowerTrees.{reserved}
 use Rattle.rl_theorems.specs.LowerGuard.{own}
 
 -- ---- texts
@@ -230,7 +230,7 @@ module _ (t : Text) (v : Value Text) (isReserved : begins reserved t ≡ true) w
   blind-eval (resultUnwrap e) c = blind-then blind-tick (λ _. blind-then (blind-eval e c) blind-unwrapped)
   blind-eval other c = blind-then blind-tick (λ _. blind-halt _)
 
-  blind-violated : (r : Bool) (m : Expr Text) → Clean m → Blind (violated own retName r m)
+  blind-violated : (r : Bool) (m : Expr Text) → Clean m → Blind (violated own r m)
   blind-violated false m c = blind-then (blind-charge 3) (λ _. blind-then (blind-eval m c) (λ w. blind-then (blind-plainOf w) (λ p. blind-halt _)))
   blind-violated true m c = blind-then (blind-charge 2) (λ _. blind-then (blind-eval m c) (λ w. blind-then (blind-plainOf w) (λ p. blind-halt _)))
 
@@ -238,13 +238,13 @@ module _ (t : Text) (v : Value Text) (isReserved : begins reserved t ≡ true) w
   blind-unless true h = blind-give tt
   blind-unless false h = h
 
-  blind-check : (r : Bool) (c : Check Text) → Clean (c .condition) → Clean (c .message) → Blind (check own retName r c)
+  blind-check : (r : Bool) (c : Check Text) → Clean (c .condition) → Clean (c .message) → Blind (check own r c)
   blind-check r c p q =
       blind-then (blind-charge 2) (λ _. blind-then (blind-eval (c .condition) p)
       (λ w. blind-then (blind-truth 4 w) (λ b. blind-unless b (blind-violated r (c .message) q))))
 
   -- THE FRAME: checks
-  pub blind-checks : (r : Bool) (cs : List (Check Text)) → CleanChecks cs → Blind (checks own retName r cs)
+  pub blind-checks : (r : Bool) (cs : List (Check Text)) → CleanChecks cs → Blind (checks own r cs)
   unfolding checks CleanChecks
   blind-checks r [] h = blind-give tt
   blind-checks r (c ∷ cs) h = blind-then (blind-check r c (h .0) (h .1)) (λ _. blind-checks r cs (h .2))

@@ -14,7 +14,7 @@ use Rattle.rl_spec.specs.Statement.{Stmt, Body, nil, _▸_}
 use Rattle.rl_spec.specs.Functions.{Text}
 use Rattle.rl_spec.specs.Run.{nothing, folded, Value, plain, ok, err, Env, returned, stopped, Result, got, ended, Run, andThen, _>>=_, _>>_, give, halt, leaving, scoped, truth, plainOf, unwrapped, operand, unaryOn, eval}
 use Rattle.rl_spec.specs.Reading.{Check, Mode, plainly, bare, Flow, onward, followed, followedTop, when, unless, violated, check, checks, stmt, body, lastOr, top}
-use Rattle.rl_theorems.specs.LowerTrees.{violation, guard, guards, retName}
+use Rattle.rl_theorems.specs.LowerTrees.{violation, guard, guards}
 
 -- a text is its bytes
 abbrev pub own : Text → Text
@@ -36,7 +36,7 @@ abbrev ev : Expr Text → Run Text (Value Text)
 ev = eval own
 
 abbrev st : Stmt Text → Run Text Flow
-st = stmt own retName plainly
+st = stmt own plainly
 
 -- ---- the message, past the steps that come before it
 
@@ -57,7 +57,7 @@ handing k (got (err p) env n) = refl
 handing k (ended o n) = refl
 
 violated-at : (r : Bool) (m : Expr Text) (k : ℕ) (env : Env Text) (n : ℕ) →
-    leaving k ((st (violation r m) >>= λ f. followed f (give onward)) env n) ≡ (violated own retName r m >> give onward) env n
+    leaving k ((st (violation r m) >>= λ f. followed f (give onward)) env n) ≡ (violated own r m >> give onward) env n
 unfolding stmt eval
 violated-at true m k env zero = refl
 violated-at true m k env (suc zero) = refl
@@ -70,8 +70,8 @@ violated-at false m k env (suc (suc (suc n))) = stopping k (ev m env n)
 -- the condition, past the steps that come before it
 tested : (r : Bool) (m : Expr Text) (x : Result Text (Value Text)) →
     andThen (andThen (andThen x (λ v. unaryOn own 5 (operand v))) (truth 2))
-    (λ t. when t (scoped (body own retName plainly (violation r m ▸ nil))) (give onward))
-    ≡ andThen (andThen x (λ v. truth 4 v >>= λ b. unless b (violated own retName r m))) (λ (u : Unit {0}). give onward)
+    (λ t. when t (scoped (body own plainly (violation r m ▸ nil))) (give onward))
+    ≡ andThen (andThen x (λ v. truth 4 v >>= λ b. unless b (violated own r m))) (λ (u : Unit {0}). give onward)
 unfolding stmt unaryValue bang
 tested r m (got (plain nothing) env n) = refl
 tested r m (got (plain (folded (value.int z))) env n) = refl
@@ -84,38 +84,38 @@ tested r m (got (err p) env n) = refl
 tested r m (ended o n) = refl
 
 guard-at : (r : Bool) (c : Check Text) (env : Env Text) (n : ℕ) →
-    st (guard r c) env n ≡ (check own retName r c >> give onward) env n
+    st (guard r c) env n ≡ (check own r c >> give onward) env n
 unfolding stmt eval
 guard-at r c env zero = refl
 guard-at r c env (suc zero) = refl
 guard-at r c env (suc (suc n)) = tested r (c .message) (ev (c .condition) env n)
 
 -- THE GUARD: as runs
-pub guard-is : (r : Bool) (c : Check Text) → st (guard r c) ≡ (check own retName r c >> give onward)
+pub guard-is : (r : Bool) (c : Check Text) → st (guard r c) ≡ (check own r c >> give onward)
 guard-is r c = λ i env n. guard-at r c env n i
 
 -- ---- guards in a body, and at the top
 
 pub guards-body : (r : Bool) (cs : List (Check Text)) (b : Body Text) →
-    body own retName plainly (guards r cs b) ≡ (checks own retName r cs >> body own retName plainly b)
+    body own plainly (guards r cs b) ≡ (checks own r cs >> body own plainly b)
 unfolding stmt checks guards
 guards-body r [] b = refl
 guards-body r (c ∷ cs) b =
     (λ i env n. andThen (guard-is r c i env n) (λ f. followed f (guards-body r cs b i)))
-    ∙ (λ i env n. regroup (check own retName r c env n) (checks own retName r cs) (body own retName plainly b) i)
+    ∙ (λ i env n. regroup (check own r c env n) (checks own r cs) (body own plainly b) i)
 
 -- a statement that is no bare expression, at the top
 pub top-cons : (m : Mode Text) (s : Stmt Text) (b : Body Text) → bare s ≡ none →
-    top own retName m (s ▸ b) ≡ (stmt own retName m s >>= λ f. followedTop f (top own retName m b))
+    top own m (s ▸ b) ≡ (stmt own m s >>= λ f. followedTop f (top own m b))
 unfolding top
-top-cons m s nil e = ap (λ o. lastOr own retName o (stmt own retName m s)) e
+top-cons m s nil e = ap (λ o. lastOr own o (stmt own m s)) e
 top-cons m s (t ▸ b) e = refl
 
 pub guards-top : (r : Bool) (cs : List (Check Text)) (b : Body Text) →
-    top own retName plainly (guards r cs b) ≡ (checks own retName r cs >> top own retName plainly b)
+    top own plainly (guards r cs b) ≡ (checks own r cs >> top own plainly b)
 unfolding checks guards
 guards-top r [] b = refl
 guards-top r (c ∷ cs) b =
     top-cons plainly (guard r c) (guards r cs b) refl
     ∙ (λ i env n. andThen (guard-is r c i env n) (λ f. followedTop f (guards-top r cs b i)))
-    ∙ (λ i env n. regroupTop (check own retName r c env n) (checks own retName r cs) (top own retName plainly b) i)
+    ∙ (λ i env n. regroupTop (check own r c env n) (checks own r cs) (top own plainly b) i)

@@ -150,6 +150,7 @@ ensured r (c ∷ cs) b = ended r (c ∷ cs) (transformBody r (c ∷ cs) 0 b)
 unfoldable pub lowered : Function Text → Function Text
 lowered f =
     record {
+      name = f .name;
       params = f .params;
       isResult = f .isResult;
       entry = [];

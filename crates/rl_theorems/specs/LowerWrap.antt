@@ -24,7 +24,7 @@ module _ (cs : List (Check Text)) (clean : CleanChecks cs) (t : Text) (isReserve
   ev = eval own
 
   abbrev run : Body Text → Run Text Flow
-  run = body own retName plainly
+  run = body own plainly
 
   -- the last statement finds the value under its name
   last : (v : Value Text) (env env′ : Env Text) (n : ℕ) → Hid t v isReserved env env′ →
@@ -40,7 +40,7 @@ module _ (cs : List (Check Text)) (clean : CleanChecks cs) (t : Text) (isReserve
 
   -- the checks and what follows them
   abbrev tail′ : Bool → Value Text → Run Text Flow
-  tail′ r v = checks own retName r cs >> (charge 2 >> halt (returned v))
+  tail′ r v = checks own r cs >> (charge 2 >> halt (returned v))
 
   -- from the binding of `ret` on
   ensured : (r : Bool) (v : Value Text) (env env′ : Env Text) (n : ℕ) → Hid t v isReserved env env′ → run (tail r) env n ≡ tail′ r v env′ n
@@ -96,20 +96,20 @@ module _ (cs : List (Check Text)) (clean : CleanChecks cs) (t : Text) (isReserve
   valued r (got v env n) = room (ltb (length env) 128) r v env n
   valued r (ended o n) = refl
 
-  wrap-at : (r : Bool) (e : Expr Text) (env : Env Text) (n : ℕ) → run (wrapAs r cs t e) env n ≡ stmt own retName (checked r cs) (return e) env n
+  wrap-at : (r : Bool) (e : Expr Text) (env : Env Text) (n : ℕ) → run (wrapAs r cs t e) env n ≡ stmt own (checked retName r cs) (return e) env n
   unfolding stmt
   wrap-at r e env zero = refl
   wrap-at r e env (suc n) = valued r (ev e env n)
 
   -- THE WRAP: as runs
-  pub wrap-is : (r : Bool) (e : Expr Text) → run (wrapAs r cs t e) ≡ stmt own retName (checked r cs) (return e)
+  pub wrap-is : (r : Bool) (e : Expr Text) → run (wrapAs r cs t e) ≡ stmt own (checked retName r cs) (return e)
   wrap-is r e = λ i env n. wrap-at r e env n i
 
-  pub wrap-null : (r : Bool) → run (wrapAs r cs t null) ≡ stmt own retName (checked r cs) returnAlone
+  pub wrap-null : (r : Bool) → run (wrapAs r cs t null) ≡ stmt own (checked retName r cs) returnAlone
   unfolding stmt eval
   wrap-null r = wrap-is r null ∙ (λ i env n. null-at n env i)
     where
-      null-at : (n : ℕ) (env : Env Text) → stmt own retName (checked r cs) (return null) env n ≡ stmt own retName (checked r cs) returnAlone env n
+      null-at : (n : ℕ) (env : Env Text) → stmt own (checked retName r cs) (return null) env n ≡ stmt own (checked retName r cs) returnAlone env n
       null-at zero env = refl
       null-at (suc zero) env = refl
       null-at (suc (suc n)) env = refl

@@ -14,7 +14,7 @@ use Rattle.rl_spec.specs.Fold.{unaryValue, binaryValue}
 use Rattle.rl_spec.specs.Statement.{Stmt, declaration, expression, return, conditional, while, Body, nil, _▸_, Branch, branch, noElse, elseConditional}
 use Rattle.rl_spec.specs.Message.{decimalBy, decimal}
 use Rattle.rl_spec.specs.Functions.{Text}
-use Rattle.rl_spec.specs.Run.{Plain, folded, Value, plain, ok, err, folds, Outcome, returned, stopped, fault, spent, find, update, eval}
+use Rattle.rl_spec.specs.Run.{Plain, folded, Value, plain, ok, err, folds, Outcome, returned, stopped, fault, spent, used, find, update, eval}
 use Rattle.rl_spec.specs.Reading.{Check, Function, checks, turns, stmt, body, top, runFunction, reading}
 use Rattle.rl_theorems.specs.LowerTrees.{_⧺_, guards, transformStmt, trailing, withoutLast, lowered}
 use Rattle.rl_theorems.specs.LowerFrame.{begins, Clean, CleanChecks}
@@ -69,6 +69,7 @@ counting =
 abbrev pub plainOne : Function Text
 plainOne =
     record {
+      name = ascii "f";
       params = ascii "x" ∷ [];
       isResult = false;
       entry = must (binary x 10 (number 0)) ∷ [];
@@ -80,6 +81,7 @@ plainOne =
 abbrev pub resultOne : Function Text
 resultOne =
     record {
+      name = ascii "f";
       params = ascii "x" ∷ [];
       isResult = true;
       entry = [];
@@ -122,7 +124,7 @@ result-lowered = refl
 
 -- `return 5` under ensures
 abbrev five : Check Text → Function Text
-five c = record { params = []; isResult = false; entry = []; ensures = c ∷ []; body = one (return (number 5)) }
+five c = record { name = ascii "f"; params = []; isResult = false; entry = []; ensures = c ∷ []; body = one (return (number 5)) }
 
 -- a condition that looks a temporary up, a message that does, and a condition that assigns one
 abbrev looking : Function Text
@@ -138,6 +140,7 @@ changing = five (must (binary (assign first (number 6)) 6 (number 6)))
 abbrev after : Function Text
 after =
     record {
+      name = ascii "f";
       params = [];
       isResult = false;
       entry = [];
@@ -218,11 +221,11 @@ cases =
 
 -- THEOREM: each of them ends so
 pub runs-end-so :
-    map (λ c. runFunction (λ t. t) (ascii "ret") (lowered (c .function)) (c .values) (c .budget)) cases ≡ map (λ c. c .runs) cases
+    map (λ c. used (c .budget) (runFunction (λ t. t) (lowered (c .function)) (c .values) (c .budget))) cases ≡ map (λ c. c .runs) cases
 unfolding cases lowered guards transformStmt trailing withoutLast _⧺_ decimal decimalBy ascii runFunction turns top stmt eval find update sameText unaryValue binaryValue bang compareValues arithValues
 runs-end-so = refl
 
 pub reads-end-so :
-    map (λ c. reading (λ t. t) (ascii "ret") (c .function) (c .values) (c .budget)) cases ≡ map (λ c. c .reads) cases
+    map (λ c. used (c .budget) (reading (λ t. t) (ascii "ret") (c .function) (c .values) (c .budget))) cases ≡ map (λ c. c .reads) cases
 unfolding cases ascii reading checks turns top stmt eval find update sameText unaryValue binaryValue bang compareValues arithValues
 reads-end-so = refl

@@ -72,6 +72,7 @@ pub lowered-to : (f : Function Text) → Ensured (f .ensures) (f .body) → Lowe
 unfolding lowered
 lowered-to f h =
     record {
+      name = refl;
       params = refl;
       rest = ensured (f .isResult) (f .ensures) (f .body);
       ensured = ensured-to (f .isResult) (f .ensures) (f .body) h;
@@ -82,10 +83,10 @@ lowered-to f h =
 
 -- under the premises that the proof uses
 pub lowered-reads : (f : Function Text) (vs : List (Value Text)) (budget : ℕ) → CleanChecks (f .ensures) → Ensured (f .ensures) (f .body) →
-    runFunction (λ t. t) (ascii "ret") (lowered f) vs budget ≡ reading (λ t. t) (ascii "ret") f vs budget
+    runFunction (λ t. t) (lowered f) vs budget ≡ reading (λ t. t) (ascii "ret") f vs budget
 lowered-reads f vs budget clean last = lowered-to-runs f (lowered f) vs budget clean (lowered-to f last)
 
 -- THEOREM
 pub lowered-runs : (f : Function Text) (vs : List (Value Text)) (budget : ℕ) → Premises f →
-    runFunction (λ t. t) (ascii "ret") (lowered f) vs budget ≡ reading (λ t. t) (ascii "ret") f vs budget
+    runFunction (λ t. t) (lowered f) vs budget ≡ reading (λ t. t) (ascii "ret") f vs budget
 lowered-runs f vs budget p = lowered-reads f vs budget (p .ensures) (p .last)

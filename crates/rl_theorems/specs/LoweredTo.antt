@@ -9,8 +9,8 @@ use mathlib.Core.Option.{Option, none}
 use Rattle.rl_spec.specs.Tree.{Expr, null, ascii}
 use Rattle.rl_spec.specs.Statement.{Stmt, declaration, expression, return, returnAlone, conditional, while, loop, break, continue, otherStatement, Body, nil, _▸_, Branch, branch, Else, noElse, elseBranch, elseConditional}
 use Rattle.rl_spec.specs.Functions.{Text}
-use Rattle.rl_spec.specs.Run.{Value, Result, got, ended, Run, andThen, _>>=_, _>>_, give, tick, scoped}
-use Rattle.rl_spec.specs.Reading.{Check, Function, plainly, checked, modeOf, bare, onlyReturned, withReturn, bodyUnder, onward, followed, followedTop, repeat, loopTurn, when, bindAll, checks, taken, whileTurn, stmt, body, branchOr, orElse, top, finish, runFunction, reading}
+use Rattle.rl_spec.specs.Run.{Value, Result, got, ended, ending, Run, andThen, _>>=_, _>>_, give, tick, scoped}
+use Rattle.rl_spec.specs.Reading.{Check, Function, plainly, checked, modeOf, bare, onlyReturned, withReturn, bodyUnder, onward, followed, followedTop, repeat, loopTurn, when, bindAll, checks, taken, whileTurn, stmt, body, branchOr, orElse, top, runFunction, reading}
 use Rattle.rl_theorems.specs.LowerTrees.{_⧺_, guards, reserved, retName, wrapAs, temporary, transformStmt, transformBody, transformBranch, transformElse}
 use Rattle.rl_theorems.specs.LowerGuard.{own, top-cons, guards-top}
 use Rattle.rl_theorems.specs.LowerFrame.{begins, CleanChecks}
@@ -109,27 +109,27 @@ module _ (r : Bool) (cs : List (Check Text)) where
     mutual
       unfolding stmt
 
-      pub stmt-runs : {s : Stmt Text} {a : Body Text} → StmtTo s a → run plainly a ≡ st (checked r cs) s
+      pub stmt-runs : {s : Stmt Text} {a : Body Text} → StmtTo s a → run plainly a ≡ st (checked retName r cs) s
       stmt-runs (declarationTo {x = x} {e = e}) = one plainly (declaration x e)
       stmt-runs (expressionTo {e = e}) = one plainly (expression e)
       stmt-runs (returnTo {e = e} t h q) = ap (run plainly) q ∙ wrap-is cs clean t h r e
       stmt-runs (returnAloneTo t h q) = ap (run plainly) q ∙ wrap-null cs clean t h r
       stmt-runs (conditionalTo {b′ = b′} {e′ = e′} p q) = one plainly (conditional b′ e′) ∙ (λ i. tick >> branch-runs p i (else-runs q i))
-      stmt-runs (whileTo {e = e} {b′ = b′} p) = one plainly (while e b′) ∙ (λ i. tick >> repeat (whileTurn own retName e (body-runs p i)))
+      stmt-runs (whileTo {e = e} {b′ = b′} p) = one plainly (while e b′) ∙ (λ i. tick >> repeat (whileTurn own e (body-runs p i)))
       stmt-runs (loopTo {b′ = b′} p) = one plainly (loop b′) ∙ (λ i. tick >> repeat (loopTurn (body-runs p i)))
       stmt-runs breakTo = one plainly break
       stmt-runs continueTo = one plainly continue
       stmt-runs otherTo = one plainly otherStatement
 
-      pub body-runs : {b b′ : Body Text} → BodyTo b b′ → run plainly b′ ≡ run (checked r cs) b
+      pub body-runs : {b b′ : Body Text} → BodyTo b b′ → run plainly b′ ≡ run (checked retName r cs) b
       body-runs nilTo = refl
       body-runs (consTo {a = a} {b′ = b′} p q e) =
           ap (run plainly) e ∙ run-append plainly a b′ ∙ (λ i. stmt-runs p i >>= λ f. followed f (body-runs q i))
 
-      branch-runs : {b b′ : Branch Text} → BranchTo b b′ → branchOr own retName plainly b′ ≡ branchOr own retName (checked r cs) b
-      branch-runs (branchTo {c = c} p) = λ i other. taken own retName c >>= λ t. when t (scoped (body-runs p i)) other
+      branch-runs : {b b′ : Branch Text} → BranchTo b b′ → branchOr own plainly b′ ≡ branchOr own (checked retName r cs) b
+      branch-runs (branchTo {c = c} p) = λ i other. taken own c >>= λ t. when t (scoped (body-runs p i)) other
 
-      else-runs : {e e′ : Else Text} → ElseTo e e′ → orElse own retName plainly e′ ≡ orElse own retName (checked r cs) e
+      else-runs : {e e′ : Else Text} → ElseTo e e′ → orElse own plainly e′ ≡ orElse own (checked retName r cs) e
       else-runs noElseTo = refl
       else-runs (elseBranchTo p) = λ i. branch-runs p i (give onward)
       else-runs elseConditionalTo = refl
@@ -137,15 +137,15 @@ module _ (r : Bool) (cs : List (Check Text)) where
     -- ---- the top
 
     -- what follows a statement that is no bare expression
-    next : {s : Stmt Text} {a b b′ c : Body Text} → StmtTo s a → bare s ≡ none → BodyTo b b′ → whole plainly b′ ≡ whole (checked r cs) b → c ≡ a ⧺ b′ →
-        whole plainly c ≡ whole (checked r cs) (s ▸ b)
+    next : {s : Stmt Text} {a b b′ c : Body Text} → StmtTo s a → bare s ≡ none → BodyTo b b′ → whole plainly b′ ≡ whole (checked retName r cs) b → c ≡ a ⧺ b′ →
+        whole plainly c ≡ whole (checked retName r cs) (s ▸ b)
     next {s} {a} {b} {b′} p h ps ih e =
         ap (whole plainly) e
         ∙ top-append plainly a b′ (no-bare-to p h)
         ∙ (λ i. stmt-runs p i >>= λ f. followedTop f (ih i))
-        ∙ sym (top-cons (checked r cs) s b h)
+        ∙ sym (top-cons (checked retName r cs) s b h)
 
-    pub body-top : {b b′ : Body Text} → BodyTo b b′ → whole plainly b′ ≡ whole (checked r cs) b
+    pub body-top : {b b′ : Body Text} → BodyTo b b′ → whole plainly b′ ≡ whole (checked retName r cs) b
     unfolding top stmt _⧺_
     body-top nilTo = refl
     body-top (consTo (expressionTo {e = e}) nilTo q) = ap (whole plainly) q
@@ -178,15 +178,16 @@ with-return (s ▸ nil) h = ap (onlyReturned s) h
 with-return (s ▸ (t ▸ b)) h = refl
 
 pub ensured-top : {r : Bool} {cs : List (Check Text)} {b b′ : Body Text} → CleanChecks cs → EnsuredTo r cs b b′ →
-    whole plainly b′ ≡ whole (modeOf r cs) (bodyUnder cs b)
+    whole plainly b′ ≡ whole (modeOf retName r cs) (bodyUnder cs b)
 ensured-top clean (asIs q) = ap (whole plainly) q
 ensured-top {r} clean (wrapped {c = c} {cs = cs} {b = b} h p) =
-    body-top r (c ∷ cs) clean p ∙ ap (whole (checked r (c ∷ cs))) (sym (with-return b h))
+    body-top r (c ∷ cs) clean p ∙ ap (whole (checked retName r (c ∷ cs))) (sym (with-return b h))
 ensured-top {r} clean (onlyWrapped {c = c} {cs = cs} {e = e} t h q) =
     body-top r (c ∷ cs) clean (consTo (returnTo t h refl) nilTo (q ∙ sym (append-nil (wrapAs r (c ∷ cs) t e))))
 
 -- a function is lowered to another: its entry checks as guards, and its body so
 pub record LoweredTo (f g : Function Text) : Type 0 where
+  pub name : g .name ≡ f .name
   pub params : g .params ≡ f .params
   pub rest : Body Text
   pub ensured : EnsuredTo (f .isResult) (f .ensures) (f .body) rest
@@ -199,17 +200,17 @@ regroup (ended o n) k l = refl
 
 -- THEOREM: the plain run of what a function is lowered to is the function's contract reading
 pub lowered-to-runs : (f g : Function Text) (vs : List (Value Text)) (budget : ℕ) → CleanChecks (f .ensures) → LoweredTo f g →
-    runFunction (λ t. t) (ascii "ret") g vs budget ≡ reading (λ t. t) (ascii "ret") f vs budget
+    runFunction (λ t. t) g vs budget ≡ reading (λ t. t) (ascii "ret") f vs budget
 unfolding runFunction reading
 lowered-to-runs f g vs budget clean to =
-    (λ i. finish own retName budget ((bindAll (to .params i) vs >> runs i) [] budget))
-    ∙ (λ i. finish own retName budget (regroup (bindAll (f .params) vs [] budget) (checks own retName (f .isResult) (f .entry)) end i))
+    (λ i. ending ((bindAll (to .params i) vs >> runs i) [] budget))
+    ∙ (λ i. ending (regroup (bindAll (f .params) vs [] budget) (checks own (f .isResult) (f .entry)) end i))
   where
     end : Run Text (Value Text)
-    end = whole (modeOf (f .isResult) (f .ensures)) (bodyUnder (f .ensures) (f .body))
+    end = whole (modeOf retName (f .isResult) (f .ensures)) (bodyUnder (f .ensures) (f .body))
 
-    runs : whole plainly (g .body) ≡ (checks own retName (f .isResult) (f .entry) >> end)
+    runs : whole plainly (g .body) ≡ (checks own (f .isResult) (f .entry) >> end)
     runs =
         ap (whole plainly) (to .body)
         ∙ guards-top (f .isResult) (f .entry) (to .rest)
-        ∙ (λ i. checks own retName (f .isResult) (f .entry) >> ensured-top clean (to .ensured) i)
+        ∙ (λ i. checks own (f .isResult) (f .entry) >> ensured-top clean (to .ensured) i)

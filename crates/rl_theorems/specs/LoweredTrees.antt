@@ -9,16 +9,18 @@ use native.Mathlib.Omega.{arith}
 use lib.Dec.{ltb}
 use lib.ListN.{length, getD}
 use lib.Seq.{getD-set-same, getD-set-other}
-use Rattle.rl_spec.specs.declared.Section.the-variants.{Parameters, Functions}
+use Rattle.rl_spec.specs.declared.Section.the-variants.{Texts, Parameters, Functions}
 use Rattle.rl_spec.specs.Bytes.{pick}
 use Rattle.rl_spec.specs.Image.{Field, noField, Rec, Image, recordsOf, sizeOf, noRecord, recordOf, fieldOf, first, textOf, encode, WellFormed}
 use Rattle.rl_spec.specs.Tree.{ascii}
 use Rattle.rl_spec.specs.Statement.{Body, bodyTree}
-use Rattle.rl_spec.specs.Records.{interval, paramAt, clauseAt, functionAt}
-use Rattle.rl_spec.specs.Contracts.{ParamRefinement, Param, clauseOf, upFrom, numbersIn, anyRefined, isEmpty, isSome}
+use Rattle.rl_spec.specs.Ranges.{interval}
+use Rattle.rl_spec.specs.Records.{paramAt, clauseAt, functionAt}
+use Rattle.rl_spec.specs.Ranges.{upFrom, numbersIn}
+use Rattle.rl_spec.specs.Contracts.{ParamRefinement, Param, clauseOf, anyRefined, isEmpty, isSome}
 use Rattle.rl_spec.specs.Functions.{Text, mapBody, plainFunction, contractFunction, checkFirst, refinementChecks, clauseCheck}
-use Rattle.rl_spec.specs.Run.{Value}
-use Rattle.rl_spec.specs.Reading.{Check, Function, runFunction, reading}
+use Rattle.rl_spec.specs.Run.{Value, ending, _>>_}
+use Rattle.rl_spec.specs.Reading.{Check, Function, plainly, bindAll, top, runFunction, reading}
 use Rattle.rl_spec.specs.Make.{Context}
 use Rattle.rl_spec.specs.Lower.{paramsIn, requiresIn, ensuresIn, bodyIn, hasContracts, newBody, start, bodied, withBody, fitting, finished, lowered}
 use Rattle.rl_theorems.specs.LowerTrees as tree
@@ -100,15 +102,22 @@ module _ (im : Image) (wf : WellFormed im) (f : ℕ) (inside : f < sizeOf im Fun
     unfolding functionAt
     same-params = ap (λ r. interval (fieldOf r 2)) own-record ∙ ap interval (getD-set-other (own .fields) 4 2 list noField (λ h. omega arith))
 
+    -- a text of the original
+    same-text : (t : ℕ) → t < sizeOf im Texts → textOf end t ≡ textOf im t
+    same-text t h =
+        let s : Says im t (textOf im t) = text-says im wf t h in
+        text-same (c .image) _ t ∙ text-kept (later .image) t (s .inside) (s .part)
+
+    same-own-name : functionAt end f .name ≡ functionAt im f .name
+    unfolding functionAt
+    same-own-name = ap (λ r. first (fieldOf r 0)) own-record ∙ ap first (getD-set-other (own .fields) 4 0 list noField (λ h. omega arith))
+
     same-name : (i : ℕ) → i < sizeOf im Parameters → textOf end (paramAt end i .name) ≡ textOf im (paramAt im i .name)
     unfolding paramAt
     same-name i h =
-        let t : ℕ = paramAt im i .name in
-        let s : Says im t (textOf im t) = text-says im wf t (name-inside im wf i h) in
         ap (λ l. textOf end (first (fieldOf (getD l i noRecord) 0)))
         (records-other (c .image) Functions Parameters _ (λ h. omega arith) ∙ later .image .parameters)
-        ∙ text-same (c .image) _ t
-        ∙ text-kept (later .image) t (s .inside) (s .part)
+        ∙ same-text (paramAt im i .name) (name-inside im wf i h)
 
     same-names : (a n : ℕ) → a + n ≤ sizeOf im Parameters →
         map (λ i. textOf end (paramAt end i .name)) (upFrom a n) ≡ map (λ i. textOf im (paramAt im i .name)) (upFrom a n)
@@ -116,11 +125,11 @@ module _ (im : Image) (wf : WellFormed im) (f : ℕ) (inside : f < sizeOf im Fun
     same-names a zero h = refl
     same-names a (suc n) h = ap₂ (λ x xs. x ∷ xs) (same-name a (omega arith)) (same-names (a + 1) n (omega arith))
 
-    finished-to : Made list c → LoweredTo source (mapFunction (textOf end) (plainFunction end f))
-    unfolding plainFunction contractFunction functionAt
+    finished-to : Made list c → LoweredTo source (contractFunction end f)
+    unfolding contractFunction functionAt
     finished-to h = record {
-      params = map-map (textOf end) (λ i. paramAt end i .name) (numbersIn (functionAt end f .params))
-          ∙ ap (λ l. map (λ i. textOf end (paramAt end i .name)) (numbersIn l)) same-params
+      name = ap (textOf end) same-own-name ∙ same-text _ (function-fits im wf f inside .name);
+      params = ap (λ l. map (λ i. textOf end (paramAt end i .name)) (numbersIn l)) same-params
           ∙ same-names _ _ (function-fits im wf f inside .params);
       rest = h .0;
       ensured = h .4;
@@ -131,13 +140,13 @@ module _ (im : Image) (wf : WellFormed im) (f : ℕ) (inside : f < sizeOf im Fun
 
   finished-case : (im′ : Image) → Ensured (source .ensures) (source .body) → (o : Option (Field × Context)) →
       newBody im f (start im f) ≡ o →
-      finished f o ≡ some im′ → LoweredTo source (mapFunction (textOf im′) (plainFunction im′ f))
+      finished f o ≡ some im′ → LoweredTo source (contractFunction im′ f)
   unfolding fitting
   finished-case im′ h none e q = absurd (Option·none-ne-some im′ q)
   finished-case im′ h (some r) e q =
       let m = good-is (made-body h) (eight-sections im wf) e in
       let is = fitting-is (ltb 65535 (length (encode (withBody (r .1 .image) f (r .0))))) q in
-      subst (λ x. LoweredTo source (mapFunction (textOf x) (plainFunction x f))) is (finished-to (r .1) (m .0) (r .0) (m .1))
+      subst (λ x. LoweredTo source (contractFunction x f)) is (finished-to (r .1) (m .0) (r .0) (m .1))
     where
       fitting-is : {x y : Image} (b : Bool) → pick b none (some x) ≡ some y → x ≡ y
       fitting-is {y = y} true e = absurd (Option·none-ne-some y e)
@@ -145,8 +154,8 @@ module _ (im : Image) (wf : WellFormed im) (f : ℕ) (inside : f < sizeOf im Fun
 
   -- ---- a function without contracts is left
 
-  plain-case : hasContracts im f ≡ false → LoweredTo source (mapFunction (textOf im) (plainFunction im f))
-  unfolding plainFunction contractFunction hasContracts tree.guards
+  plain-case : hasContracts im f ≡ false → LoweredTo source (contractFunction im f)
+  unfolding contractFunction hasContracts tree.guards
   plain-case h =
       let p = or-false (not (isEmpty (requiresIn im f)) || not (isEmpty (ensuresIn im f))) (anyRefined (paramsIn im f)) h in
       let q = or-false (not (isEmpty (requiresIn im f))) (not (isEmpty (ensuresIn im f))) (p .0) in
@@ -155,30 +164,35 @@ module _ (im : Image) (wf : WellFormed im) (f : ℕ) (inside : f < sizeOf im Fun
       let noRequired = no-map (clauseAt im) (check (ascii "requires violated")) (numbersIn (functionAt im f .required)) (q .0) in
       let noEnsured = no-map (clauseAt im) (check (ascii "ensures violated")) (numbersIn (functionAt im f .ensured)) (q .1) in
       record {
-        params = map-map (textOf im) (λ i. paramAt im i .name) (numbersIn (functionAt im f .params));
+        name = refl;
+        params = refl;
         rest = source .body;
         ensured = subst (λ cs. EnsuredTo (source .isResult) cs (source .body) (source .body)) (sym noEnsured) (asIs refl);
         body = sym (ap₂ (λ xs ys. tree.guards (source .isResult) (xs ++ ys) (source .body)) noRefined noRequired);
       }
 
--- THEOREM: the function of the lowered image, its texts as bytes, is what the function is lowered to
+-- THEOREM: the function of the lowered image is what the function is lowered to
 pub lowered-trees : (im im′ : Image) (f : ℕ) → WellFormed im → f < sizeOf im Functions → lowered im f ≡ some im′ →
-    Ensured (contractFunction im f .ensures) (contractFunction im f .body) →
-    LoweredTo (contractFunction im f) (mapFunction (textOf im′) (plainFunction im′ f))
+    Ensured (contractFunction im f .ensures) (contractFunction im f .body) → LoweredTo (contractFunction im f) (contractFunction im′ f)
 unfolding lowered
 lowered-trees im im′ f wf inside e o = go (hasContracts im f) refl e
   where
     go : (b : Bool) → hasContracts im f ≡ b → pick b (finished f (newBody im f (start im f))) (some im) ≡ some im′ →
-        LoweredTo (contractFunction im f) (mapFunction (textOf im′) (plainFunction im′ f))
+        LoweredTo (contractFunction im f) (contractFunction im′ f)
     go true h q = finished-case im wf f inside im′ o (newBody im f (start im f)) refl q
-    go false h q =
-        subst (λ x. LoweredTo (contractFunction im f) (mapFunction (textOf x) (plainFunction x f))) (Option·some-injective im im′ q)
-        (plain-case im wf f inside h)
+    go false h q = subst (λ x. LoweredTo (contractFunction im f) (contractFunction x f)) (Option·some-injective im im′ q) (plain-case im wf f inside h)
 
 -- THEOREM: and its plain run is the function's contract reading, where the ensures are clean
 pub lowered-reads : (im im′ : Image) (f : ℕ) → WellFormed im → f < sizeOf im Functions → lowered im f ≡ some im′ →
     Ensured (contractFunction im f .ensures) (contractFunction im f .body) → CleanChecks (contractFunction im f .ensures) →
     (vs : List (Value Text)) (budget : ℕ) →
-    runFunction (λ t. t) (ascii "ret") (mapFunction (textOf im′) (plainFunction im′ f)) vs budget
-    ≡ reading (λ t. t) (ascii "ret") (contractFunction im f) vs budget
+    runFunction (λ t. t) (contractFunction im′ f) vs budget ≡ reading (λ t. t) (ascii "ret") (contractFunction im f) vs budget
 lowered-reads im im′ f wf inside e o clean vs budget = lowered-to-runs _ _ vs budget clean (lowered-trees im im′ f wf inside e o)
+
+-- what the runner runs, its texts as bytes, runs as the function does without its clauses
+pub plain-runs : (im : Image) (f : ℕ) (vs : List (Value Text)) (budget : ℕ) →
+    runFunction (λ t. t) (mapFunction (textOf im) (plainFunction im f)) vs budget ≡ runFunction (λ t. t) (contractFunction im f) vs budget
+unfolding runFunction plainFunction contractFunction
+plain-runs im f vs budget =
+    ap (λ xs. ending ((bindAll xs vs >> top (λ t. t) plainly (mapBody (textOf im) (bodyTree im (functionAt im f .body)))) [] budget))
+    (map-map (textOf im) (λ i. paramAt im i .name) (numbersIn (functionAt im f .params)))

@@ -32,6 +32,6 @@ clean = (refl, tt, tt)
 
 -- what it is lowered to, LowerExamples' case11-whole, runs as the function is read
 pub example-reads : (im : Image) → lowered returns-ok 0 ≡ some im → (vs : List (Value Text)) (budget : ℕ) →
-    runFunction (λ t. t) (ascii "ret") (mapFunction (textOf im) (plainFunction im 0)) vs budget
+    runFunction (λ t. t) (contractFunction im 0) vs budget
     ≡ reading (λ t. t) (ascii "ret") (contractFunction returns-ok 0) vs budget
 example-reads im e = lowered-reads returns-ok im 0 original (lit< tt) e only clean

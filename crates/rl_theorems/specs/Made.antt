@@ -11,7 +11,7 @@ use Rattle.rl_spec.specs.declared.Section.the-variants.{Texts, Lists, Expressio
 use Rattle.rl_spec.specs.Schema.{limits}
 use Rattle.rl_spec.specs.Image.{Field, num, pair, Rec, Image, recordsOf, sizeOf, noRecord, recordOf, fieldOf, first}
 use Rattle.rl_spec.specs.Tree.{Expr}
-use Rattle.rl_spec.specs.Contracts.{upFrom}
+use Rattle.rl_spec.specs.Ranges.{upFrom}
 use Rattle.rl_spec.specs.Functions.{Text}
 use Rattle.rl_spec.specs.Make.{Context, withBytes, most, append, made, newText, newList, stmt}
 use Rattle.rl_spec.specs.Lower.{expr}

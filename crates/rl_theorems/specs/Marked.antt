@@ -31,7 +31,8 @@ use Rattle.rl_spec.specs.Values.{int, compareValues, compareFloats, compareBool
 use Rattle.rl_spec.specs.Tree.{ascii, formBy, descendBy, descend, exprTree}
 use Rattle.rl_spec.specs.Fold.{Binding, unaryValue, unaryFolded, binaryValue, binaryFolded, lookup, constEval, foldOf}
 use Rattle.rl_spec.specs.Records.{paramAt, clauseAt, functionAt, callAt}
-use Rattle.rl_spec.specs.Contracts.{paramOf, clauseOf, upFrom, contractsOf, anyRefined, isCallee, calleeAmong, calleeOf, argumentsOf}
+use Rattle.rl_spec.specs.Ranges.{upFrom}
+use Rattle.rl_spec.specs.Contracts.{paramOf, clauseOf, contractsOf, anyRefined, isCallee, calleeAmong, calleeOf, argumentsOf}
 use Rattle.rl_spec.specs.Prove.{bindArguments, refineBound, refutes, failsAt, failedRefinements, failedRequires, proveCall, violationsOf, reportEntries, callEntries, allEntries, proveOf, reportsOf, proveAllOf, allReportsOf}
 use Rattle.rl_spec.specs.Statement.{statementBy, itemTree}
 use Rattle.rl_spec.specs.Run.{folded, plain, Outcome, returned, find, eval}

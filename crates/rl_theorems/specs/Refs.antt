@@ -13,7 +13,7 @@ use Rattle.rl_spec.specs.declared.Sort.{Sort}
 use Rattle.rl_spec.specs.declared.Sort.the-variants.{Raw, One, Maybe, Many}
 use Rattle.rl_spec.specs.Schema.{sortOf, fieldsOf}
 use Rattle.rl_spec.specs.Image.{Field, num, pair, noField, Rec, Image, sizeOf, recordOf, first, entryOf, sectionOf, heightOf, tallestEntry, tallestIn, tallestChild, heights, Refers, Entries, FieldFits, FieldsFit}
-use Rattle.rl_spec.specs.Contracts.{upFrom}
+use Rattle.rl_spec.specs.Ranges.{upFrom}
 use Rattle.rl_spec.specs.Make.{entriesOf}
 use Rattle.rl_theorems.specs.Grows.{Longer, Grows, grows-records, grows-same}
 use Rattle.rl_theorems.specs.Kept.{grows-keeps, refers-there, refers-kept, field-kept, fields-kept}

@@ -11,7 +11,7 @@ use Rattle.rl_spec.specs.Values.{ConstVal, sameText, compareValues, arithValues
 use Rattle.rl_spec.specs.Tree.{Expr, null, literal, identifier, unary, binary, grouping, assign, okLiteral, errLiteral, isErr, resultUnwrap, other, ascii}
 use Rattle.rl_spec.specs.Fold.{unaryValue, binaryValue}
 use Rattle.rl_spec.specs.Statement.{Stmt, declaration, expression, return, returnAlone, conditional, while, loop, break, continue, otherStatement, Body, nil, _▸_, Branch, branch, Else, noElse, elseBranch, elseConditional}
-use Rattle.rl_spec.specs.Run.{Plain, nothing, folded, Value, plain, ok, err, folds, Outcome, returned, stopped, fault, spent, find, update, eval}
+use Rattle.rl_spec.specs.Run.{Plain, nothing, folded, Value, plain, ok, err, folds, Outcome, returned, stopped, fault, spent, used, find, update, eval}
 use Rattle.rl_spec.specs.Reading.{Check, Function, checks, turns, stmt, body, branchOr, orElse, top, runFunction, reading}
 
 abbrev T : Type 0
@@ -42,10 +42,10 @@ bool b = folds (value.bool b)
 
 -- a function without parameters and contracts
 abbrev plainly : Body T → Function T
-plainly b = record { params = []; isResult = false; entry = []; ensures = []; body = b }
+plainly b = record { name = name; params = []; isResult = false; entry = []; ensures = []; body = b }
 
 abbrev under : Bool → List (Check T) → List (Check T) → Body T → Function T
-under r entry ensures b = record { params = []; isResult = r; entry = entry; ensures = ensures; body = b }
+under r entry ensures b = record { name = name; params = []; isResult = r; entry = entry; ensures = ensures; body = b }
 
 abbrev must : Expr T → Check T
 must e = record { condition = e; message = said (ascii "no") }
@@ -58,8 +58,8 @@ pub data Case : Type 0 where
   reads : Function T → ℕ → Outcome T → ℕ → Case
 
 abbrev pub actual : Case → Outcome T × ℕ
-actual (runs b budget o n) = runFunction (λ t. t) (ascii "ret") (plainly b) [] budget
-actual (reads f budget o n) = reading (λ t. t) (ascii "ret") f [] budget
+actual (runs b budget o n) = used budget (runFunction (λ t. t) (plainly b) [] budget)
+actual (reads f budget o n) = used budget (reading (λ t. t) (ascii "ret") f [] budget)
 
 abbrev pub expected : Case → Outcome T × ℕ
 expected (runs b budget o n) = (o, n)

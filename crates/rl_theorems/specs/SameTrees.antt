@@ -11,11 +11,14 @@ use Rattle.rl_spec.specs.declared.Section.the-variants.{Texts, Lists, Expressio
 use Rattle.rl_spec.specs.declared.Interval.{Interval}
 use Rattle.rl_spec.specs.Bytes.{pick}
 use Rattle.rl_spec.specs.Image.{Field, Rec, Image, orderOf, recordsOf, recordOf, fieldOf, textOf}
+use Rattle.rl_spec.specs.declared.Form.{Form}
+use Rattle.rl_spec.specs.declared.Form.the-variants.{Null, Literal, Identifier, Unary, Binary, Grouping, Assign, OkLiteral, ErrLiteral, IsErr, ResultUnwrap, Other}
 use Rattle.rl_spec.specs.declared.StatementForm.{StatementForm}
-use Rattle.rl_spec.specs.declared.StatementForm.the-variants.{Declaration, Expression, Return, ReturnAlone, Conditional, Branch as ABranch, While, Loop, Break, Continue, Other}
-use Rattle.rl_spec.specs.Tree.{other, isResPath, callForm, formBy, descend, treeBy, exprTree}
+use Rattle.rl_spec.specs.declared.StatementForm.the-variants as line
+use Rattle.rl_spec.specs.declared.StatementForm.the-variants.{Declaration, Expression, Return, ReturnAlone, Conditional, Branch as ABranch, While, Loop, Break, Continue}
+use Rattle.rl_spec.specs.Tree.{Expr, other, isResPath, callForm, formBy, descend, treeBy, exprTree}
 use Rattle.rl_spec.specs.Statement.{declaration, expression, return, while, otherStatement, branch, Item, aStatement, aBranch, bodyBy, statementOf, itemBy, itemTree, bodyTree}
-use Rattle.rl_spec.specs.Functions.{mapBody}
+use Rattle.rl_spec.specs.Functions.{mapExpr, mapBody}
 use Rattle.rl_spec.specs.Make.{withRecords}
 use Rattle.rl_theorems.specs.Grows.{records-other}
 
@@ -35,9 +38,23 @@ module _ (im : Image) where
   unfolding formBy
   form-tables r = rw (call-tables (fieldOf r 1) (fieldOf r 2)) refl
 
+  tree-by : (form : Form) (tree : ℕ → Expr ℕ) → treeBy im form tree ≡ treeBy (tablesOf im) form tree
+  tree-by Null tree = refl
+  tree-by (Literal v) tree = refl
+  tree-by (Identifier t) tree = refl
+  tree-by (Unary op n) tree = refl
+  tree-by (Binary l op r) tree = refl
+  tree-by (Grouping n) tree = refl
+  tree-by (Assign t n) tree = refl
+  tree-by (OkLiteral n) tree = refl
+  tree-by (ErrLiteral n) tree = refl
+  tree-by (IsErr n) tree = refl
+  tree-by (ResultUnwrap n) tree = refl
+  tree-by Other tree = refl
+
   expr-tables : exprTree im ≡ exprTree (tablesOf im)
   unfolding exprTree
-  expr-tables = λ j. descend other (λ i tree. treeBy (form-tables (recordOf im Expressions i) j) tree)
+  expr-tables = λ j. descend other (λ i tree. tree-by (form-tables (recordOf im Expressions i) j) tree j)
 
   item-by : (form : StatementForm) (item : ℕ → Item) → itemBy im form item ≡ itemBy (tablesOf im) form item
   item-by (Declaration x n) item = λ i. aStatement (declaration x (expr-tables i n))
@@ -50,7 +67,7 @@ module _ (im : Image) where
   item-by (Loop list) item = refl
   item-by Break item = refl
   item-by Continue item = refl
-  item-by Other item = refl
+  item-by line.Other item = refl
 
   item-tables : itemTree im ≡ itemTree (tablesOf im)
   unfolding itemTree
@@ -74,6 +91,12 @@ module _ (im : Image) (rs : List Rec) where
   -- THEOREMS: bodies and texts, where only functions change
   pub body-same : (list : Interval) → mapBody (textOf changed) (bodyTree changed list) ≡ mapBody (textOf im) (bodyTree im list)
   body-same list = body-tables changed list ∙ ap (λ t. mapBody (textOf t) (bodyTree t list)) same-tables ∙ sym (body-tables im list)
+
+  pub expr-same : (n : ℕ) → mapExpr (textOf changed) (exprTree changed n) ≡ mapExpr (textOf im) (exprTree im n)
+  expr-same n =
+      (λ i. mapExpr (textOf changed) (expr-tables changed i n))
+      ∙ ap (λ t. mapExpr (textOf t) (exprTree t n)) same-tables
+      ∙ (λ i. mapExpr (textOf im) (sym (expr-tables im) i n))
 
   pub text-same : (t : ℕ) → textOf changed t ≡ textOf im t
   text-same t = ap (λ x. textOf x t) same-tables

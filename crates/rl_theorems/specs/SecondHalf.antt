@@ -74,5 +74,5 @@ module _ (s : List ℕ) (k call room n : ℕ) (some-reports : n ≡ 0 → ⊥) w
   -- whose entry checks no values that agree with the arguments pass, whatever the budget is
   pub second-half : proveOf s k call room ≡ Proved n → (f : ℕ) → calleeOf im call ≡ some f → (vs : List (Value Text)) →
       Asked im f (argumentsOf im call) vs → (budget : ℕ) (env : Env Text) (left : ℕ) →
-      entering (λ t. t) (ascii "ret") (contractFunction im f) vs [] budget ≡ got tt env left → ⊥
+      entering (λ t. t) (contractFunction im f) vs [] budget ≡ got tt env left → ⊥
   second-half e f c vs h = reported-never-enters im call f vs c h (reported e)

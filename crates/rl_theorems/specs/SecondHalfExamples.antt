@@ -34,7 +34,7 @@ Reported im call = proveOf (encode im) 8192 call 4 ≡ Proved 1
 
 -- function 0 with these values
 abbrev entry : Image → List (Value Text) → ℕ → Result Text (Unit {0})
-entry im vs budget = entering (λ t. t) (ascii "ret") (contractFunction im 0) vs [] budget
+entry im vs budget = entering (λ t. t) (contractFunction im 0) vs [] budget
 
 -- ---- the printer's example
 

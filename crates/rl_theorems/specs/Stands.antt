@@ -19,7 +19,7 @@ use Rattle.rl_spec.specs.Image.{Field, num, Rec, Image, sizeOf, recordOf, field
 use Rattle.rl_spec.specs.Values.{ConstVal, int, float, str, bool, sameText}
 use Rattle.rl_spec.specs.Tree.{Expr, null, literal, identifier, unary, binary, grouping, assign, okLiteral, errLiteral, isErr, resultUnwrap, other, ascii, signed, formBy}
 use Rattle.rl_spec.specs.Statement.{Stmt, declaration, expression, return, returnAlone, conditional, while, loop, break, continue, otherStatement, Body, nil, _▸_, Branch, branch, Else, noElse, elseBranch, elseConditional, statementBy}
-use Rattle.rl_spec.specs.Contracts.{upFrom}
+use Rattle.rl_spec.specs.Ranges.{upFrom}
 use Rattle.rl_spec.specs.Functions.{Text}
 use Rattle.rl_spec.specs.Make.{made, entriesOf}
 use Rattle.rl_theorems.specs.Grows.{Grows, size-grows, record-kept, entry-kept, text-kept, longer-length}

@@ -19,8 +19,8 @@ use Rattle.rl_spec.specs.Values.{ConstVal, int, str}
 use Rattle.rl_spec.specs.Folded.{foldedOf}
 use Rattle.rl_spec.specs.Tree.{Expr, literal, identifier, unary, binary, grouping, assign, okLiteral, errLiteral, isErr, resultUnwrap, other, ascii, below, isResPath, callForm, formBy, treeBy, exprTree}
 use Rattle.rl_spec.specs.Statement.{declaration, expression, return, returnAlone, conditional, while, loop, break, continue, otherStatement, Body, nil, _▸_, Branch, branch, Else, noElse, elseBranch, elseConditional, Item, aStatement, aBranch, asStatement, asBranch, asElse, bodyFrom, bodyBy, conditionBy, elseBy, statementBy, itemBy, itemTree, bodyTree}
-use Rattle.rl_spec.specs.Records.{interval}
-use Rattle.rl_spec.specs.Contracts.{upFrom}
+use Rattle.rl_spec.specs.Ranges.{interval}
+use Rattle.rl_spec.specs.Ranges.{upFrom}
 use Rattle.rl_spec.specs.Functions.{Text, mapOption, mapConst, mapExpr, mapStmt, mapBody, mapBranch, mapElse}
 use Rattle.rl_spec.specs.Make.{made}
 use Rattle.rl_laws.specs.Descend.{tree-is, item-is, below-earlier, under-earlier}
@@ -75,7 +75,7 @@ module _ (im : Image) where
   texts = textOf im
 
   plain-is : {k n : ℕ} {v : Option (ConstVal Text)} (s : Field) (tree : ℕ → Expr ℕ) → Plain k n v →
-      mapExpr texts (treeBy (formBy im (made k (s ∷ num n ∷ []))) tree) ≡ literal v
+      mapExpr texts (treeBy im (formBy im (made k (s ∷ num n ∷ []))) tree) ≡ literal v
   unfolding formBy mapExpr
   plain-is s tree anInteger = refl
   plain-is s tree anSInt = refl
@@ -85,7 +85,7 @@ module _ (im : Image) where
   plain-is s tree anSFloat = refl
 
   call-by : (b c : Bool) (n : ℕ) (tree : ℕ → Expr ℕ) →
-      mapExpr texts (treeBy (pick b (IsErr n) (pick c (ResultUnwrap n) Other)) tree)
+      mapExpr texts (treeBy im (pick b (IsErr n) (pick c (ResultUnwrap n) Other)) tree)
       ≡ pick b (isErr (mapExpr texts (tree n))) (pick c (resultUnwrap (mapExpr texts (tree n))) other)
   unfolding mapExpr
   call-by true c n tree = refl
@@ -100,10 +100,10 @@ module _ (im : Image) where
 
     pub tree-of : {i : ℕ} {e : Expr Text} → IsExpr im i e → mapExpr texts (exprTree im i) ≡ e
     tree-of (stands {i = i} k fs h d) =
-        ap (mapExpr texts) (tree-is im i ∙ ap (λ r. treeBy (formBy im r) (below i other (exprTree im))) (h .is)) ∙ tree-reads d
+        ap (mapExpr texts) (tree-is im i ∙ ap (λ r. treeBy im (formBy im r) (below i other (exprTree im))) (h .is)) ∙ tree-reads d
 
     tree-reads : {i k : ℕ} {fs : List Field} {e : Expr Text} → Reads im i k fs e →
-        mapExpr texts (treeBy (formBy im (made k fs)) (below i other (exprTree im))) ≡ e
+        mapExpr texts (treeBy im (formBy im (made k fs)) (below i other (exprTree im))) ≡ e
     tree-reads (aNull q) = rw q refl
     tree-reads (aLiteral {i = i} {s = s} p) = plain-is s (below i other (exprTree im)) p
     tree-reads (aString q t) = rw q (ap (λ x. literal (some (str x))) (t .is))
@@ -115,10 +115,10 @@ module _ (im : Image) where
     tree-reads (aCall q p ts a es d) = rw q (tree-call p ts a es ∙ sym d)
     tree-reads (anOk q l h) = rw q (ap okLiteral (before l (tree-of h)))
     tree-reads (anErr q l h) = rw q (ap errLiteral (before l (tree-of h)))
-    tree-reads (anOther {i = i} {fs = fs} k) = ap (λ f. mapExpr texts (treeBy f (below i other (exprTree im)))) (k im fs)
+    tree-reads (anOther {i = i} {fs = fs} k) = ap (λ f. mapExpr texts (treeBy im f (below i other (exprTree im)))) (k im fs)
 
     tree-call : {i : ℕ} {path args : Field} {ts ns : List ℕ} {xs : List Text} {es : List (Expr Text)} → Holds im path ts → AllSay im ts xs →
-        Holds im args ns → Args im i ns es → mapExpr texts (treeBy (callForm im path args) (below i other (exprTree im))) ≡ callTree xs es
+        Holds im args ns → Args im i ns es → mapExpr texts (treeBy im (callForm im path args) (below i other (exprTree im))) ≡ callTree xs es
     tree-call p ts a noArgs = rw (holds-length a) refl
     tree-call {i} {path} {args} {xs = xs} p ts a (anArg {n = n} l h noArgs) =
         rw (holds-length a, path-is (ascii "is_err") ts p, path-is (ascii "result_unwrap") ts p, holds-first a)

@@ -14,8 +14,8 @@ use Rattle.rl_spec.specs.Values.{ConstVal}
 use Rattle.rl_spec.specs.Fold.{unaryValue, binaryValue}
 use Rattle.rl_spec.specs.Tree.{Expr, null, literal, identifier, unary, binary, grouping, assign, okLiteral, errLiteral, isErr, resultUnwrap, other}
 use Rattle.rl_spec.specs.Statement.{Stmt, declaration, expression, return, returnAlone, conditional, while, loop, break, continue, otherStatement, Body, nil, _▸_, Branch, branch, Else, noElse, elseBranch, elseConditional}
-use Rattle.rl_spec.specs.Run.{nothing, folded, Value, plain, ok, err, Bound, hidden, Env, Outcome, returned, stopped, fault, spent, Result, got, ended, Run, andThen, _>>=_, _>>_, give, halt, orFault, tick, charge, bind, leaving, scoped, truth, plainOf, errOf, unwrapped, operand, find, update, look, store, unaryOn, binaryOn, eval}
-use Rattle.rl_spec.specs.Reading.{Check, Function, Mode, plainly, checked, modeOf, bodyUnder, bare, Flow, onward, breaks, continues, followed, followedTop, again, turns, repeat, loopTurn, when, unless, bindAll, content, subject, violated, checks, checkedReturn, returning, returningNull, taken, whileTurn, stmt, body, branchOr, orElse, lastOr, top, finish, entering, runFunction, reading}
+use Rattle.rl_spec.specs.Run.{nothing, folded, Value, plain, ok, err, Bound, hidden, Env, Outcome, returned, stopped, fault, spent, Result, got, ended, ending, used, Run, andThen, _>>=_, _>>_, give, halt, orFault, tick, charge, bind, leaving, scoped, truth, plainOf, errOf, unwrapped, operand, find, update, look, store, unaryOn, binaryOn, eval}
+use Rattle.rl_spec.specs.Reading.{Check, Function, Mode, plainly, checked, modeOf, bodyUnder, bare, Flow, onward, breaks, continues, followed, followedTop, again, turns, repeat, loopTurn, when, unless, bindAll, content, subject, violated, checks, checkedReturn, returning, returningNull, taken, whileTurn, stmt, body, branchOr, orElse, lastOr, top, entering, runFunction, reading}
 
 -- the budget is not spent
 abbrev pub NotSpent : {T : Type 0} → Outcome T → Type 0
@@ -227,74 +227,74 @@ module _ {T : Type 0} (bytes : T → List ℕ) where
 abbrev pub Fair : {T : Type 0} → ℕ → Outcome T × ℕ → Type 0
 Fair budget r = (r .1 ≤ budget) × (r .0 ≡ spent → r .1 ≡ budget)
 
-module _ {T : Type 0} (bytes : T → List ℕ) (ret : T) where
+module _ {T : Type 0} (bytes : T → List ℕ) where
   -- ---- checks and returns
 
-  takens : (c : Option (Expr T)) → Spends (taken bytes ret c)
+  takens : (c : Option (Expr T)) → Spends (taken bytes c)
   takens none = gives true
   takens (some e) = then (evals bytes e) (truths 2)
 
-  violateds : (r : Bool) (m : Expr T) → Spends (violated bytes ret r m)
+  violateds : (r : Bool) (m : Expr T) → Spends (violated bytes r m)
   violateds false m = then (charges 3) (λ _. then (evals bytes m) (λ w. then (plainOfs w) (λ p. halts _ tt)))
   violateds true m = then (charges 2) (λ _. then (evals bytes m) (λ w. then (plainOfs w) (λ p. halts _ tt)))
 
-  pub checkses : (r : Bool) (cs : List (Check T)) → Spends (checks bytes ret r cs)
+  pub checkses : (r : Bool) (cs : List (Check T)) → Spends (checks bytes r cs)
   unfolding checks
   checkses r [] = gives tt
   checkses r (c ∷ cs) =
       then (then (charges 2) (λ _. then (evals bytes (c .condition)) (λ w. then (truths 4 w) (λ b. unlesses b (violateds r (c .message))))))
       (λ _. checkses r cs)
 
-  checkedReturns : (r : Bool) (cs : List (Check T)) (v : Value T) → Spends (checkedReturn bytes ret r cs v)
-  checkedReturns r cs v =
+  checkedReturns : (ret : T) (r : Bool) (cs : List (Check T)) (v : Value T) → Spends (checkedReturn bytes ret r cs v)
+  checkedReturns ret r cs v =
       then (binds (hidden v)) (λ _. then (subjects r v) (λ w. then (binds _)
       (λ _. then (checkses r cs) (λ _. then (charges 2) (λ _. halts _ tt)))))
 
-  returns : (m : Mode T) (v : Value T) → Spends (returning bytes ret m v)
+  returns : (m : Mode T) (v : Value T) → Spends (returning bytes m v)
   returns plainly v = halts _ tt
-  returns (checked r cs) v = checkedReturns r cs v
+  returns (checked ret r cs) v = checkedReturns ret r cs v
 
-  returnNulls : (m : Mode T) → Spends (returningNull bytes ret m)
+  returnNulls : (m : Mode T) → Spends (returningNull bytes m)
   returnNulls plainly = halts _ tt
-  returnNulls (checked r cs) = then (charges 1) (λ _. checkedReturns r cs (plain nothing))
+  returnNulls (checked ret r cs) = then (charges 1) (λ _. checkedReturns ret r cs (plain nothing))
 
   -- ---- statements and bodies, in both modes
 
-  whileTurns : (e : Expr T) {b : Run T Flow} → Spends b → (k : Run T Flow) → Spends k → Spends (whileTurn bytes ret e b k)
+  whileTurns : (e : Expr T) {b : Run T Flow} → Spends b → (k : Run T Flow) → Spends k → Spends (whileTurn bytes e b k)
   whileTurns e h k g = then (takens (some e)) (λ t. whens t (then (scopes h) (λ f. agains f g)) (gives onward))
 
   mutual
     unfolding stmt
 
-    pub stmts : (m : Mode T) (s : Stmt T) → Spends (stmt bytes ret m s)
+    pub stmts : (m : Mode T) (s : Stmt T) → Spends (stmt bytes m s)
     stmts m (declaration x e) = then ticks (λ _. then (evals bytes e) (λ v. then (binds _) (λ _. gives _)))
     stmts m (expression e) = then ticks (λ _. then (evals bytes e) (λ v. gives _))
     stmts m (return e) = then ticks (λ _. then (evals bytes e) (returns m))
     stmts m returnAlone = then ticks (λ _. returnNulls m)
-    stmts m (conditional b e) = then ticks (λ _. branches m b (orElse bytes ret m e) (elses m e))
-    stmts m (while e b) = then ticks (λ _ env n. turnses n (whileTurn bytes ret e (body bytes ret m b)) (whileTurns e (bodies m b)) env n)
-    stmts m (loop b) = then ticks (λ _ env n. turnses n (loopTurn (body bytes ret m b)) (loopTurns (bodies m b)) env n)
+    stmts m (conditional b e) = then ticks (λ _. branches m b (orElse bytes m e) (elses m e))
+    stmts m (while e b) = then ticks (λ _ env n. turnses n (whileTurn bytes e (body bytes m b)) (whileTurns e (bodies m b)) env n)
+    stmts m (loop b) = then ticks (λ _ env n. turnses n (loopTurn (body bytes m b)) (loopTurns (bodies m b)) env n)
     stmts m break = then ticks (λ _. gives _)
     stmts m continue = then ticks (λ _. gives _)
     stmts m otherStatement = then ticks (λ _. halts _ tt)
 
-    pub bodies : (m : Mode T) (b : Body T) → Spends (body bytes ret m b)
+    pub bodies : (m : Mode T) (b : Body T) → Spends (body bytes m b)
     bodies m nil = gives _
     bodies m (s ▸ b) = then (stmts m s) (λ f. followeds f (bodies m b))
 
-    branches : (m : Mode T) (b : Branch T) (k : Run T Flow) → Spends k → Spends (branchOr bytes ret m b k)
+    branches : (m : Mode T) (b : Branch T) (k : Run T Flow) → Spends k → Spends (branchOr bytes m b k)
     branches m (branch c b) k h = then (takens c) (λ t. whens t (scopes (bodies m b)) h)
 
-    elses : (m : Mode T) (e : Else T) → Spends (orElse bytes ret m e)
+    elses : (m : Mode T) (e : Else T) → Spends (orElse bytes m e)
     elses m noElse = gives _
     elses m (elseBranch b) = branches m b (give onward) (gives onward)
-    elses m (elseConditional b e) = branches plainly b (orElse bytes ret plainly e) (elses plainly e)
+    elses m (elseConditional b e) = branches plainly b (orElse bytes plainly e) (elses plainly e)
 
-  lasts : (m : Mode T) (s : Stmt T) (o : Option (Expr T)) → Spends (lastOr bytes ret o (stmt bytes ret m s))
+  lasts : (m : Mode T) (s : Stmt T) (o : Option (Expr T)) → Spends (lastOr bytes o (stmt bytes m s))
   lasts m s none = then (stmts m s) (λ f. tops-next f (gives _))
   lasts m s (some e) = then ticks (λ _. evals bytes e)
 
-  pub tops : (m : Mode T) (b : Body T) → Spends (top bytes ret m b)
+  pub tops : (m : Mode T) (b : Body T) → Spends (top bytes m b)
   unfolding top
   tops m nil = gives _
   tops m (s ▸ nil) = lasts m s (bare s)
@@ -313,31 +313,31 @@ module _ {T : Type 0} (bytes : T → List ℕ) (ret : T) where
   while-agree b k l s (over o p) h = refl
   while-agree b k l s empty h = refl
 
-  pub while-local : (e : Expr T) (b : Run T Flow) → Spends b → Local (whileTurn bytes ret e b)
+  pub while-local : (e : Expr T) (b : Run T Flow) → Spends b → Local (whileTurn bytes e b)
   while-local e b s k l n h env = while-agree b k l s (takens (some e) env n) h
 
   pub while-unfolds : (m : Mode T) (e : Expr T) (b : Body T) (env : Env T) (n : ℕ) →
-      repeat (whileTurn bytes ret e (body bytes ret m b)) env n ≡ (tick >> whileTurn bytes ret e (body bytes ret m b) (repeat (whileTurn bytes ret e (body bytes ret m b)))) env n
-  while-unfolds m e b env n = repeat-unfolds (whileTurn bytes ret e (body bytes ret m b)) (while-local e (body bytes ret m b) (bodies m b)) env n
+      repeat (whileTurn bytes e (body bytes m b)) env n ≡ (tick >> whileTurn bytes e (body bytes m b) (repeat (whileTurn bytes e (body bytes m b)))) env n
+  while-unfolds m e b env n = repeat-unfolds (whileTurn bytes e (body bytes m b)) (while-local e (body bytes m b) (bodies m b)) env n
 
   pub loop-unfolds : (m : Mode T) (b : Body T) (env : Env T) (n : ℕ) →
-      repeat (loopTurn (body bytes ret m b)) env n ≡ (tick >> loopTurn (body bytes ret m b) (repeat (loopTurn (body bytes ret m b)))) env n
-  loop-unfolds m b env n = repeat-unfolds (loopTurn (body bytes ret m b)) (loop-local (body bytes ret m b) (bodies m b)) env n
+      repeat (loopTurn (body bytes m b)) env n ≡ (tick >> loopTurn (body bytes m b) (repeat (loopTurn (body bytes m b)))) env n
+  loop-unfolds m b env n = repeat-unfolds (loopTurn (body bytes m b)) (loop-local (body bytes m b) (bodies m b)) env n
 
   -- ---- functions
 
-  enterings : (f : Function T) (vs : List (Value T)) → Spends (entering bytes ret f vs)
+  enterings : (f : Function T) (vs : List (Value T)) → Spends (entering bytes f vs)
   enterings f vs = then (bindAlls (f .params) vs) (λ _. checkses (f .isResult) (f .entry))
 
-  fair : {budget : ℕ} {x : Result T (Value T)} → Within budget x → Fair budget (finish bytes ret budget x)
+  fair : {budget : ℕ} {x : Result T (Value T)} → Within budget x → Fair budget (used budget (ending x))
   fair (going p) = (omega arith, λ e. absurd (subst NotSpent e tt))
   fair (over h p) = (omega arith, λ e. absurd (subst NotSpent e h))
   fair empty = (omega arith, λ e. omega arith)
 
-  pub run-fair : (f : Function T) (vs : List (Value T)) (budget : ℕ) → Fair budget (runFunction bytes ret f vs budget)
+  pub run-fair : (f : Function T) (vs : List (Value T)) (budget : ℕ) → Fair budget (used budget (runFunction bytes f vs budget))
   unfolding runFunction
   run-fair f vs budget = fair (then (bindAlls (f .params) vs) (λ _. tops plainly (f .body)) [] budget)
 
-  pub reading-fair : (f : Function T) (vs : List (Value T)) (budget : ℕ) → Fair budget (reading bytes ret f vs budget)
+  pub reading-fair : (ret : T) (f : Function T) (vs : List (Value T)) (budget : ℕ) → Fair budget (used budget (reading bytes ret f vs budget))
   unfolding reading
-  reading-fair f vs budget = fair (then (enterings f vs) (λ _. tops (modeOf (f .isResult) (f .ensures)) (bodyUnder (f .ensures) (f .body))) [] budget)
+  reading-fair ret f vs budget = fair (then (enterings f vs) (λ _. tops (modeOf ret (f .isResult) (f .ensures)) (bodyUnder (f .ensures) (f .body))) [] budget)

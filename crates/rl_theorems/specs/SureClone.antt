@@ -17,7 +17,7 @@ use Rattle.rl_spec.specs.Bytes.{pick}
 use Rattle.rl_spec.specs.Schema.{inSection, sortOf, fieldsOf, fieldsIn, schema}
 use Rattle.rl_spec.specs.Image.{Field, num, pair, Rec, Image, sizeOf, recordOf, first, second, entryOf, tallestChild, FieldFits}
 use Rattle.rl_spec.specs.Tree.{below, descendBy, descend}
-use Rattle.rl_spec.specs.Contracts.{upFrom}
+use Rattle.rl_spec.specs.Ranges.{upFrom}
 use Rattle.rl_spec.specs.Make.{Context, Make, _>>=_, give, fail, self, append, made, newList, entriesOf}
 use Rattle.rl_spec.specs.Lower.{isNode, cloneEntries, cloneField, cloneFields, isLambda, cloneRecord, deepCloneExpr}
 use Rattle.rl_theorems.specs.Suits.{all-at, and-left, and-right, kind-range}

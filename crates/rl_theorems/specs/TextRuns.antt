@@ -1,4 +1,4 @@
--- Statements, bodies and functions with their texts mapped run as they did, mapped: the texts keep their bytes, and `ret` is mapped.
+-- Statements, bodies and functions with their texts mapped run as they did, mapped: the texts keep their bytes.
 -- Assumes nothing.
 use Prim.Native.Nat.{ℕ, zero, suc}
 use mathlib.Core.Path.{_≡_, refl, ap, ap₂, _∙_, subst⁻¹}
@@ -8,8 +8,8 @@ use mathlib.Core.Option.{Option, none, some}
 use Rattle.rl_spec.specs.Tree.{Expr}
 use Rattle.rl_spec.specs.Statement.{Stmt, declaration, expression, return, returnAlone, conditional, while, loop, break, continue, otherStatement, Body, nil, _▸_, Branch, branch, Else, noElse, elseBranch, elseConditional}
 use Rattle.rl_spec.specs.Functions.{mapOption, mapValue, mapOutcome, mapExpr, mapStmt, mapBody, mapBranch, mapElse}
-use Rattle.rl_spec.specs.Run.{nothing, Value, plain, ok, err, named, hidden, Outcome, returned, stopped, fault, Result, got, ended, Run, give, bind, eval}
-use Rattle.rl_spec.specs.Reading.{Check, Function, Mode, plainly, checked, modeOf, bare, onlyReturned, withReturn, bodyUnder, Flow, onward, breaks, continues, followed, followedTop, again, turns, repeat, loopTurn, when, unless, bindAll, content, subject, violated, check, checks, checkedReturn, returning, returningNull, taken, whileTurn, stmt, body, branchOr, orElse, lastOr, top, finish, entering, runFunction, reading}
+use Rattle.rl_spec.specs.Run.{nothing, Value, plain, ok, err, named, hidden, Outcome, returned, stopped, fault, Result, got, ended, ending, Run, give, bind, eval}
+use Rattle.rl_spec.specs.Reading.{Check, Function, Mode, plainly, checked, modeOf, bare, onlyReturned, withReturn, bodyUnder, Flow, onward, breaks, continues, followed, followedTop, again, turns, repeat, loopTurn, when, unless, bindAll, content, subject, violated, check, checks, checkedReturn, returning, returningNull, taken, whileTurn, stmt, body, branchOr, orElse, lastOr, top, entering, runFunction, reading}
 use Rattle.rl_theorems.specs.Texts.{mapResult, Alike, same, then, gives, halts, ticks, charges, binds, scopes, truths, plainOfs, evals}
 
 -- ---- functions and outcomes with their texts mapped
@@ -20,11 +20,12 @@ module _ {A B : Type 0} (f : A → B) where
 
   abbrev pub mapMode : Mode A → Mode B
   mapMode plainly = plainly
-  mapMode (checked r cs) = checked r (map mapCheck cs)
+  mapMode (checked ret r cs) = checked (f ret) r (map mapCheck cs)
 
   abbrev pub mapFunction : Function A → Function B
   mapFunction g =
       record {
+        name = f (g .name);
         params = map f (g .params);
         isResult = g .isResult;
         entry = map mapCheck (g .entry);
@@ -91,78 +92,74 @@ module _ {A B : Type 0} (f : A → B) where
   loopTurns : {b : Run A Flow} {b′ : Run B Flow} → Alike f same b b′ → AlikeTurns (loopTurn b) (loopTurn b′)
   loopTurns h k k′ g = then f _ (scopes f h) (λ w. agains w g)
 
-module _ {A B : Type 0} (f : A → B) (bytesA : A → List ℕ) (bytesB : B → List ℕ) (keeps : (t : A) → bytesB (f t) ≡ bytesA t)
-    (retA : A) (retB : B) (ret-same : retB ≡ f retA) where
+module _ {A B : Type 0} (f : A → B) (bytesA : A → List ℕ) (bytesB : B → List ℕ) (keeps : (t : A) → bytesB (f t) ≡ bytesA t) where
   evs : (e : Expr A) → Alike f (mapValue f) (eval bytesA e) (eval bytesB (mapExpr f e))
   evs e = evals f bytesA bytesB keeps e
 
   -- ---- checks and returns
 
-  takens : (c : Option (Expr A)) → Alike f same (taken bytesA retA c) (taken bytesB retB (mapOption f (mapExpr f) c))
+  takens : (c : Option (Expr A)) → Alike f same (taken bytesA c) (taken bytesB (mapOption f (mapExpr f) c))
   takens none = gives f same true
   takens (some e) = then f _ (evs e) (truths f 2)
 
-  violateds : (r : Bool) (m : Expr A) → Alike f same (violated bytesA retA r m) (violated bytesB retB r (mapExpr f m))
+  violateds : (r : Bool) (m : Expr A) → Alike f same (violated bytesA r m) (violated bytesB r (mapExpr f m))
   violateds false m = then f _ (charges f 3) (λ _. then f _ (evs m) (λ w. then f _ (plainOfs f w) (λ p. halts f same (stopped p))))
   violateds true m = then f _ (charges f 2) (λ _. then f _ (evs m) (λ w. then f _ (plainOfs f w) (λ p. halts f same (returned (err p)))))
 
-  check-alike : (r : Bool) (c : Check A) → Alike f same (check bytesA retA r c) (check bytesB retB r (mapCheck f c))
+  check-alike : (r : Bool) (c : Check A) → Alike f same (check bytesA r c) (check bytesB r (mapCheck f c))
   check-alike r c =
       then f _ (charges f 2)
       (λ _. then f _ (evs (c .condition)) (λ w. then f _ (truths f 4 w) (λ b. unlesses f b (violateds r (c .message)))))
 
-  pub checkses : (r : Bool) (cs : List (Check A)) → Alike f same (checks bytesA retA r cs) (checks bytesB retB r (map (mapCheck f) cs))
+  pub checkses : (r : Bool) (cs : List (Check A)) → Alike f same (checks bytesA r cs) (checks bytesB r (map (mapCheck f) cs))
   unfolding checks
   checkses r [] = gives f same tt
   checkses r (c ∷ cs) = then f _ (check-alike r c) (λ _. checkses r cs)
 
-  binds-ret : (w : Value A) → Alike f same (bind (named retA w)) (bind (named retB (mapValue f w)))
-  binds-ret w = subst⁻¹ (λ x. Alike f same (bind (named retA w)) (bind (named x (mapValue f w)))) ret-same (binds f (named retA w))
-
-  checkedReturns : (r : Bool) (cs : List (Check A)) (v : Value A) → Alike f same (checkedReturn bytesA retA r cs v) (checkedReturn bytesB retB r (map (mapCheck f) cs) (mapValue f v))
-  checkedReturns r cs v =
-      then f _ (binds f (hidden v)) (λ _. then f _ (subjects f r v) (λ w. then f _ (binds-ret w)
+  checkedReturns : (ret : A) (r : Bool) (cs : List (Check A)) (v : Value A) → Alike f same (checkedReturn bytesA ret r cs v) (checkedReturn bytesB (f ret) r (map (mapCheck f) cs) (mapValue f v))
+  checkedReturns ret r cs v =
+      then f _ (binds f (hidden v)) (λ _. then f _ (subjects f r v) (λ w. then f _ (binds f (named ret w))
       (λ _. then f _ (checkses r cs) (λ _. then f _ (charges f 2) (λ _. halts f same (returned v))))))
 
-  returns : (m : Mode A) (v : Value A) → Alike f same (returning bytesA retA m v) (returning bytesB retB (mapMode f m) (mapValue f v))
+  returns : (m : Mode A) (v : Value A) → Alike f same (returning bytesA m v) (returning bytesB (mapMode f m) (mapValue f v))
   returns plainly v = halts f same (returned v)
-  returns (checked r cs) v = checkedReturns r cs v
+  returns (checked ret r cs) v = checkedReturns ret r cs v
 
-  returnNulls : (m : Mode A) → Alike f same (returningNull bytesA retA m) (returningNull bytesB retB (mapMode f m))
+  returnNulls : (m : Mode A) → Alike f same (returningNull bytesA m) (returningNull bytesB (mapMode f m))
   returnNulls plainly = halts f same (returned (plain nothing))
-  returnNulls (checked r cs) = then f _ (charges f 1) (λ _. checkedReturns r cs (plain nothing))
+  returnNulls (checked ret r cs) = then f _ (charges f 1) (λ _. checkedReturns ret r cs (plain nothing))
 
   -- ---- statements and bodies, in both modes
 
-  whileTurns : (e : Expr A) {b : Run A Flow} {b′ : Run B Flow} → Alike f same b b′ → AlikeTurns f (whileTurn bytesA retA e b) (whileTurn bytesB retB (mapExpr f e) b′)
+  whileTurns : (e : Expr A) {b : Run A Flow} {b′ : Run B Flow} → Alike f same b b′ → AlikeTurns f (whileTurn bytesA e b) (whileTurn bytesB (mapExpr f e) b′)
   whileTurns e h k k′ g = then f _ (takens (some e)) (λ t. whens f t (then f _ (scopes f h) (λ w. agains f w g)) (gives f same onward))
 
   mutual
     unfolding stmt mapStmt
 
-    pub stmts : (m : Mode A) (s : Stmt A) → Alike f same (stmt bytesA retA m s) (stmt bytesB retB (mapMode f m) (mapStmt f s))
+    pub stmts : (m : Mode A) (s : Stmt A) → Alike f same (stmt bytesA m s) (stmt bytesB (mapMode f m) (mapStmt f s))
     stmts m (declaration x e) = then f _ (ticks f) (λ _. then f _ (evs e) (λ v. then f _ (binds f (named x v)) (λ _. gives f same onward)))
     stmts m (expression e) = then f _ (ticks f) (λ _. then f _ (evs e) (λ v. gives f same onward))
     stmts m (return e) = then f _ (ticks f) (λ _. then f _ (evs e) (returns m))
     stmts m returnAlone = then f _ (ticks f) (λ _. returnNulls m)
-    stmts m (conditional b e) = then f _ (ticks f) (λ _. branches m b (orElse bytesA retA m e) (orElse bytesB retB (mapMode f m) (mapElse f e)) (elses m e))
+    stmts m (conditional b e) = then f _ (ticks f) (λ _. branches m b (orElse bytesA m e) (orElse bytesB (mapMode f m) (mapElse f e)) (elses m e))
     stmts m (while e b) = then f _ (ticks f) (λ _. repeats f _ _ (whileTurns e (bodies m b)))
     stmts m (loop b) = then f _ (ticks f) (λ _. repeats f _ _ (loopTurns f (bodies m b)))
     stmts m break = then f _ (ticks f) (λ _. gives f same breaks)
     stmts m continue = then f _ (ticks f) (λ _. gives f same continues)
     stmts m otherStatement = then f _ (ticks f) (λ _. halts f same (fault 1))
 
-    pub bodies : (m : Mode A) (b : Body A) → Alike f same (body bytesA retA m b) (body bytesB retB (mapMode f m) (mapBody f b))
+    pub bodies : (m : Mode A) (b : Body A) → Alike f same (body bytesA m b) (body bytesB (mapMode f m) (mapBody f b))
     bodies m nil = gives f same onward
     bodies m (s ▸ b) = then f _ (stmts m s) (λ w. followeds f w (bodies m b))
 
-    pub branches : (m : Mode A) (b : Branch A) (k : Run A Flow) (k′ : Run B Flow) → Alike f same k k′ → Alike f same (branchOr bytesA retA m b k) (branchOr bytesB retB (mapMode f m) (mapBranch f b) k′)
+    pub branches : (m : Mode A) (b : Branch A) (k : Run A Flow) (k′ : Run B Flow) → Alike f same k k′ → Alike f same (branchOr bytesA m b k) (branchOr bytesB (mapMode f m) (mapBranch f b) k′)
     branches m (branch c b) k k′ h = then f _ (takens c) (λ t. whens f t (scopes f (bodies m b)) h)
 
-    pub elses : (m : Mode A) (e : Else A) → Alike f same (orElse bytesA retA m e) (orElse bytesB retB (mapMode f m) (mapElse f e))
+    pub elses : (m : Mode A) (e : Else A) → Alike f same (orElse bytesA m e) (orElse bytesB (mapMode f m) (mapElse f e))
     elses m noElse = gives f same onward
     elses m (elseBranch b) = branches m b (give onward) (give onward) (gives f same onward)
-    elses m (elseConditional b e) = branches plainly b (orElse bytesA retA plainly e) (orElse bytesB retB plainly (mapElse f e)) (elses plainly e)
+    elses m (elseConditional b e) = branches plainly b (orElse bytesA plainly e) (orElse bytesB plainly (mapElse f e)) (elses plainly e)
 
   bare-same : (s : Stmt A) → bare (mapStmt f s) ≡ mapOption f (mapExpr f) (bare s)
   unfolding mapStmt
@@ -177,38 +174,38 @@ module _ {A B : Type 0} (f : A → B) (bytesA : A → List ℕ) (bytesB : B → 
   bare-same continue = refl
   bare-same otherStatement = refl
 
-  lasts : (o : Option (Expr A)) {k : Run A Flow} {k′ : Run B Flow} → Alike f same k k′ → Alike f (mapValue f) (lastOr bytesA retA o k) (lastOr bytesB retB (mapOption f (mapExpr f) o) k′)
+  lasts : (o : Option (Expr A)) {k : Run A Flow} {k′ : Run B Flow} → Alike f same k k′ → Alike f (mapValue f) (lastOr bytesA o k) (lastOr bytesB (mapOption f (mapExpr f) o) k′)
   lasts none h = then f _ h (λ w. tops-next f w (gives f (mapValue f) (plain nothing)))
   lasts (some e) h = then f _ (ticks f) (λ _. evs e)
 
-  pub tops : (m : Mode A) (b : Body A) → Alike f (mapValue f) (top bytesA retA m b) (top bytesB retB (mapMode f m) (mapBody f b))
+  pub tops : (m : Mode A) (b : Body A) → Alike f (mapValue f) (top bytesA m b) (top bytesB (mapMode f m) (mapBody f b))
   unfolding top mapBody
   tops m nil = gives f (mapValue f) (plain nothing)
   tops m (s ▸ nil) =
-      subst⁻¹ (λ o. Alike f (mapValue f) (lastOr bytesA retA (bare s) (stmt bytesA retA m s)) (lastOr bytesB retB o (stmt bytesB retB (mapMode f m) (mapStmt f s)))) (bare-same s)
+      subst⁻¹ (λ o. Alike f (mapValue f) (lastOr bytesA (bare s) (stmt bytesA m s)) (lastOr bytesB o (stmt bytesB (mapMode f m) (mapStmt f s)))) (bare-same s)
       (lasts (bare s) (stmts m s))
   tops m (s ▸ (t ▸ b)) = then f _ (stmts m s) (λ w. tops-next f w (tops m (t ▸ b)))
 
   -- ---- functions
 
-  finish-same : (budget : ℕ) (x : Result A (Value A)) → finish bytesB retB budget (mapResult f (mapValue f) x) ≡ mapEnded f (finish bytesA retA budget x)
-  finish-same budget (got v env n) = refl
-  finish-same budget (ended o n) = refl
+  ending-same : (x : Result A (Value A)) → ending (mapResult f (mapValue f) x) ≡ mapEnded f (ending x)
+  ending-same (got v env n) = refl
+  ending-same (ended o n) = refl
 
-  finishes : (budget : ℕ) {m : Run A (Value A)} {m′ : Run B (Value B)} → Alike f (mapValue f) m m′ → finish bytesB retB budget (m′ [] budget) ≡ mapEnded f (finish bytesA retA budget (m [] budget))
-  finishes budget {m = m} h = ap (finish bytesB retB budget) (h .runs [] budget) ∙ finish-same budget (m [] budget)
+  endings : (budget : ℕ) {m : Run A (Value A)} {m′ : Run B (Value B)} → Alike f (mapValue f) m m′ → ending (m′ [] budget) ≡ mapEnded f (ending (m [] budget))
+  endings budget {m = m} h = ap ending (h .runs [] budget) ∙ ending-same (m [] budget)
 
   -- THE RUN of the mapped function is the run, mapped
   pub run-mapped : (g : Function A) (vs : List (Value A)) (budget : ℕ) →
-      runFunction bytesB retB (mapFunction f g) (map (mapValue f) vs) budget ≡ mapEnded f (runFunction bytesA retA g vs budget)
+      runFunction bytesB (mapFunction f g) (map (mapValue f) vs) budget ≡ mapEnded f (runFunction bytesA g vs budget)
   unfolding runFunction
-  run-mapped g vs budget = finishes budget (then f _ (bindAlls f (g .params) vs) (λ _. tops plainly (g .body)))
+  run-mapped g vs budget = endings budget (then f _ (bindAlls f (g .params) vs) (λ _. tops plainly (g .body)))
 
   -- ---- the contract reading
 
-  mode-same : (r : Bool) (cs : List (Check A)) → modeOf r (map (mapCheck f) cs) ≡ mapMode f (modeOf r cs)
-  mode-same r [] = refl
-  mode-same r (c ∷ cs) = refl
+  mode-same : (ret : A) (r : Bool) (cs : List (Check A)) → modeOf (f ret) r (map (mapCheck f) cs) ≡ mapMode f (modeOf ret r cs)
+  mode-same ret r [] = refl
+  mode-same ret r (c ∷ cs) = refl
 
   only-same : (s : Stmt A) (o : Option (Expr A)) → onlyReturned (mapStmt f s) (mapOption f (mapExpr f) o) ≡ mapBody f (onlyReturned s o)
   unfolding mapBody mapStmt
@@ -225,17 +222,17 @@ module _ {A B : Type 0} (f : A → B) (bytesA : A → List ℕ) (bytesB : B → 
   under-same [] b = refl
   under-same (c ∷ cs) b = withReturn-same b
 
-  tops-under : (r : Bool) (cs : List (Check A)) (b : Body A) →
-      Alike f (mapValue f) (top bytesA retA (modeOf r cs) (bodyUnder cs b)) (top bytesB retB (modeOf r (map (mapCheck f) cs)) (bodyUnder (map (mapCheck f) cs) (mapBody f b)))
-  tops-under r cs b =
-      subst⁻¹ (Alike f (mapValue f) (top bytesA retA (modeOf r cs) (bodyUnder cs b))) (ap₂ (top bytesB retB) (mode-same r cs) (under-same cs b))
-      (tops (modeOf r cs) (bodyUnder cs b))
+  tops-under : (ret : A) (r : Bool) (cs : List (Check A)) (b : Body A) →
+      Alike f (mapValue f) (top bytesA (modeOf ret r cs) (bodyUnder cs b)) (top bytesB (modeOf (f ret) r (map (mapCheck f) cs)) (bodyUnder (map (mapCheck f) cs) (mapBody f b)))
+  tops-under ret r cs b =
+      subst⁻¹ (Alike f (mapValue f) (top bytesA (modeOf ret r cs) (bodyUnder cs b))) (ap₂ (top bytesB) (mode-same ret r cs) (under-same cs b))
+      (tops (modeOf ret r cs) (bodyUnder cs b))
 
-  enterings : (g : Function A) (vs : List (Value A)) → Alike f same (entering bytesA retA g vs) (entering bytesB retB (mapFunction f g) (map (mapValue f) vs))
+  enterings : (g : Function A) (vs : List (Value A)) → Alike f same (entering bytesA g vs) (entering bytesB (mapFunction f g) (map (mapValue f) vs))
   enterings g vs = then f _ (bindAlls f (g .params) vs) (λ _. checkses (g .isResult) (g .entry))
 
   -- THE CONTRACT READING of the mapped function is the reading, mapped
-  pub reading-mapped : (g : Function A) (vs : List (Value A)) (budget : ℕ) →
-      reading bytesB retB (mapFunction f g) (map (mapValue f) vs) budget ≡ mapEnded f (reading bytesA retA g vs budget)
+  pub reading-mapped : (ret : A) (g : Function A) (vs : List (Value A)) (budget : ℕ) →
+      reading bytesB (f ret) (mapFunction f g) (map (mapValue f) vs) budget ≡ mapEnded f (reading bytesA ret g vs budget)
   unfolding reading
-  reading-mapped g vs budget = finishes budget (then f _ (enterings g vs) (λ _. tops-under (g .isResult) (g .ensures) (g .body)))
+  reading-mapped ret g vs budget = endings budget (then f _ (enterings g vs) (λ _. tops-under ret (g .isResult) (g .ensures) (g .body)))

@@ -44,7 +44,7 @@ use Rattle.rl_spec.specs.Functions.{mapValue, mapExpr, mapStmt, mapBody, plainF
 use Rattle.rl_spec.specs.Lower.{lowered}
 use Rattle.rl_spec.specs.Lowerer.{made, refused, tooTall, orLimit, lowerOf, lowerOut}
 use Rattle.rl_spec.specs.Runner.{outcomeIn, allHave, given, valuesOf, runOf}
-use Rattle.rl_spec.specs.Run.{Value, Env, got, tick, _>>_, eval}
+use Rattle.rl_spec.specs.Run.{Value, Env, got, used, tick, _>>_, eval}
 use Rattle.rl_spec.specs.Reading.{Check, Function, Mode, repeat, loopTurn, whileTurn, checks, stmt, body, top, runFunction, entering, reading}
 use Rattle.rl_theorems.specs.Utf8 as Utf8
 use Rattle.rl_theorems.specs.Decode as Decode
@@ -226,60 +226,60 @@ module _ (im : Image) (wf : WellFormed im) (k : ℕ) (long : 8192 ≤ k) where
 
 -- ---- the steps of a run (Steps). Spends: what is left is at most the budget that was given, and nothing where that is spent
 
-module _ {Text : Type 0} (bytes : Text → List ℕ) (ret : Text) where
+module _ {Text : Type 0} (bytes : Text → List ℕ) where
   pub eval-spends : (e : Expr Text) → Steps.Spends (eval bytes e)
   eval-spends = Steps.evals bytes
 
   -- plainly and checked
-  pub stmt-spends : (m : Mode Text) (s : Stmt Text) → Steps.Spends (stmt bytes ret m s)
-  stmt-spends = Steps.stmts bytes ret
+  pub stmt-spends : (m : Mode Text) (s : Stmt Text) → Steps.Spends (stmt bytes m s)
+  stmt-spends = Steps.stmts bytes
 
-  pub body-spends : (m : Mode Text) (b : Body Text) → Steps.Spends (body bytes ret m b)
-  body-spends = Steps.bodies bytes ret
+  pub body-spends : (m : Mode Text) (b : Body Text) → Steps.Spends (body bytes m b)
+  body-spends = Steps.bodies bytes
 
-  pub top-spends : (m : Mode Text) (b : Body Text) → Steps.Spends (top bytes ret m b)
-  top-spends = Steps.tops bytes ret
+  pub top-spends : (m : Mode Text) (b : Body Text) → Steps.Spends (top bytes m b)
+  top-spends = Steps.tops bytes
 
   -- Fair: the steps used are at most the budget, and all of it where that is spent
-  pub run-fair : (f : Function Text) (vs : List (Value Text)) (budget : ℕ) → Steps.Fair budget (runFunction bytes ret f vs budget)
-  run-fair = Steps.run-fair bytes ret
+  pub run-fair : (f : Function Text) (vs : List (Value Text)) (budget : ℕ) → Steps.Fair budget (used budget (runFunction bytes f vs budget))
+  run-fair = Steps.run-fair bytes
 
-  pub reading-fair : (f : Function Text) (vs : List (Value Text)) (budget : ℕ) → Steps.Fair budget (reading bytes ret f vs budget)
-  reading-fair = Steps.reading-fair bytes ret
+  pub reading-fair : (ret : Text) (f : Function Text) (vs : List (Value Text)) (budget : ℕ) → Steps.Fair budget (used budget (reading bytes ret f vs budget))
+  reading-fair = Steps.reading-fair bytes
 
   -- a loop is its unfolding: a step, a turn, and the loop again
-  pub while-unfolds : (m : Mode Text) (e : Expr Text) (b : Body Text) (env : Env Text) (n : ℕ) → repeat (whileTurn bytes ret e (body bytes ret m b)) env n ≡ (tick >> whileTurn bytes ret e (body bytes ret m b) (repeat (whileTurn bytes ret e (body bytes ret m b)))) env n
-  while-unfolds = Steps.while-unfolds bytes ret
+  pub while-unfolds : (m : Mode Text) (e : Expr Text) (b : Body Text) (env : Env Text) (n : ℕ) → repeat (whileTurn bytes e (body bytes m b)) env n ≡ (tick >> whileTurn bytes e (body bytes m b) (repeat (whileTurn bytes e (body bytes m b)))) env n
+  while-unfolds = Steps.while-unfolds bytes
 
-  pub loop-unfolds : (m : Mode Text) (b : Body Text) (env : Env Text) (n : ℕ) → repeat (loopTurn (body bytes ret m b)) env n ≡ (tick >> loopTurn (body bytes ret m b) (repeat (loopTurn (body bytes ret m b)))) env n
-  loop-unfolds = Steps.loop-unfolds bytes ret
+  pub loop-unfolds : (m : Mode Text) (b : Body Text) (env : Env Text) (n : ℕ) → repeat (loopTurn (body bytes m b)) env n ≡ (tick >> loopTurn (body bytes m b) (repeat (loopTurn (body bytes m b)))) env n
+  loop-unfolds = Steps.loop-unfolds bytes
 
 -- ---- a larger budget does not change a run that was not spent (Budget). Steady: where the budget n is not spent, n + k gives the same,
 -- and k more is left
 
-module _ {Text : Type 0} (bytes : Text → List ℕ) (ret : Text) where
+module _ {Text : Type 0} (bytes : Text → List ℕ) where
   pub eval-steady : (e : Expr Text) → Budget.Steady (eval bytes e)
   eval-steady = Budget.eval-steady bytes
 
-  pub checks-steady : (r : Bool) (cs : List (Check Text)) → Budget.Steady (checks bytes ret r cs)
-  checks-steady = Budget.checks-steady bytes ret
+  pub checks-steady : (r : Bool) (cs : List (Check Text)) → Budget.Steady (checks bytes r cs)
+  checks-steady = Budget.checks-steady bytes
 
   -- plainly and checked
-  pub stmt-steady : (m : Mode Text) (s : Stmt Text) → Budget.Steady (stmt bytes ret m s)
-  stmt-steady = Budget.stmt-steady bytes ret
+  pub stmt-steady : (m : Mode Text) (s : Stmt Text) → Budget.Steady (stmt bytes m s)
+  stmt-steady = Budget.stmt-steady bytes
 
-  pub body-steady : (m : Mode Text) (b : Body Text) → Budget.Steady (body bytes ret m b)
-  body-steady = Budget.body-steady bytes ret
+  pub body-steady : (m : Mode Text) (b : Body Text) → Budget.Steady (body bytes m b)
+  body-steady = Budget.body-steady bytes
 
-  pub top-steady : (m : Mode Text) (b : Body Text) → Budget.Steady (top bytes ret m b)
-  top-steady = Budget.top-steady bytes ret
+  pub top-steady : (m : Mode Text) (b : Body Text) → Budget.Steady (top bytes m b)
+  top-steady = Budget.top-steady bytes
 
   -- the same outcome and the same steps used
-  pub run-steady : (f : Function Text) (vs : List (Value Text)) (n k : ℕ) → Steps.NotSpent (runFunction bytes ret f vs n .0) → runFunction bytes ret f vs (n + k) ≡ runFunction bytes ret f vs n
-  run-steady = Budget.run-steady bytes ret
+  pub run-steady : (f : Function Text) (vs : List (Value Text)) (n k : ℕ) → Steps.NotSpent (runFunction bytes f vs n .0) → used (n + k) (runFunction bytes f vs (n + k)) ≡ used n (runFunction bytes f vs n)
+  run-steady = Budget.run-steady bytes
 
-  pub reading-steady : (f : Function Text) (vs : List (Value Text)) (n k : ℕ) → Steps.NotSpent (reading bytes ret f vs n .0) → reading bytes ret f vs (n + k) ≡ reading bytes ret f vs n
-  reading-steady = Budget.reading-steady bytes ret
+  pub reading-steady : (ret : Text) (f : Function Text) (vs : List (Value Text)) (n k : ℕ) → Steps.NotSpent (reading bytes ret f vs n .0) → used (n + k) (reading bytes ret f vs (n + k)) ≡ used n (reading bytes ret f vs n)
+  reading-steady = Budget.reading-steady bytes
 
 -- ---- another account of the texts that keeps their bytes (Texts, TextRuns): a mapped tree in mapped bindings runs as the tree does, mapped
 
@@ -287,22 +287,21 @@ module _ {A B : Type 0} (f : A → B) (bytesA : A → List ℕ) (bytesB : B → 
   pub eval-mapped : (e : Expr A) (env : Env A) (n : ℕ) → eval bytesB (mapExpr f e) (Texts.mapEnv f env) n ≡ Texts.mapResult f (mapValue f) (eval bytesA e env n)
   eval-mapped e = Texts.evals f bytesA bytesB keeps e .runs
 
-  -- statements and bodies plainly and checked; `ret` is mapped too
-  module _ (retA : A) (retB : B) (ret-same : retB ≡ f retA) where
-    pub stmt-mapped : (m : Mode A) (s : Stmt A) (env : Env A) (n : ℕ) → stmt bytesB retB (TextRuns.mapMode f m) (mapStmt f s) (Texts.mapEnv f env) n ≡ Texts.mapResult f Texts.same (stmt bytesA retA m s env n)
-    stmt-mapped m s = TextRuns.stmts f bytesA bytesB keeps retA retB ret-same m s .runs
+  -- statements and bodies plainly and checked
+  pub stmt-mapped : (m : Mode A) (s : Stmt A) (env : Env A) (n : ℕ) → stmt bytesB (TextRuns.mapMode f m) (mapStmt f s) (Texts.mapEnv f env) n ≡ Texts.mapResult f Texts.same (stmt bytesA m s env n)
+  stmt-mapped m s = TextRuns.stmts f bytesA bytesB keeps m s .runs
 
-    pub body-mapped : (m : Mode A) (b : Body A) (env : Env A) (n : ℕ) → body bytesB retB (TextRuns.mapMode f m) (mapBody f b) (Texts.mapEnv f env) n ≡ Texts.mapResult f Texts.same (body bytesA retA m b env n)
-    body-mapped m b = TextRuns.bodies f bytesA bytesB keeps retA retB ret-same m b .runs
+  pub body-mapped : (m : Mode A) (b : Body A) (env : Env A) (n : ℕ) → body bytesB (TextRuns.mapMode f m) (mapBody f b) (Texts.mapEnv f env) n ≡ Texts.mapResult f Texts.same (body bytesA m b env n)
+  body-mapped m b = TextRuns.bodies f bytesA bytesB keeps m b .runs
 
-    pub top-mapped : (m : Mode A) (b : Body A) (env : Env A) (n : ℕ) → top bytesB retB (TextRuns.mapMode f m) (mapBody f b) (Texts.mapEnv f env) n ≡ Texts.mapResult f (mapValue f) (top bytesA retA m b env n)
-    top-mapped m b = TextRuns.tops f bytesA bytesB keeps retA retB ret-same m b .runs
+  pub top-mapped : (m : Mode A) (b : Body A) (env : Env A) (n : ℕ) → top bytesB (TextRuns.mapMode f m) (mapBody f b) (Texts.mapEnv f env) n ≡ Texts.mapResult f (mapValue f) (top bytesA m b env n)
+  top-mapped m b = TextRuns.tops f bytesA bytesB keeps m b .runs
 
-    pub run-mapped : (g : Function A) (vs : List (Value A)) (budget : ℕ) → runFunction bytesB retB (TextRuns.mapFunction f g) (map (mapValue f) vs) budget ≡ TextRuns.mapEnded f (runFunction bytesA retA g vs budget)
-    run-mapped = TextRuns.run-mapped f bytesA bytesB keeps retA retB ret-same
+  pub run-mapped : (g : Function A) (vs : List (Value A)) (budget : ℕ) → runFunction bytesB (TextRuns.mapFunction f g) (map (mapValue f) vs) budget ≡ TextRuns.mapEnded f (runFunction bytesA g vs budget)
+  run-mapped = TextRuns.run-mapped f bytesA bytesB keeps
 
-    pub reading-mapped : (g : Function A) (vs : List (Value A)) (budget : ℕ) → reading bytesB retB (TextRuns.mapFunction f g) (map (mapValue f) vs) budget ≡ TextRuns.mapEnded f (reading bytesA retA g vs budget)
-    reading-mapped = TextRuns.reading-mapped f bytesA bytesB keeps retA retB ret-same
+  pub reading-mapped : (ret : A) (g : Function A) (vs : List (Value A)) (budget : ℕ) → reading bytesB (f ret) (TextRuns.mapFunction f g) (map (mapValue f) vs) budget ≡ TextRuns.mapEnded f (reading bytesA ret g vs budget)
+  reading-mapped = TextRuns.reading-mapped f bytesA bytesB keeps
 
 -- ---- closed runs and readings (RunExamples has the list): each statement kind, each fault, each outcome, and marked case 14
 
@@ -313,7 +312,7 @@ runs-end-so = RunExamples.runs-end-so
 -- LowerTrees has the lowering on trees, LoweredRunExamples functions that meet the premises and, for each premise, one that does not
 -- and differs)
 
-pub lowered-runs : (f : Function (List ℕ)) (vs : List (Value (List ℕ))) (budget : ℕ) → LoweredRuns.Premises f → runFunction (λ t. t) (ascii "ret") (LowerTrees.lowered f) vs budget ≡ reading (λ t. t) (ascii "ret") f vs budget
+pub lowered-runs : (f : Function (List ℕ)) (vs : List (Value (List ℕ))) (budget : ℕ) → LoweredRuns.Premises f → runFunction (λ t. t) (LowerTrees.lowered f) vs budget ≡ reading (λ t. t) (ascii "ret") f vs budget
 lowered-runs = LoweredRuns.lowered-runs
 
 -- ---- the lowered image: the original's records followed by the new ones, one function's body list changed (Followed). Where no expression
@@ -337,17 +336,17 @@ module _ (im im′ : Image) (f : ℕ) (wf : WellFormed im) (there : f < sizeOf i
 
 module _ (im im′ : Image) (f : ℕ) (wf : WellFormed im) (there : f < sizeOf im Functions) (e : lowered im f ≡ some im′)
     (ensured : LowerBodies.Ensured (contractFunction im f .ensures) (contractFunction im f .body)) where
-  pub lowered-trees : LoweredTo.LoweredTo (contractFunction im f) (TextRuns.mapFunction (textOf im′) (plainFunction im′ f))
+  pub lowered-trees : LoweredTo.LoweredTo (contractFunction im f) (contractFunction im′ f)
   lowered-trees = LoweredTrees.lowered-trees im im′ f wf there e ensured
 
-  pub lowered-reads : LowerFrame.CleanChecks (contractFunction im f .ensures) → (vs : List (Value (List ℕ))) (budget : ℕ) → runFunction (λ t. t) (ascii "ret") (TextRuns.mapFunction (textOf im′) (plainFunction im′ f)) vs budget ≡ reading (λ t. t) (ascii "ret") (contractFunction im f) vs budget
+  pub lowered-reads : LowerFrame.CleanChecks (contractFunction im f .ensures) → (vs : List (Value (List ℕ))) (budget : ℕ) → runFunction (λ t. t) (contractFunction im′ f) vs budget ≡ reading (λ t. t) (ascii "ret") (contractFunction im f) vs budget
   lowered-reads = LoweredTrees.lowered-reads im im′ f wf there e ensured
 
 -- ---- a call that has a report never passes its callee's entry checks (FoldsCalls; SecondHalfExamples has two such calls). `Asked`: the callee's
 -- parameter names are distinct, no identifier stands in the arguments and no assignment in its conditions, and a parameter whose argument
 -- folds has that value
 
-pub reported-never-enters : (im : Image) (call f : ℕ) (vs : List (Value (List ℕ))) → calleeOf im call ≡ some f → FoldsCalls.Asked im f (argumentsOf im call) vs → FoldsEntry.NonEmpty (violationsOf im call) → (budget : ℕ) (env : Env (List ℕ)) (left : ℕ) → entering (λ t. t) (ascii "ret") (contractFunction im f) vs [] budget ≡ got tt env left → ⊥
+pub reported-never-enters : (im : Image) (call f : ℕ) (vs : List (Value (List ℕ))) → calleeOf im call ≡ some f → FoldsCalls.Asked im f (argumentsOf im call) vs → FoldsEntry.NonEmpty (violationsOf im call) → (budget : ℕ) (env : Env (List ℕ)) (left : ℕ) → entering (λ t. t) (contractFunction im f) vs [] budget ≡ got tt env left → ⊥
 reported-never-enters im = FoldsCalls.reported-never-enters im
 
 -- ---- DEMAND 3, from bytes to bytes
@@ -388,7 +387,7 @@ module _ (s : List ℕ) (k call room n : ℕ) (some-reports : n ≡ 0 → ⊥) (
   pub reported-callee : (f : ℕ) × (calleeOf (imageOf s) call ≡ some f)
   reported-callee = SecondHalf.reported-callee s k call room n some-reports e
 
-  pub second-half : (f : ℕ) → calleeOf (imageOf s) call ≡ some f → (vs : List (Value (List ℕ))) → FoldsCalls.Asked (imageOf s) f (argumentsOf (imageOf s) call) vs → (budget : ℕ) (env : Env (List ℕ)) (left : ℕ) → entering (λ t. t) (ascii "ret") (contractFunction (imageOf s) f) vs [] budget ≡ got tt env left → ⊥
+  pub second-half : (f : ℕ) → calleeOf (imageOf s) call ≡ some f → (vs : List (Value (List ℕ))) → FoldsCalls.Asked (imageOf s) f (argumentsOf (imageOf s) call) vs → (budget : ℕ) (env : Env (List ℕ)) (left : ℕ) → entering (λ t. t) (contractFunction (imageOf s) f) vs [] budget ≡ got tt env left → ⊥
   second-half = SecondHalf.second-half s k call room n some-reports e
 
 -- ---- the marked cases, and the printer's example (Marked has both lists, MarkedImages the images)

@@ -9,7 +9,7 @@ use lib.ListN.{length}
 use Rattle.rl_spec.specs.declared.Section.{Section}
 use Rattle.rl_spec.specs.declared.Target.{Target}
 use Rattle.rl_spec.specs.Image.{Image, entryOf, Refers, Entries}
-use Rattle.rl_spec.specs.Contracts.{upFrom}
+use Rattle.rl_spec.specs.Ranges.{upFrom}
 use Rattle.rl_spec.specs.Make.{Make, give, each, flatMap}
 use Rattle.rl_context.specs.Does.{State, nothing, one, all, Does, Pushes}
 use Rattle.rl_context.proofs.Composed.{does-push, does-each, does-flat}

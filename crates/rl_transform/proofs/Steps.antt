@@ -22,7 +22,7 @@ use Rattle.rl_spec.specs.Schema.{limits, sections, sortOf, schema, fieldsIn, fi
 use Rattle.rl_spec.specs.Image.{Field, num, pair, Rec, Image, recordsOf, sizeOf, noRecord, recordOf, fieldOf, first, second, entryOf, fieldsAt, FieldsFit, Refers, Entries, WellFormed}
 use Rattle.rl_spec.specs.Found.{recordAs, imageFound}
 use Rattle.rl_spec.specs.Tree.{number, below}
-use Rattle.rl_spec.specs.Contracts.{upFrom}
+use Rattle.rl_spec.specs.Ranges.{upFrom}
 use Rattle.rl_spec.specs.Make.{Context, Make, andThen, _>>=_, give, fail, self, append, made, newList, stmt, each, flatMap, entriesOf}
 use Rattle.rl_spec.specs.Lower.{expr, wrapReturn, transformList, transformBranchBy, transformBranch, transformElse, transformArmBy, transformArm, conditional, match, loop, only, transformStatementBy, transformStatement}
 use mir.Val.{Fits}

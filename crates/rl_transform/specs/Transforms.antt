@@ -12,7 +12,7 @@ use Rattle.rl_spec.specs.Bytes.{pick}
 use Rattle.rl_spec.specs.Schema.{sortOf, fieldsOf}
 use Rattle.rl_spec.specs.Image.{Field, num, Rec, Image, recordOf, fieldOf, entryOf, WellFormed}
 use Rattle.rl_spec.specs.Tree.{below}
-use Rattle.rl_spec.specs.Contracts.{upFrom}
+use Rattle.rl_spec.specs.Ranges.{upFrom}
 use Rattle.rl_spec.specs.Make.{Make, _>>=_, fail, append, made, each, flatMap}
 use Rattle.rl_spec.specs.Lower.{transformList, transformElse, transformArm, conditional, match, transformStatement}
 use Rattle.rl_encode.specs.Words.{wordField}

@@ -3,7 +3,7 @@ use Prim.Native.Nat.{_-_, _≤_}
 use mathlib.Core.Path.{_≡_, refl, _∙_}
 use mathlib.Core.List.{map}
 use lib.ListN.{length, take, length-set}
-use Rattle.rl_spec.specs.Contracts.{upFrom}
+use Rattle.rl_spec.specs.Ranges.{upFrom}
 use Rattle.rl_abi.specs.Boundary.{argumentAt}
 use borrow.Author.Needs.{needs}
 use Rattle.rl_abi.proofs.values.arguments_of.Statement.{statement}
