@@ -2,7 +2,7 @@
 -- Assumes nothing.
 use Prim.Native.Nat.{ℕ, zero, suc, _+_, _-_, _*_, _/_, _≤_, _<_}
 use mathlib.Core.Path.{_≡_, refl, sym, ap, subst, _∙_}
-use mathlib.Core.Bool.{Bool, true, false}
+use mathlib.Core.Bool.{Bool, true, false, cond}
 use mathlib.Core.List.{List, [], _∷_}
 use native.Mathlib.Omega.{arith}
 use lib.Dec.{eqb, ltb}
@@ -22,7 +22,6 @@ use Rattle.rl_spec.specs.declared.Folded.{Folded}
 use Rattle.rl_spec.specs.declared.Id.{Id}
 use Rattle.rl_spec.specs.declared.ProveAnswer.{ProveAnswer}
 use Rattle.rl_spec.specs.declared.ProveAnswer.the-variants as prove
-use Rattle.rl_spec.specs.Bytes.{pick}
 use Rattle.rl_spec.specs.Read.{numberOf, packed, answerOf}
 use Rattle.rl_spec.specs.Fold.{constEval, foldBy, foldOf, foldNumber, workUnless}
 use Rattle.rl_spec.specs.Prove.{callEntries, allEntries, proveFrom, proveOf, proveAllFrom, proveAllOf}
@@ -31,7 +30,7 @@ use Rattle.rl_spec.specs.Folded.{asFolded}
 use Rattle.rl_spec.specs.Tree.{exprTree}
 use Rattle.rl_spec.specs.Words.{sortWordOf, payloadWordOf}
 use Rattle.rl_abi.specs.Boundary.{above, foldAnswer, foldValue, foldWork, provePacked, provedPlace}
-use Rattle.rl_theorems.specs.Places.{place-small}
+use Rattle.rl_images.specs.Reading.Places.{place-small}
 
 number-small : (q : Cause) → numberOf q ≤ 21
 number-small ImageTooLong = omega arith
@@ -85,7 +84,7 @@ fold-place s k id q p h = go (answerOf s k) refl h
     place (fold.Found v) = 0
     place (fold.Refused c n) = n
 
-    chosen : (x y : Bool) (v : Folded) → place (pick x (pick y (fold.Found v) (fold.Refused NoSuchNode 0)) (fold.Refused OtherArena 0)) ≡ 0
+    chosen : (x y : Bool) (v : Folded) → place (cond x (cond y (fold.Found v) (fold.Refused NoSuchNode 0)) (fold.Refused OtherArena 0)) ≡ 0
     chosen true true v = refl
     chosen true false v = refl
     chosen false y v = refl
@@ -146,7 +145,7 @@ prove-place : (s : List ℕ) (k call room : ℕ) → provedPlace (proveOf s k ca
 unfolding proveOf
 prove-place s k call room = go (answerOf s k) refl
   where
-    chosen : (x y : Bool) (n : ℕ) → provedPlace (pick x (pick y (prove.Refused ReportsTooShort 0) (prove.Proved n)) (prove.Refused NoSuchCall 0)) ≤ 65535
+    chosen : (x y : Bool) (n : ℕ) → provedPlace (cond x (cond y (prove.Refused ReportsTooShort 0) (prove.Proved n)) (prove.Refused NoSuchCall 0)) ≤ 65535
     chosen true true n = omega arith
     chosen true false n = omega arith
     chosen false y n = omega arith
@@ -159,7 +158,7 @@ all-place : (s : List ℕ) (k room : ℕ) → provedPlace (proveAllOf s k room) 
 unfolding proveAllOf
 all-place s k room = go (answerOf s k) refl
   where
-    chosen : (y : Bool) (n : ℕ) → provedPlace (pick y (prove.Refused ReportsTooShort 0) (prove.Proved n)) ≤ 65535
+    chosen : (y : Bool) (n : ℕ) → provedPlace (cond y (prove.Refused ReportsTooShort 0) (prove.Proved n)) ≤ 65535
     chosen true n = omega arith
     chosen false n = omega arith
 

@@ -2,7 +2,7 @@
 -- Assumes nothing.
 use Prim.Native.Nat.{ℕ, _≤_}
 use mathlib.Core.Path.{_≡_, refl, sym, ap, subst, _∙_}
-use mathlib.Core.Bool.{Bool, true, false, not}
+use mathlib.Core.Bool.{Bool, true, false, not, cond}
 use mathlib.Core.List.{List}
 use mathlib.Core.Option.{Option, none, some}
 use native.Mathlib.Omega.{arith}
@@ -13,12 +13,11 @@ use Rattle.rl_spec.specs.declared.Cause.{Cause}
 use Rattle.rl_spec.specs.declared.Cause.the-variants.{NoSuchFunction, HeightOverLimit, OutputTooShort}
 use Rattle.rl_spec.specs.declared.LowerAnswer.{LowerAnswer}
 use Rattle.rl_spec.specs.declared.LowerAnswer.the-variants as lower
-use Rattle.rl_spec.specs.Bytes.{pick}
 use Rattle.rl_spec.specs.Read.{numberOf, answerOf}
 use Rattle.rl_spec.specs.Image.{Image, imageOf}
 use Rattle.rl_spec.specs.Lower.{lowered}
 use Rattle.rl_spec.specs.Lowerer.{refused, tooTall, orLimit, lowerBy, lowerOf, lowerAnswer}
-use Rattle.rl_theorems.specs.Places.{place-small}
+use Rattle.rl_images.specs.Reading.Places.{place-small}
 use Rattle.rl_abi.specs.Boundary.{above, lowerPacked, loweredPlace}
 
 lower-place : (s : List ℕ) (k f room : ℕ) → loweredPlace (lowerAnswer (lowerOf s k f room)) ≤ 65535
@@ -30,7 +29,7 @@ lower-place s k f room = go (answerOf s k) refl
     limit (some im) = omega arith
 
     chosen : (x y z : Bool) (o : Option Image) →
-        loweredPlace (lowerAnswer (pick (not x) (refused NoSuchFunction 0) (pick y (refused HeightOverLimit 0) (pick z (refused OutputTooShort 0) (orLimit o))))) ≤ 65535
+        loweredPlace (lowerAnswer (cond (not x) (refused NoSuchFunction 0) (cond y (refused HeightOverLimit 0) (cond z (refused OutputTooShort 0) (orLimit o))))) ≤ 65535
     chosen false y z o = omega arith
     chosen true true z o = omega arith
     chosen true false true o = omega arith

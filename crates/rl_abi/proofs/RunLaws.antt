@@ -1,7 +1,7 @@
 -- The ways out of `rl_run`. Assumes nothing.
 use Prim.Native.Nat.{ℕ, _-_, _≤_}
 use mathlib.Core.Path.{_≡_, refl, ap, _∙_, sym, subst}
-use mathlib.Core.Bool.{Bool, true, false, not, _||_}
+use mathlib.Core.Bool.{Bool, true, false, not, cond, _||_}
 use mathlib.Core.List.{List, _++_}
 use native.Mathlib.Omega.{arith}
 use lib.Dec.{ltb}
@@ -15,14 +15,13 @@ use Rattle.rl_spec.specs.declared.Cause.the-variants.{NoSuchFunction, WrongValu
 use Rattle.rl_spec.specs.declared.Outcome.{Outcome}
 use Rattle.rl_spec.specs.declared.RunAnswer.{RunAnswer}
 use Rattle.rl_spec.specs.declared.RunAnswer.the-variants.{Ran, Refused}
-use Rattle.rl_spec.specs.Bytes.{pick}
 use Rattle.rl_spec.specs.Read.{numberOf, answerOf}
 use Rattle.rl_spec.specs.Image.{imageOf}
 use Rattle.rl_spec.specs.Fold.{workUnless}
 use Rattle.rl_spec.specs.Records.{functionAt}
 use Rattle.rl_spec.specs.Runner.{isFor, allHave, given, ranIn, runBy, runOf, runNumber}
 use Rattle.rl_abi.specs.Boundary.{above, areValues, argumentsOf, outcomeWords, isBadCall, runAnswer, runOutcome, runWork}
-use Rattle.rl_theorems.specs.Places.{place-small}
+use Rattle.rl_images.specs.Reading.Places.{place-small}
 
 -- ---- which calls are bad
 
@@ -51,7 +50,7 @@ run-place s k f args budget q p h = go (answerOf s k) refl h
     place (Refused c n) = n
 
     chosen : (w x y z : Bool) (r : RunAnswer) → place r ≡ 0
-        → place (pick w (Refused NoSuchFunction 0) (pick x (Refused WrongValues 0) (pick y (Refused NoSuchText 0) (pick z (Refused BudgetOverLimit 0) r)))) ≡ 0
+        → place (cond w (Refused NoSuchFunction 0) (cond x (Refused WrongValues 0) (cond y (Refused NoSuchText 0) (cond z (Refused BudgetOverLimit 0) r)))) ≡ 0
     chosen true x y z r e = refl
     chosen false true y z r e = refl
     chosen false false true z r e = refl

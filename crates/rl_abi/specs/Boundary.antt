@@ -1,7 +1,7 @@
 -- What the functions for C and Rust answer, in numbers. The high 32 bits are the refusal's number; 100 is the boundary's own, before
 -- anything else.
 use Prim.Native.Nat.{ℕ, _+_, _-_, _*_, _/_, _^_, min}
-use mathlib.Core.Bool.{Bool, true, false, _&&_, _||_, not}
+use mathlib.Core.Bool.{Bool, true, false, _&&_, _||_, not, cond}
 use mathlib.Core.List.{List, [], _∷_, _++_, map}
 use lib.Dec.{ltb, eqb}
 use lib.ListN.{length, getD, replicate}
@@ -19,7 +19,6 @@ use Rattle.rl_spec.specs.declared.Outcome.the-variants as outcome
 use Rattle.rl_spec.specs.declared.RunAnswer.{RunAnswer}
 use Rattle.rl_spec.specs.declared.RunAnswer.the-variants as run
 use Rattle.rl_spec.specs.declared.Value.the-variants.{Plain as Bare}
-use Rattle.rl_spec.specs.Bytes.{pick}
 use Rattle.rl_spec.specs.Read.{numberOf}
 use Rattle.rl_spec.specs.Fold.{foldOf, foldNumber, workUnless}
 use Rattle.rl_spec.specs.Ranges.{upFrom}
@@ -45,13 +44,13 @@ foldWords room (fold.Refused q n) = replicate room 0
 
 -- for an image s, a work slice of k entries, an id and a value of `room` words: the answer, the value, the work slice
 unfoldable pub foldAnswer : List ℕ → ℕ → Id → ℕ → ℕ
-foldAnswer s k id room = pick (ltb room 2) (above 100 0) (foldPacked (foldOf s k id))
+foldAnswer s k id room = cond (ltb room 2) (above 100 0) (foldPacked (foldOf s k id))
 
 unfoldable pub foldValue : List ℕ → ℕ → Id → ℕ → List ℕ
-foldValue s k id room = pick (ltb room 2) (replicate room 0) (foldWords room (foldOf s k id))
+foldValue s k id room = cond (ltb room 2) (replicate room 0) (foldWords room (foldOf s k id))
 
 unfoldable pub foldWork : List ℕ → ℕ → Id → ℕ → List ℕ
-foldWork s k id room = pick (ltb room 2) (replicate k 0) (workUnless (foldNumber (foldOf s k id)) s k)
+foldWork s k id room = cond (ltb room 2) (replicate k 0) (workUnless (foldNumber (foldOf s k id)) s k)
 
 -- ---- proving: the number of reports in the low bits
 
@@ -69,15 +68,15 @@ provedPlace (prove.Refused q n) = n
 -- a plain value's words: Null has the payload 0, a Str a text's index, a Bool 0 or 1
 unfoldable pub isPlain : ℕ → ℕ → Bool
 isPlain sort payload =
-    pick (eqb sort 0) (eqb payload 0)
-    (pick (eqb sort 3) (ltb payload 65536)
-    (pick (eqb sort 4) (ltb payload 2) (ltb sort 3)))
+    cond (eqb sort 0) (eqb payload 0)
+    (cond (eqb sort 3) (ltb payload 65536)
+    (cond (eqb sort 4) (ltb payload 2) (ltb sort 3)))
 
 -- 8 is added to the sort in an Ok, 16 in an Err
 unfoldable pub isValue : ℕ → ℕ → Bool
 isValue sort payload =
-    pick (ltb sort 8) (isPlain sort payload)
-    (pick (ltb sort 16) (isPlain (sort - 8) payload) (isPlain (sort - 16) payload))
+    cond (ltb sort 8) (isPlain sort payload)
+    (cond (ltb sort 16) (isPlain (sort - 8) payload) (isPlain (sort - 16) payload))
 
 unfoldable pub areValues : List ℕ → Bool
 areValues [] = true
@@ -113,15 +112,15 @@ isBadCall words room = not (areValues words) || ltb room 4
 -- for an image s, a work slice of k entries, a function, values, a budget and an outcome of `room` words: the answer, the outcome,
 -- the work slice
 unfoldable pub runAnswer : List ℕ → ℕ → ℕ → List ℕ → ℕ → ℕ → ℕ
-runAnswer s k f words budget room = pick (isBadCall words room) (above 100 0) (runPacked (runOf s k f (argumentsOf words) budget))
+runAnswer s k f words budget room = cond (isBadCall words room) (above 100 0) (runPacked (runOf s k f (argumentsOf words) budget))
 
 unfoldable pub runOutcome : List ℕ → ℕ → ℕ → List ℕ → ℕ → ℕ → List ℕ
 runOutcome s k f words budget room =
-    pick (isBadCall words room) (replicate room 0) (runWords room (runOf s k f (argumentsOf words) budget))
+    cond (isBadCall words room) (replicate room 0) (runWords room (runOf s k f (argumentsOf words) budget))
 
 unfoldable pub runWork : List ℕ → ℕ → ℕ → List ℕ → ℕ → ℕ → List ℕ
 runWork s k f words budget room =
-    pick (isBadCall words room) (replicate k 0) (workUnless (runNumber (runOf s k f (argumentsOf words) budget)) s k)
+    cond (isBadCall words room) (replicate k 0) (workUnless (runNumber (runOf s k f (argumentsOf words) budget)) s k)
 
 -- ---- lowering: the length of the image written in the low bits
 

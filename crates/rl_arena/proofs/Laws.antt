@@ -2,7 +2,7 @@
 -- Assumes nothing.
 use Prim.Native.Nat.{ℕ, zero, suc, _+_, _-_, _*_, _/_, _%_, _^_, _≤_, _<_}
 use mathlib.Core.Path.{_≡_, refl, sym, ap, _∙_}
-use mathlib.Core.Bool.{Bool, true, false}
+use mathlib.Core.Bool.{Bool, true, false, cond}
 use mathlib.Core.List.{List, [], _∷_}
 use native.Mathlib.Omega.{arith}
 use lib.Dec.{leb, eqb}
@@ -14,7 +14,7 @@ use Rattle.rl_spec.specs.declared.ArenaNo.{ArenaNo}
 use Rattle.rl_spec.specs.declared.Counts.{Counts}
 use Rattle.rl_spec.specs.declared.Id.{Id}
 use Rattle.rl_spec.specs.declared.Sort.{Sort}
-use Rattle.rl_spec.specs.Bytes.{pick, numAt, u16At, u32At}
+use Rattle.rl_spec.specs.Bytes.{numAt, u16At, u32At}
 use Rattle.rl_spec.specs.Schema.{sortOf, widthOf}
 use Rattle.rl_spec.specs.Image.{Field, noField, first, second, isPair, fieldIn, fieldsAt, recordIn}
 use Rattle.rl_bytes.proofs.Laws.{one, two, four}
@@ -73,7 +73,7 @@ number-none s at n a b c d = rw (ne-eqb n 1 a, ne-eqb n 2 b, ne-eqb n 4 c, ne-eq
 abbrev Narrow : Sort → Type 0
 Narrow o = (isWidth (widthOf o) ≡ true) × (leb (widthOf o) 8 ≡ true)
 
-or : (b : Bool) (x y : Sort) → Narrow x → Narrow y → Narrow (pick b x y)
+or : (b : Bool) (x y : Sort) → Narrow x → Narrow y → Narrow (cond b x y)
 or true x y p q = p
 or false x y p q = q
 

@@ -2,7 +2,7 @@
 -- Assumes nothing.
 use Prim.Native.Nat.{ℕ, _+_, _≤_, _<_}
 use mathlib.Core.Path.{_≡_, refl}
-use mathlib.Core.Bool.{Bool, true, false}
+use mathlib.Core.Bool.{Bool, true, false, cond}
 use mathlib.Core.List.{List}
 use native.Mathlib.Omega.{arith}
 use lib.Dec.{ltb, eqb}
@@ -14,12 +14,12 @@ use Rattle.rl_spec.specs.declared.Id.{Id}
 use Rattle.rl_spec.specs.declared.Answer.the-variants.{Accepted}
 use Rattle.rl_spec.specs.declared.Section.{Section}
 use Rattle.rl_spec.specs.declared.Section.the-variants.{Expressions, Statements}
-use Rattle.rl_spec.specs.Bytes.{pick, numAt}
+use Rattle.rl_spec.specs.Bytes.{numAt}
 use Rattle.rl_spec.specs.Read.{answerOf, startsOf}
 use Rattle.rl_spec.specs.Image.{noField, recordOf, fieldOf, fieldsAt, recordIn, imageOf}
 use Rattle.rl_schema.specs.Codes.{codes, table}
 use Rattle.rl_schema.proofs.Rows.{row-codes}
-use Rattle.rl_theorems.specs.Starts.{Stands, starts-expression, starts-statement}
+use Rattle.rl_images.specs.Reading.Starts.{Stands, starts-expression, starts-statement}
 use Rattle.rl_arena.specs.declared.Lookup.the-variants.{Node, OtherArena, NoSuchNode}
 use Rattle.rl_arena.specs.Find.{isWidth, numberIn, lookup}
 
@@ -92,7 +92,7 @@ module _ (arena : ArenaNo) (c : Counts) (id : Id) where
   unfolding lookup
   lookup-node n e = go (eqb (id .arena .0) (arena .0)) (ltb (id .node .0) (c .expressions)) refl refl e
     where
-      go : (x y : Bool) → eqb (id .arena .0) (arena .0) ≡ x → ltb (id .node .0) (c .expressions) ≡ y → pick x (pick y (Node (id .node .0)) NoSuchNode) OtherArena ≡ Node n → (id .arena .0 ≡ arena .0) × ((n ≡ id .node .0) × (n < c .expressions))
+      go : (x y : Bool) → eqb (id .arena .0) (arena .0) ≡ x → ltb (id .node .0) (c .expressions) ≡ y → cond x (cond y (Node (id .node .0)) NoSuchNode) OtherArena ≡ Node n → (id .arena .0 ≡ arena .0) × ((n ≡ id .node .0) × (n < c .expressions))
       go true true p q f =
           let m : n ≡ id .node .0 = cc in
           (eqb-true (id .arena .0) (arena .0) p, (m, omega (arith, ltb-true (id .node .0) (c .expressions) q)))

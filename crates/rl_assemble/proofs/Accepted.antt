@@ -13,14 +13,14 @@ use Rattle.rl_spec.specs.Schema.{sections}
 use Rattle.rl_spec.specs.Read.{countsOf, answerOf, startsOf}
 use Rattle.rl_spec.specs.Image.{endAt, imageOf, AllBytes, WellFormed}
 use Rattle.rl_spec.specs.Found.{imageFound}
-use Rattle.rl_theorems.specs.Outcome.{lastAt, accepted-reads, accepted-header}
-use Rattle.rl_theorems.specs.Decode.{accepted-encodes}
-use Rattle.rl_theorems.specs.Accepted.{accepted-well-formed}
-use Rattle.rl_theorems.specs.AcceptedParts.{counts-image, section-next}
-use Rattle.rl_theorems.specs.Found.{found-is-image}
-use Rattle.rl_theorems.specs.Starts.{sectionAt, start-statement, section-places}
-use Rattle.rl_theorems.specs.Known.{counts}
-use Rattle.rl_theorems.specs.Sections.{placeOf}
+use Rattle.rl_images.specs.Reading.ReadOutcome.{lastAt, accepted-reads, accepted-header}
+use Rattle.rl_images.specs.Reading.Decode.{accepted-encodes}
+use Rattle.rl_images.specs.Encoding.Accepted.{accepted-well-formed}
+use Rattle.rl_images.specs.Encoding.AcceptedParts.{counts-image, section-next}
+use Rattle.rl_images.specs.Reading.Found.{found-is-image}
+use Rattle.rl_images.specs.Reading.Starts.{sectionAt, start-statement, section-places}
+use Rattle.rl_images.specs.Encoding.ReaderKnows.{counts}
+use Rattle.rl_images.specs.Encoding.Sections.{placeOf}
 use Rattle.rl_assemble.specs.Pieces.{Source, expressionsAt}
 use Rattle.rl_assemble.proofs.Parts.{sizeIn, statements-place}
 

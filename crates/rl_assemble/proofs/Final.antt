@@ -2,6 +2,7 @@
 -- Assumes nothing.
 use Prim.Native.Nat.{ℕ, suc, _+_, _-_, _*_, _<_}
 use mathlib.Core.Path.{_≡_, refl, ap, ap₂, sym, _∙_}
+use mathlib.Core.Bool.{cond}
 use mathlib.Core.List.{List, [], _∷_, _++_, append-assoc}
 use native.Mathlib.Omega.{arith}
 use lib.ListN.{length, getD, set, take, drop, length-append, length-set}
@@ -9,14 +10,13 @@ use borrow.Author.Tests.{eq-eqb, ne-eqb}
 use Rattle.rl_spec.specs.declared.Counts.{Counts}
 use Rattle.rl_spec.specs.declared.Interval.{Interval}
 use Rattle.rl_spec.specs.declared.Section.the-variants.{Texts, Lists, Expressions, Statements, Parameters, Clauses, Functions, Calls}
-use Rattle.rl_spec.specs.Bytes.{pick}
 use Rattle.rl_spec.specs.Image.{pair, Rec, Image, recordsOf, sizeOf, recordOf, bytesOf, encodeRecords, encode, WellFormed}
 use Rattle.rl_spec.specs.Found.{parametersAt}
 use Rattle.rl_spec.specs.Lower.{bodied, withBody}
 use Rattle.rl_laws.specs.Tests.{by-eqb}
-use Rattle.rl_theorems.specs.Standing.{Stands, length-bytes}
-use Rattle.rl_theorems.specs.Known.{counts}
-use Rattle.rl_theorems.specs.Sections.{placeOf}
+use Rattle.rl_images.specs.Encoding.BytesAt.{Stands, length-bytes}
+use Rattle.rl_images.specs.Encoding.ReaderKnows.{counts}
+use Rattle.rl_images.specs.Encoding.Sections.{placeOf}
 use Rattle.rl_context.specs.declared.Ctx.{Ctx}
 use Rattle.rl_context.specs.Additions.{New, grown, textsFrom, listsFrom, expressionsFrom, statementsFrom, Held, Counted, Kept}
 use Rattle.rl_assemble.specs.Pieces.{both, expressionsAt, statementsAt, newCounts, newHeader, newText, newTexts, newLists, newTrees, newBytes, newLength}
@@ -90,12 +90,12 @@ module _ (im : Image) (wf : WellFormed im) (new : New) (ctx : Ctx) (z : List ℕ
     where
       none : sizeOf im Statements ≡ 0 → statementsAt s p c ≡ placeOf im Statements
       none e =
-          ap (λ b. pick b (parametersAt s c) (getD p (sizeOf im Expressions) 0)) (eq-eqb (sizeOf im Statements) 0 e)
+          ap (λ b. cond b (parametersAt s c) (getD p (sizeOf im Expressions) 0)) (eq-eqb (sizeOf im Statements) 0 e)
           ∙ parameters-place im wf
           ∙ omega (arith, statements-place im wf, empty (recordsOf im Statements) e)
 
       some : (sizeOf im Statements ≡ 0 → ⊥) → statementsAt s p c ≡ placeOf im Statements
-      some q = ap (λ b. pick b (parametersAt s c) (getD p (sizeOf im Expressions) 0)) (ne-eqb (sizeOf im Statements) 0 q) ∙ h (omega arith)
+      some q = ap (λ b. cond b (parametersAt s c) (getD p (sizeOf im Expressions) 0)) (ne-eqb (sizeOf im Statements) 0 q) ∙ h (omega arith)
 
   module _ (f : ℕ) (l : f < sizeOf im Functions) (list : Interval) where
     abbrev pub final : Image

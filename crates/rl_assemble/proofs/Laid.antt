@@ -9,8 +9,8 @@ use lib.Seq.{set-split, set-getD, getD-take, length-take-le}
 use Rattle.rl_spec.specs.Schema.{sortOf, widthOf, fieldsOf}
 use Rattle.rl_spec.specs.Image.{Field, Rec, Image, noField, noRecord, bytesOf, encodeField, encodeFields, encodeRecord, encodeRecords, encodeSections, encodeCounts, encode, widthsOf}
 use Rattle.rl_spec.specs.Make.{made}
-use Rattle.rl_theorems.specs.Standing.{length-bytes}
-use Rattle.rl_theorems.specs.Sized.{AllSized, SizedRecord, width, length-records}
+use Rattle.rl_images.specs.Encoding.BytesAt.{length-bytes}
+use Rattle.rl_images.specs.Encoding.FieldWidths.{AllSized, SizedRecord, width, length-records}
 
 -- ---- the whole
 

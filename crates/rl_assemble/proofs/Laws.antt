@@ -2,6 +2,7 @@
 -- Assumes nothing.
 use Prim.Native.Nat.{ℕ, _-_, _≤_, _<_}
 use mathlib.Core.Path.{_≡_, ap, ap₂, sym, _∙_, subst}
+use mathlib.Core.Bool.{cond}
 use mathlib.Core.List.{List, _++_}
 use native.Mathlib.Omega.{arith}
 use native.Mathlib.Nat.{zero-add}
@@ -12,12 +13,11 @@ use borrow.Author.Tests.{lt-ltb, le-ltb}
 use Rattle.rl_spec.specs.declared.Counts.{Counts}
 use Rattle.rl_spec.specs.declared.Interval.{Interval}
 use Rattle.rl_spec.specs.declared.Section.the-variants.{Functions, Statements}
-use Rattle.rl_spec.specs.Bytes.{pick}
 use Rattle.rl_spec.specs.Image.{Image, sizeOf, pair, encode}
 use Rattle.rl_spec.specs.Lower.{withBody}
-use Rattle.rl_theorems.specs.Filled.{drop-replicate}
-use Rattle.rl_theorems.specs.Known.{counts}
-use Rattle.rl_theorems.specs.Sections.{placeOf}
+use Rattle.rl_images.specs.Reading.Filled.{drop-replicate}
+use Rattle.rl_images.specs.Encoding.ReaderKnows.{counts}
+use Rattle.rl_images.specs.Encoding.Sections.{placeOf}
 use Rattle.rl_text_out.specs.Put.{fitting, withText, afterText}
 use Rattle.rl_context.specs.declared.Ctx.{Ctx}
 use Rattle.rl_context.specs.Additions.{New, grown, Counted, Kept}
@@ -41,8 +41,8 @@ module _ (out x : List ℕ) (room : length x ≤ length out) where
 given-none : (im : Image) (out : List ℕ) → 65535 < length (encode im) → Given im out 0 out
 given-none im out h =
     record {
-      number = ap (λ b. pick b 0 (length (encode im))) (sym (lt-ltb 65535 (length (encode im)) h));
-      bytes = ap (λ b. pick b out (encode im ++ drop (length (encode im)) out)) (sym (lt-ltb 65535 (length (encode im)) h));
+      number = ap (λ b. cond b 0 (length (encode im))) (sym (lt-ltb 65535 (length (encode im)) h));
+      bytes = ap (λ b. cond b out (encode im ++ drop (length (encode im)) out)) (sym (lt-ltb 65535 (length (encode im)) h));
     }
 
 given-all : (im : Image) (out : List ℕ) (r : ℕ) (after : List ℕ) → length (encode im) ≤ 65535 → 65535 ≤ length out →
@@ -51,10 +51,10 @@ given-all im out r after h room p =
     record {
       number =
           p .place ∙ after-front out (encode im) (omega arith)
-          ∙ ap (λ b. pick b 0 (length (encode im))) (sym (le-ltb 65535 (length (encode im)) h));
+          ∙ ap (λ b. cond b 0 (length (encode im))) (sym (le-ltb 65535 (length (encode im)) h));
       bytes =
           p .bytes ∙ with-front out (encode im) (omega arith)
-          ∙ ap (λ b. pick b out (encode im ++ drop (length (encode im)) out)) (sym (le-ltb 65535 (length (encode im)) h));
+          ∙ ap (λ b. cond b out (encode im ++ drop (length (encode im)) out)) (sym (le-ltb 65535 (length (encode im)) h));
     }
 
 -- ---- the three ways out

@@ -13,11 +13,11 @@ use Rattle.rl_spec.specs.Schema.{sections, sortOf, fieldsOf, fieldsIn, schema}
 use Rattle.rl_spec.specs.Fields.{listsAt}
 use Rattle.rl_spec.specs.Image.{Image, recordsOf, sizeOf, noRecord, bytesOf, encodeRecords, encode, widthsOf, WellFormed}
 use Rattle.rl_spec.specs.Found.{parametersAt, functionsAt}
-use Rattle.rl_theorems.specs.Standing.{Stands, left, right, moved, piece, length-bytes}
-use Rattle.rl_theorems.specs.Sized.{length-records}
-use Rattle.rl_theorems.specs.Known.{counts}
-use Rattle.rl_theorems.specs.Header.{records-are}
-use Rattle.rl_theorems.specs.Sections.{placeOf, length-at}
+use Rattle.rl_images.specs.Encoding.BytesAt.{Stands, left, right, moved, piece, length-bytes}
+use Rattle.rl_images.specs.Encoding.FieldWidths.{length-records}
+use Rattle.rl_images.specs.Encoding.ReaderKnows.{counts}
+use Rattle.rl_images.specs.Encoding.Header.{records-are}
+use Rattle.rl_images.specs.Encoding.Sections.{placeOf, length-at}
 use Rattle.rl_assemble.specs.Pieces.{part, expressionsAt}
 use Rattle.rl_assemble.proofs.Laid.{Sections, layout, layoutLength, fiveCounts, fourCounts, restOf, sectionsOf, laid, five-length, four-length, laid-length}
 

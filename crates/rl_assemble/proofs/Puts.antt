@@ -10,7 +10,7 @@ use Rattle.rl_spec.specs.declared.Counts.{Counts}
 use Rattle.rl_spec.specs.declared.Interval.{Interval}
 use Rattle.rl_spec.specs.Image.{bytesOf}
 use Rattle.rl_spec.specs.Found.{parametersAt}
-use Rattle.rl_theorems.specs.Standing.{length-bytes}
+use Rattle.rl_images.specs.Encoding.BytesAt.{length-bytes}
 use Rattle.rl_text_out.specs.Put.{withText, afterText}
 use Rattle.rl_text_out.proofs.Joined.{with-with, after-after}
 use Rattle.rl_encode.specs.Words.{over}

@@ -11,9 +11,9 @@ use Rattle.rl_spec.specs.Schema.{sortOf, widthOf, fieldsOf, fieldsIn, schema}
 use Rattle.rl_spec.specs.Image.{Field, pair, Rec, Image, recordsOf, sizeOf, recordOf, noField, noRecord, bytesOf, encodeField, encodeRecord, encodeRecords, encode, widthsOf, WellFormed}
 use Rattle.rl_spec.specs.Found.{parametersAt}
 use Rattle.rl_spec.specs.Lower.{bodied}
-use Rattle.rl_theorems.specs.Standing.{Stands, left, right, length-bytes}
-use Rattle.rl_theorems.specs.Known.{counts}
-use Rattle.rl_theorems.specs.Sections.{sized-at, kind-at, length-at}
+use Rattle.rl_images.specs.Encoding.BytesAt.{Stands, left, right, length-bytes}
+use Rattle.rl_images.specs.Encoding.ReaderKnows.{counts}
+use Rattle.rl_images.specs.Encoding.Sections.{sized-at, kind-at, length-at}
 use Rattle.rl_assemble.specs.Pieces.{part, bodyAt, newRest}
 use Rattle.rl_assemble.proofs.Laid.{restOf, before, behind, with-field, as-it-is, length-before, field-width, as-many}
 use Rattle.rl_assemble.proofs.Parts.{bytesIn, part-is, last-is, ofImage, sizeIn, rest-ends, functions-place, rest-stands}

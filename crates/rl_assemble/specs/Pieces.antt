@@ -1,19 +1,19 @@
 -- The bytes of a lowered image, from those of the image and the new ones.
 use Prim.Native.Nat.{ℕ, _+_, _-_, _*_, _<_}
 use mathlib.Core.Path.{_≡_}
+use mathlib.Core.Bool.{cond}
 use mathlib.Core.List.{List, _++_}
 use lib.Dec.{eqb, ltb}
 use lib.ListN.{length, getD, take, drop}
 use Rattle.rl_spec.specs.declared.Counts.{Counts}
 use Rattle.rl_spec.specs.declared.Interval.{Interval}
 use Rattle.rl_spec.specs.declared.Section.the-variants.{Statements}
-use Rattle.rl_spec.specs.Bytes.{pick}
 use Rattle.rl_spec.specs.Schema.{textBytesAt}
 use Rattle.rl_spec.specs.Fields.{listsAt}
 use Rattle.rl_spec.specs.Image.{Image, bytesOf, encode, WellFormed}
 use Rattle.rl_spec.specs.Found.{functionsAt, parametersAt}
-use Rattle.rl_theorems.specs.Known.{counts}
-use Rattle.rl_theorems.specs.Sections.{placeOf}
+use Rattle.rl_images.specs.Encoding.ReaderKnows.{counts}
+use Rattle.rl_images.specs.Encoding.Sections.{placeOf}
 use Rattle.rl_text_out.specs.Put.{withText, afterText}
 use Rattle.rl_context.specs.declared.Ctx.{Ctx}
 use Rattle.rl_context.specs.Additions.{textsFrom, listsFrom, expressionsFrom, statementsFrom}
@@ -36,7 +36,7 @@ expressionsAt c = listsAt c + c .lists * 3
 
 -- without statements, where they would start
 abbrev pub statementsAt : List ℕ → List ℕ → Counts → ℕ
-statementsAt s p c = pick (eqb (c .statements) 0) (parametersAt s c) (getD p (c .expressions) 0)
+statementsAt s p c = cond (eqb (c .statements) 0) (parametersAt s c) (getD p (c .expressions) 0)
 
 -- the body list of a function, behind kind, name, span, parameters and result flag
 abbrev pub bodyAt : List ℕ → Counts → ℕ → ℕ
@@ -102,5 +102,5 @@ pub record Source (im : Image) (s p : List ℕ) (c : Counts) : Type 0 where
 
 -- an image's bytes at the front of a slice, and their number; nothing and 0 where they are more than 65,535
 pub record Given (im : Image) (out : List ℕ) (n : ℕ) (after : List ℕ) : Type 0 where
-  pub number : n ≡ pick (ltb 65535 (length (encode im))) 0 (length (encode im))
-  pub bytes : after ≡ pick (ltb 65535 (length (encode im))) out (encode im ++ drop (length (encode im)) out)
+  pub number : n ≡ cond (ltb 65535 (length (encode im))) 0 (length (encode im))
+  pub bytes : after ≡ cond (ltb 65535 (length (encode im))) out (encode im ++ drop (length (encode im)) out)

@@ -2,7 +2,7 @@
 -- Assumes nothing.
 use Prim.Native.Nat.{ℕ, zero, suc, _+_, _-_, _≤_, _<_}
 use mathlib.Core.Path.{_≡_, refl}
-use mathlib.Core.Bool.{Bool, true, false}
+use mathlib.Core.Bool.{Bool, true, false, cond}
 use mathlib.Core.List.{List}
 use native.Mathlib.Omega.{arith}
 use lib.Dec.{ltb, leb, eqb}
@@ -16,7 +16,7 @@ use Rattle.rl_spec.specs.declared.Section.{Section}
 use Rattle.rl_spec.specs.declared.Section.the-variants.{Lists}
 use Rattle.rl_spec.specs.declared.Step.{Step}
 use Rattle.rl_spec.specs.declared.Step.the-variants.{Next, Stop}
-use Rattle.rl_spec.specs.Bytes.{pick, past}
+use Rattle.rl_spec.specs.Bytes.{past}
 use Rattle.rl_spec.specs.Schema.{inSection, fieldsOf, fieldsIn, schema, sortOf}
 use Rattle.rl_spec.specs.Fields.{heightStep, recordAt, fieldsFrom, fieldAt, valueOf}
 use Rattle.rl_spec.specs.Read.{after, bad, outOf, recordsFrom}
@@ -65,22 +65,22 @@ kind-only : (k : ℕ) → inSection Lists k ≡ eqb k 3
 unfolding inSection
 kind-only k = by-ltb k 3 (λ p. rw (lt-ltb k 3 p, ne-eqb k 3 (λ e. omega arith)) refl) (λ p. above p)
   where
-    above : 3 ≤ k → pick (ltb k 3) false (leb k 3) ≡ eqb k 3
+    above : 3 ≤ k → cond (ltb k 3) false (leb k 3) ≡ eqb k 3
     above p =
         by-ltb 3 k (λ q. rw (le-ltb k 3 p, lt-leb k 3 q, ne-eqb k 3 (λ e. omega arith)) refl)
         (λ q. let e : k ≡ 3 = omega arith in rw (le-ltb k 3 p, le-leb k 3 q, eq-eqb k 3 e) refl)
 
 module _ (s w p : List ℕ) (c : Counts) (at : ℕ) where
-  only-field : (b : Bool) → past s (at + 1) 2 ≡ b → heightStep Lists at (fieldsFrom s w p c Lists (fieldsOf 3) (at + 1) 0) ≡ pick b (Stop BytesEnd (at + 1)) (Next (at + 1 + 2) 1)
+  only-field : (b : Bool) → past s (at + 1) 2 ≡ b → heightStep Lists at (fieldsFrom s w p c Lists (fieldsOf 3) (at + 1) 0) ≡ cond b (Stop BytesEnd (at + 1)) (Next (at + 1 + 2) 1)
   unfolding fieldsOf fieldsIn schema sortOf fieldsFrom fieldAt valueOf
   only-field true e = rw e refl
   only-field false e = rw e refl
 
-  entry : recordAt s w p c Lists at ≡ pick (past s at 1) (Stop BytesEnd at) (pick (eqb (getD s at 0) 3) (pick (past s (at + 1) 2) (Stop BytesEnd (at + 1)) (Next (at + 1 + 2) 1)) (Stop WrongKind at))
+  entry : recordAt s w p c Lists at ≡ cond (past s at 1) (Stop BytesEnd at) (cond (eqb (getD s at 0) 3) (cond (past s (at + 1) 2) (Stop BytesEnd (at + 1)) (Next (at + 1 + 2) 1)) (Stop WrongKind at))
   unfolding recordAt
   entry = rw (kind-only (getD s at 0)) (go (eqb (getD s at 0) 3) refl)
     where
-      go : (b : Bool) → eqb (getD s at 0) 3 ≡ b → pick (past s at 1) (Stop BytesEnd at) (pick b (heightStep Lists at (fieldsFrom s w p c Lists (fieldsOf (getD s at 0)) (at + 1) 0)) (Stop WrongKind at)) ≡ pick (past s at 1) (Stop BytesEnd at) (pick b (pick (past s (at + 1) 2) (Stop BytesEnd (at + 1)) (Next (at + 1 + 2) 1)) (Stop WrongKind at))
+      go : (b : Bool) → eqb (getD s at 0) 3 ≡ b → cond (past s at 1) (Stop BytesEnd at) (cond b (heightStep Lists at (fieldsFrom s w p c Lists (fieldsOf (getD s at 0)) (at + 1) 0)) (Stop WrongKind at)) ≡ cond (past s at 1) (Stop BytesEnd at) (cond b (cond (past s (at + 1) 2) (Stop BytesEnd (at + 1)) (Next (at + 1 + 2) 1)) (Stop WrongKind at))
       go true e = rw (eqb-true (getD s at 0) 3 e, only-field (past s (at + 1) 2) refl) refl
       go false e = refl
 
@@ -90,7 +90,7 @@ lists-are s c zero i at w p = refl
 lists-are s c (suc n) i at w p =
     rw (entry s w p c at) (go (past s at 1) (eqb (getD s at 0) 3) (past s (at + 1) 2) (lists-are s c n (i + 1) (at + 1 + 2) w p))
   where
-    go : (x y z : Bool) → outOf (listsFrom s n (at + 1 + 2)) w p ≡ recordsFrom s c Lists n (i + 1) (at + 1 + 2) w p → outOf (pick x (Stop BytesEnd at) (pick y (pick z (Stop BytesEnd (at + 1)) (listsFrom s n (at + 1 + 2))) (Stop WrongKind at))) w p ≡ after (pick x (Stop BytesEnd at) (pick y (pick z (Stop BytesEnd (at + 1)) (Next (at + 1 + 2) 1)) (Stop WrongKind at))) (λ a t. recordsFrom s c Lists n (i + 1) a w p) bad
+    go : (x y z : Bool) → outOf (listsFrom s n (at + 1 + 2)) w p ≡ recordsFrom s c Lists n (i + 1) (at + 1 + 2) w p → outOf (cond x (Stop BytesEnd at) (cond y (cond z (Stop BytesEnd (at + 1)) (listsFrom s n (at + 1 + 2))) (Stop WrongKind at))) w p ≡ after (cond x (Stop BytesEnd at) (cond y (cond z (Stop BytesEnd (at + 1)) (Next (at + 1 + 2) 1)) (Stop WrongKind at))) (λ a t. recordsFrom s c Lists n (i + 1) a w p) bad
     go true y z f = refl
     go false true true f = refl
     go false true false f = f

@@ -2,7 +2,7 @@
 -- Assumes nothing.
 use Prim.Native.Nat.{ℕ, zero, suc, _+_, _-_, _≤_, _<_}
 use mathlib.Core.Path.{_≡_, refl, sym, ap, _∙_}
-use mathlib.Core.Bool.{Bool, true, false}
+use mathlib.Core.Bool.{Bool, true, false, cond}
 use mathlib.Core.List.{List, _∷_}
 use native.Mathlib.Omega.{arith}
 use native.Mathlib.Numerals.{add-one}
@@ -20,7 +20,7 @@ use Rattle.rl_spec.specs.declared.Section.{Section}
 use Rattle.rl_spec.specs.declared.Section.the-variants.{Texts, Lists, Expressions, Statements, Parameters, Clauses, Functions, Calls}
 use Rattle.rl_spec.specs.declared.Step.{Step}
 use Rattle.rl_spec.specs.declared.Step.the-variants.{Next, Stop}
-use Rattle.rl_spec.specs.Bytes.{pick, u16At, u32At, past}
+use Rattle.rl_spec.specs.Bytes.{u16At, u32At, past}
 use Rattle.rl_spec.specs.Schema.{limits, sections, countOf, inSection, fieldsOf}
 use Rattle.rl_spec.specs.Fields.{recordAt, heightStep, fieldsFrom}
 use Rattle.rl_spec.specs.Read.{after, countsOf, countsFrom, headerOf, Out, good, bad, outOf, seenBy, keep, recordsFrom, sectionsFrom, endOf, bodyOf, contentOf, mostStarts, readOf, answerOf, workOf, startsOf}
@@ -117,9 +117,9 @@ unfolding recordAt
 record-there s w p seen own at r e a t f = go (past s at 1) refl (sym e ∙ f)
   where
     rest : Step
-    rest = pick (inSection own (getD s at 0)) (heightStep own at (fieldsFrom s w p seen own (fieldsOf (getD s at 0)) (at + 1) 0)) (Stop WrongKind at)
+    rest = cond (inSection own (getD s at 0)) (heightStep own at (fieldsFrom s w p seen own (fieldsOf (getD s at 0)) (at + 1) 0)) (Stop WrongKind at)
 
-    go : (b : Bool) → b ≡ past s at 1 → pick b (Stop BytesEnd at) rest ≡ Next a t → at < length s
+    go : (b : Bool) → b ≡ past s at 1 → cond b (Stop BytesEnd at) rest ≡ Next a t → at < length s
     go true g h = let z : _≡_ {A = ℕ} 0 1 = cc in absurd (omega arith)
     go false g h = byte-there s at false g refl
 

@@ -25,12 +25,12 @@ use Rattle.rl_spec.specs.Fold.{workUnless}
 use Rattle.rl_spec.specs.Found.{imageFound}
 use Rattle.rl_spec.specs.Prove.{callEntries, allEntries, fitting, sliceBy, proveOf, reportsOf, proveAllOf, allReportsOf, proveNumber}
 use Rattle.rl_prover.specs.Reports.{Shown}
-use Rattle.rl_theorems.specs.Accepted.{accepted-well-formed}
-use Rattle.rl_theorems.specs.Found.{found-is-image}
-use Rattle.rl_theorems.specs.Limits.{size-within, texts-within, parameters-within, all-bytes}
-use Rattle.rl_theorems.specs.Starts.{section-size, sizes-are-counts}
+use Rattle.rl_images.specs.Encoding.Accepted.{accepted-well-formed}
+use Rattle.rl_images.specs.Reading.Found.{found-is-image}
+use Rattle.rl_images.specs.Images.Limits.{size-within, texts-within, parameters-within, all-bytes}
+use Rattle.rl_images.specs.Reading.Starts.{section-size, sizes-are-counts}
 use Rattle.rl_checker.specs.Entries.{Limited, ProvesOne, ProvesAll, fittingAt, keptAt}
-use Rattle.rl_theorems.specs.Refusals.{zeros-unless, refused-work}
+use Rattle.rl_images.specs.Reading.Refusals.{zeros-unless, refused-work}
 
 -- ---- a slice of zeros shows nothing, and one that is long enough shows all
 

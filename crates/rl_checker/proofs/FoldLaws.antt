@@ -2,7 +2,7 @@
 -- Assumes nothing.
 use Prim.Native.Nat.{ℕ}
 use mathlib.Core.Path.{_≡_, refl, sym, ap, subst, _∙_}
-use mathlib.Core.Bool.{Bool, true, false}
+use mathlib.Core.Bool.{Bool, true, false, cond}
 use mathlib.Core.List.{List, []}
 use lib.Dec.{eqb, ltb}
 use lib.ListN.{length, replicate}
@@ -16,7 +16,6 @@ use Rattle.rl_spec.specs.declared.FoldAnswer.{FoldAnswer}
 use Rattle.rl_spec.specs.declared.FoldAnswer.the-variants.{Found, Refused}
 use Rattle.rl_spec.specs.declared.Folded.{Folded}
 use Rattle.rl_spec.specs.declared.Id.{Id}
-use Rattle.rl_spec.specs.Bytes.{pick}
 use Rattle.rl_spec.specs.Read.{answerOf, workOf, startsOf}
 use Rattle.rl_spec.specs.Image.{Image, imageOf}
 use Rattle.rl_spec.specs.Fold.{foldOf, foldNumber, workUnless}
@@ -26,8 +25,8 @@ use Rattle.rl_arena.specs.declared.Lookup.the-variants.{Node, OtherArena, NoSuc
 use Rattle.rl_arena.specs.Find.{lookup}
 use Rattle.rl_memory.proofs.Names.{cleared-right}
 use Rattle.rl_fold.specs.Folding.{foldedAt, Folds}
-use Rattle.rl_theorems.specs.Found.{found-is-image}
-use Rattle.rl_theorems.specs.Refusals.{zeros-unless, refused-work}
+use Rattle.rl_images.specs.Reading.Found.{found-is-image}
+use Rattle.rl_images.specs.Reading.Refusals.{zeros-unless, refused-work}
 
 -- without names and memory
 pub fold-alone : (im : Image) (cs w : List ℕ) (n k : ℕ) (r : Folded) (out : List ℕ) → Folds im cs w 0 n (replicate k 0) r out → r ≡ foldedAt im [] n
@@ -53,7 +52,7 @@ module _ (s : List ℕ) (k : ℕ) (id : Id) (a : Answer) (e : a ≡ answerOf s k
     fold-unread-work w g = work-of (Refused q n) w fold-unread (g ∙ refused-work s k q n (sym e ∙ f) ∙ zeros-unless q s k)
 
   module _ (no : ArenaNo) (c : Counts) (f : a ≡ read.Accepted no c) (l : Lookup) (g : l ≡ lookup no c id) where
-    by-lookup : (x y : Bool) → eqb (id .arena .0) (no .0) ≡ x → ltb (id .node .0) (c .expressions) ≡ y → (l ≡ pick x (pick y (Node (id .node .0)) NoSuchNode) OtherArena) × (foldOf s k id ≡ pick x (pick y (Found (foldedAt (imageOf s) [] (id .node .0))) (Refused cause.NoSuchNode 0)) (Refused cause.OtherArena 0))
+    by-lookup : (x y : Bool) → eqb (id .arena .0) (no .0) ≡ x → ltb (id .node .0) (c .expressions) ≡ y → (l ≡ cond x (cond y (Node (id .node .0)) NoSuchNode) OtherArena) × (foldOf s k id ≡ cond x (cond y (Found (foldedAt (imageOf s) [] (id .node .0))) (Refused cause.NoSuchNode 0)) (Refused cause.OtherArena 0))
     unfolding foldOf lookup
     by-lookup x y p q = (g ∙ rw (p, q) refl, rw (← e, f, p, q) refl)
 

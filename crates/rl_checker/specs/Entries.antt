@@ -1,5 +1,6 @@
 -- What proving writes into the slice. Assumes nothing.
 use Prim.Native.Nat.{ℕ, _/_, _≤_, min}
+use mathlib.Core.Bool.{cond}
 use mathlib.Core.List.{List, []}
 use lib.Dec.{ltb}
 use lib.ListN.{length, replicate}
@@ -7,7 +8,6 @@ use Rattle.rl_spec.specs.declared.Cause.the-variants.{ReportsTooShort}
 use Rattle.rl_spec.specs.declared.Counts.{Counts}
 use Rattle.rl_spec.specs.declared.ProveAnswer.{ProveAnswer}
 use Rattle.rl_spec.specs.declared.ProveAnswer.the-variants.{Proved, Refused}
-use Rattle.rl_spec.specs.Bytes.{pick}
 use Rattle.rl_spec.specs.Image.{Image, textOf}
 use Rattle.rl_spec.specs.Records.{functionAt}
 use Rattle.rl_spec.specs.Prove.{callEntries, allEntries}
@@ -32,7 +32,7 @@ ProvesAll im c l out r = Limited im c → Shown l [] 0 → Shown out (allEntries
 
 -- for entries up to a place, the answer and what is kept of a slice
 unfoldable pub fittingAt : ℕ → ℕ → ProveAnswer
-fittingAt room at = pick (ltb room at) (Refused ReportsTooShort 0) (Proved (at / 4))
+fittingAt room at = cond (ltb room at) (Refused ReportsTooShort 0) (Proved (at / 4))
 
 unfoldable pub keptAt : ℕ → ℕ → List ℕ → List ℕ
-keptAt room at l = pick (ltb room at) (replicate (length l) 0) l
+keptAt room at l = cond (ltb room at) (replicate (length l) 0) l

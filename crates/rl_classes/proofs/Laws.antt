@@ -2,7 +2,7 @@
 -- Assumes nothing.
 use Prim.Native.Nat.{ℕ, zero, suc, _+_, _-_, _≤_, _<_}
 use mathlib.Core.Path.{_≡_, refl, sym, ap, _∙_}
-use mathlib.Core.Bool.{Bool, true, false}
+use mathlib.Core.Bool.{Bool, true, false, cond}
 use mathlib.Core.List.{List}
 use native.Mathlib.Omega.{arith}
 use native.Mathlib.Numerals.{add-one}
@@ -12,7 +12,6 @@ use borrow.Author.Tests.{eq-eqb, ne-eqb}
 use Rattle.rl_laws.specs.Tests.{by-ltb, by-eqb}
 use Rattle.rl_laws.specs.Found.{text-missing}
 use Rattle.rl_spec.specs.declared.Counts.{Counts}
-use Rattle.rl_spec.specs.Bytes.{pick}
 use Rattle.rl_spec.specs.Values.{sameText}
 use Rattle.rl_spec.specs.Image.{textOf}
 use Rattle.rl_spec.specs.Found.{imageFound}
@@ -83,7 +82,7 @@ module _ (s : List ℕ) (c : Counts) where
           }
 
       module _ (l : u < t) where
-        step : (p : List ℕ) (r : Bool) → r ≡ sameText (bytes p u) (bytes p t) → Linked (bytes p) links t → classOf (bytes p) t ≡ pick r u (firstFrom (bytes p) t (t - (u + 1)) (u + 1)) + 1
+        step : (p : List ℕ) (r : Bool) → r ≡ sameText (bytes p u) (bytes p t) → Linked (bytes p) links t → classOf (bytes p) t ≡ cond r u (firstFrom (bytes p) t (t - (u + 1)) (u + 1)) + 1
         unfolding firstFrom
         step p r e h =
             let z : t - u ≡ suc (t - (u + 1)) = omega arith in

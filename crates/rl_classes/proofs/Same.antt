@@ -2,14 +2,13 @@
 -- Assumes nothing.
 use Prim.Native.Nat.{ℕ, zero, suc, _+_, _≤_}
 use mathlib.Core.Path.{_≡_, refl, sym, ap, subst, _∙_}
-use mathlib.Core.Bool.{Bool, true, false}
+use mathlib.Core.Bool.{Bool, true, false, cond}
 use mathlib.Core.List.{List, [], _∷_}
 use native.Mathlib.Omega.{arith}
 use lib.Dec.{T, eqb}
 use lib.ListN.{length}
 use borrow.Author.Tests.{eq-eqb, ne-eqb}
 use Rattle.rl_laws.specs.Tests.{by-eqb}
-use Rattle.rl_spec.specs.Bytes.{pick}
 use Rattle.rl_spec.specs.Values.{sameText}
 use Rattle.rl_classes.specs.Classes.{firstFrom, classOf}
 
@@ -60,7 +59,7 @@ module _ (bytes : ℕ → List ℕ) where
       (λ q. never (sym f ∙ equal-same (bytes u) (bytes t) (ap bytes q ∙ g)))
       (λ q. let h : u ≤ k = l k g in omega arith)))
     where
-      either : (b : Bool) → sameText (bytes u) (bytes t) ≡ b → (sameText (bytes u) (bytes t) ≡ false → First t (firstFrom bytes t n (u + 1))) → First t (pick b u (firstFrom bytes t n (u + 1)))
+      either : (b : Bool) → sameText (bytes u) (bytes t) ≡ b → (sameText (bytes u) (bytes t) ≡ false → First t (firstFrom bytes t n (u + 1))) → First t (cond b u (firstFrom bytes t n (u + 1)))
       either true f more = record { same = same-equal (bytes u) (bytes t) f; least = l }
       either false f more = more f
 

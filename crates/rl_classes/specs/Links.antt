@@ -3,17 +3,17 @@
 -- Assumes nothing.
 use Prim.Native.Nat.{ℕ, zero, suc, _+_, _*_, _%_, _<_}
 use mathlib.Core.Path.{_≡_}
+use mathlib.Core.Bool.{cond}
 use mathlib.Core.List.{List, [], _∷_}
 use lib.ListN.{getD, drop}
 use lib.Dec.{ltb, eqb}
-use Rattle.rl_spec.specs.Bytes.{pick}
 use Rattle.rl_classes.specs.Classes.{classOf}
 
 -- how many of the first bytes are the same
 unfoldable pub common : List ℕ → List ℕ → ℕ
 common [] t = 0
 common (a ∷ s) [] = 0
-common (a ∷ s) (b ∷ t) = pick (eqb a b) (suc (common s t)) 0
+common (a ∷ s) (b ∷ t) = cond (eqb a b) (suc (common s t)) 0
 
 -- the first place from `at` on where two texts differ, or one ends
 unfoldable pub mismatch : List ℕ → List ℕ → ℕ → ℕ
@@ -22,11 +22,11 @@ mismatch s t at = at + common (drop at s) (drop at t)
 -- the link of a search for t that has met the u-th text, s
 unfoldable pub nextLink : List ℕ → List ℕ → ℕ → ℕ → ℕ
 nextLink s t u link =
-    pick (ltb (link % 65536) (mismatch s t (link % 65536))) ((u + 1) * 65536 + mismatch s t (link % 65536) % 65536) link
+    cond (ltb (link % 65536) (mismatch s t (link % 65536))) ((u + 1) * 65536 + mismatch s t (link % 65536) % 65536) link
 
 -- a search for t meets only texts that have its link
 unfoldable pub meet : (ℕ → List ℕ) → List ℕ → List ℕ → ℕ → ℕ → ℕ
-meet bytes links t u link = pick (eqb (getD links u 0) link) (nextLink (bytes u) t u link) link
+meet bytes links t u link = cond (eqb (getD links u 0) link) (nextLink (bytes u) t u link) link
 
 -- the link of a search for t past the first n texts
 unfoldable pub linkAfter : (ℕ → List ℕ) → List ℕ → List ℕ → ℕ → ℕ

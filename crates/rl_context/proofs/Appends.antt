@@ -2,17 +2,16 @@
 -- Assumes nothing.
 use Prim.Native.Nat.{ℕ, _+_, _≤_, _<_}
 use mathlib.Core.Path.{_≡_, refl, ap, sym, _∙_, subst}
-use mathlib.Core.Bool.{Bool, true, false}
+use mathlib.Core.Bool.{Bool, true, false, cond}
 use mathlib.Core.List.{List, [], _∷_, _++_}
 use mathlib.Core.Option.{Option, none, some}
 use native.Mathlib.Omega.{arith}
 use lib.Dec.{ltb}
 use lib.ListN.{length, length-append}
 use Rattle.rl_spec.specs.declared.Section.the-variants.{Texts, Lists, Expressions, Statements}
-use Rattle.rl_spec.specs.Bytes.{pick}
 use Rattle.rl_spec.specs.Image.{pair, Rec, Image}
 use Rattle.rl_spec.specs.Make.{Context, Make, andThen, append, made, newText}
-use Rattle.rl_theorems.specs.Making.{Gives, stops, gives, after}
+use Rattle.rl_images.specs.Lowering.Gives.{Gives, stops, gives, after}
 use Rattle.rl_context.specs.declared.Ctx.{Ctx}
 use Rattle.rl_context.specs.Additions.{contextOf, Live}
 use Rattle.rl_context.specs.Does.{State, at, nothing, one, Over, Ends, Start, Does, Pushes}
@@ -32,8 +31,8 @@ stops-does {im = im} {j} {m = m} {s} p full more reason = record { does = λ ws 
         (subst (Gives (λ b x. Over (ws ++ p b) x)) (sym (reason (st .live v .here) (ws ++ []) v (st .live v .live))) stops))
 
 -- a test that fails
-refused : {A : Type 0} (b : Bool) (o : Option A) → b ≡ true → pick b none o ≡ none
-refused b o e = ap (λ z. pick z none o) e
+refused : {A : Type 0} (b : Bool) (o : Option A) → b ≡ true → cond b none o ≡ none
+refused b o e = ap (λ z. cond z none o) e
 
 -- ---- texts
 
@@ -57,7 +56,7 @@ module _ (im : Image) (k : ℕ) (self : Ctx) (scratch w text : List ℕ) (a : �
   unfolding newText
   text-texts b e q = stops-does nothing full (more-text text) reason
     where
-      either : (c : Bool) (x : Context) (f : ℕ → Make ℕ) (n : ℕ) → f n x ≡ none → andThen (pick c none (some (n, x))) f ≡ none
+      either : (c : Bool) (x : Context) (f : ℕ → Make ℕ) (n : ℕ) → f n x ≡ none → andThen (cond c none (some (n, x))) f ≡ none
       either true x f n h = refl
       either false x f n h = h
 

@@ -12,7 +12,7 @@ use Rattle.rl_spec.specs.declared.Section.the-variants.{Lists}
 use Rattle.rl_spec.specs.declared.Interval.{Interval}
 use Rattle.rl_spec.specs.Image.{Field, pair, Image, sizeOf}
 use Rattle.rl_spec.specs.Make.{Context, Make, andThen, _>>=_, give, self, newList, each, flatMap}
-use Rattle.rl_theorems.specs.Making.{Gives, stops, gives, after, weaker}
+use Rattle.rl_images.specs.Lowering.Gives.{Gives, stops, gives, after, weaker}
 use Rattle.rl_context.specs.Additions.{Live}
 use Rattle.rl_context.specs.Does.{State, nothing, one, all, Over, Lives, Ends, Start, Does, Pushes, Listed}
 

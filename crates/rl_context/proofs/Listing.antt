@@ -2,7 +2,7 @@
 -- Assumes nothing.
 use Prim.Native.Nat.{ℕ, suc, _+_, _-_, _*_, _≤_, _<_}
 use mathlib.Core.Path.{_≡_, refl, ap, ap₂, sym, _∙_, subst}
-use mathlib.Core.Bool.{Bool, true, false}
+use mathlib.Core.Bool.{Bool, true, false, cond}
 use mathlib.Core.List.{List, [], _∷_, _++_, append-nil}
 use mathlib.Core.Option.{Option, none, some}
 use native.Mathlib.Omega.{arith}
@@ -12,11 +12,10 @@ use lib.Seq.{take-take, take-at, drop-at, take-append-seam}
 use borrow.Author.Tests.{ltb-false}
 use Rattle.rl_spec.specs.declared.Section.the-variants.{Texts, Lists}
 use Rattle.rl_spec.specs.declared.Interval.{Interval}
-use Rattle.rl_spec.specs.Bytes.{pick}
 use Rattle.rl_spec.specs.Image.{num, pair, Field, Rec, Image, recordsOf, sizeOf, encodeRecords}
 use Rattle.rl_spec.specs.Make.{Context, Make, andThen, append, give, made, newList}
-use Rattle.rl_theorems.specs.Making.{Gives, stops, gives, after, weaker}
-use Rattle.rl_theorems.specs.Grows.{listRecords, list-gives, records-own}
+use Rattle.rl_images.specs.Lowering.Gives.{Gives, stops, gives, after, weaker}
+use Rattle.rl_images.specs.Lowering.Grows.{listRecords, list-gives, records-own}
 use Rattle.rl_encode.specs.Words.{over}
 use Rattle.rl_encode.proofs.Over.{length-over}
 use Rattle.rl_context.specs.declared.Ctx.{Ctx}
@@ -76,7 +75,7 @@ module _ (first : ℕ) (self : Ctx) (scratch w : List ℕ) (list : Interval) (t 
       reason im k ws ns x v q l =
           ap (newList ns) (l .context)
           ∙ ap (λ o. andThen o (λ at. give (pair at (length ns))))
-          (lists-appended im (l .new) self (listRecords ns) (self .lists) (l .counted .lists) ∙ ap (λ z. pick z none (some (self .lists, contextOf im (with-lists (l .new) (listRecords ns)) self))) (ap (λ n. ltb 4096 (self .lists + n)) many ∙ sym e ∙ g))
+          (lists-appended im (l .new) self (listRecords ns) (self .lists) (l .counted .lists) ∙ ap (λ z. cond z none (some (self .lists, contextOf im (with-lists (l .new) (listRecords ns)) self))) (ap (λ n. ltb 4096 (self .lists + n)) many ∙ sym e ∙ g))
         where
           many : length (listRecords ns) ≡ self .waiting - first
           many = omega (arith, length-entries ns, q, l .waits .count, length-append ws ns)
@@ -211,5 +210,5 @@ list-made first self scratch w end count b f n e q o = record { listed = λ im k
             ap (newList ns) (l .context)
             ∙ ap (λ z. andThen z (λ at. give (pair at (length ns))))
             (lists-appended im (l .new) self (listRecords ns) (self .lists) (l .counted .lists)
-            ∙ ap (λ z. pick z none (some (self .lists, contextOf im (with-lists (l .new) (listRecords ns)) self))) (ap (λ z. ltb 4096 (self .lists + z)) (length-entries ns ∙ sym many) ∙ sym e ∙ q))
+            ∙ ap (λ z. cond z none (some (self .lists, contextOf im (with-lists (l .new) (listRecords ns)) self))) (ap (λ z. ltb 4096 (self .lists + z)) (length-entries ns ∙ sym many) ∙ sym e ∙ q))
             ∙ ap (λ z. some (pair (self .lists) z, contextOf im (with-lists (l .new) (listRecords ns)) self)) (sym many)

@@ -2,7 +2,7 @@
 -- Assumes nothing.
 use Prim.Native.Nat.{ℕ, _+_, _-_, _*_, _≤_, _<_}
 use mathlib.Core.Path.{_≡_, refl, ap, ap₂, sym, _∙_, subst}
-use mathlib.Core.Bool.{Bool, true, false}
+use mathlib.Core.Bool.{Bool, true, false, cond}
 use mathlib.Core.List.{List, [], _∷_, _++_, append-nil}
 use mathlib.Core.Option.{Option, none, some}
 use native.Mathlib.Omega.{arith}
@@ -10,13 +10,12 @@ use lib.Dec.{ltb}
 use lib.ListN.{length, take, length-append}
 use borrow.Author.Tests.{ltb-false}
 use Rattle.rl_spec.specs.declared.Section.the-variants.{Texts, Lists, Expressions, Statements}
-use Rattle.rl_spec.specs.Bytes.{pick}
 use Rattle.rl_spec.specs.Schema.{fieldsOf}
 use Rattle.rl_spec.specs.Image.{pair, Rec, Image, sizeOf, bytesOf, encodeFields, encodeRecord, encodeRecords}
 use Rattle.rl_spec.specs.Make.{Context, Make, andThen, append, made, newText}
 use Rattle.rl_schema.specs.Codes.{codes}
-use Rattle.rl_theorems.specs.Making.{gives}
-use Rattle.rl_theorems.specs.Standing.{length-bytes}
+use Rattle.rl_images.specs.Lowering.Gives.{gives}
+use Rattle.rl_images.specs.Encoding.BytesAt.{length-bytes}
 use Rattle.rl_encode.specs.Words.{wordFields, wordRecord, over}
 use Rattle.rl_encode.proofs.Over.{length-over}
 use Rattle.rl_text_out.specs.Put.{withText}
@@ -44,8 +43,8 @@ makes-does {im = im} {k = k} {m = m} {a = a} {t = t} f g h =
     }
 
 -- a test that holds
-allowed : {A : Type 0} (b : Bool) (o : Option A) → b ≡ false → pick b none o ≡ o
-allowed b o e = ap (λ z. pick z none o) e
+allowed : {A : Type 0} (b : Bool) (o : Option A) → b ≡ false → cond b none o ≡ o
+allowed b o e = ap (λ z. cond z none o) e
 
 -- ---- expressions and statements
 

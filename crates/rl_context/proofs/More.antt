@@ -2,7 +2,7 @@
 -- Assumes nothing.
 use Prim.Native.Nat.{ℕ, _+_, _≤_, _<_}
 use mathlib.Core.Path.{_≡_, refl, ap, sym, _∙_}
-use mathlib.Core.Bool.{Bool, true, false}
+use mathlib.Core.Bool.{Bool, true, false, cond}
 use mathlib.Core.List.{List, [], _∷_, _++_}
 use mathlib.Core.Option.{Option, none, some}
 use native.Mathlib.Omega.{arith}
@@ -11,12 +11,11 @@ use lib.ListN.{length, getD, set, length-append, length-set}
 use lib.Seq.{getD-set-same, getD-set-other, set-out}
 use Rattle.rl_spec.specs.declared.Section.{Section}
 use Rattle.rl_spec.specs.declared.Section.the-variants.{Texts, Lists, Expressions, Statements, Parameters, Clauses, Functions, Calls}
-use Rattle.rl_spec.specs.Bytes.{pick}
 use Rattle.rl_spec.specs.Image.{Field, Rec, Image, orderOf, recordsOf, sizeOf}
 use Rattle.rl_spec.specs.Make.{Context, Make, andThen, _>>=_, give, self, takeTemp, each, flatMap, withImage, withBytes, withRecords, most, mostBytes, counted, append, appendBytes, newText, newList, stmt, newStmt}
 use Rattle.rl_spec.specs.Lower.{expr}
 use Rattle.rl_laws.specs.Tests.{by-ltb, by-eqb}
-use Rattle.rl_theorems.specs.Making.{Gives, stops, gives, after, weaker, by-limit, by-pick}
+use Rattle.rl_images.specs.Lowering.Gives.{Gives, stops, gives, after, weaker, by-limit, by-cond}
 use Rattle.rl_context.specs.Does.{nothing, one, all, Over}
 use Rattle.rl_context.proofs.Composed.{Keeps}
 
@@ -42,9 +41,9 @@ more-self = record { more = λ x. gives {c = x} as-many }
 pub more-temp : More takeTemp
 more-temp = record { more = λ x. gives {c = counted x} (record { sections = refl; lists = omega arith }) }
 
-pub more-pick : {A : Type 0} (b : Bool) {m n : Make A} → More m → More n → More (pick b m n)
-more-pick true p q = p
-more-pick false p q = q
+pub more-cond : {A : Type 0} (b : Bool) {m n : Make A} → More m → More n → More (cond b m n)
+more-cond true p q = p
+more-cond false p q = q
 
 -- a section that is made longer
 longer : (n : ℕ) (l : List (List Rec)) (rs : List Rec) → length (getD l n []) ≤ length (getD (set l n (getD l n [] ++ rs)) n [])

@@ -17,8 +17,8 @@ use Rattle.rl_spec.specs.Contracts.{RefineOperand, integer, str, bool, param, P
 use Rattle.rl_spec.specs.Message.{decimal}
 use Rattle.rl_spec.specs.Make.{Make, fail, made, newStmt, entriesOf}
 use Rattle.rl_spec.specs.Lower.{expr, ident, strLit, errLit, resCall, msgExpr, isNode, cloneEntries, cloneField, cloneFields, isLambda, cloneRecord, deepCloneExpr, violation, onlyIf, guard, clauseGuard, declare, returnOf, skipErr, wrapAs, wrapReturn, operandExpr, refinePredicate, transformList, transformBranchBy, transformBranch, transformElse, transformArmBy, transformArm, conditional, match, loop, only, transformStatementBy, transformStatement, refinementGuard, lastOf, wrapTrailing, ensuredBody, desugarFnContracts}
-use Rattle.rl_theorems.specs.Making.{stops}
-use Rattle.rl_context.proofs.More.{More, more-give, more-bind, more-self, more-temp, more-pick, more-append, more-text, more-list, more-stmt, more-each, more-flat}
+use Rattle.rl_images.specs.Lowering.Gives.{stops}
+use Rattle.rl_context.proofs.More.{More, more-give, more-bind, more-self, more-temp, more-cond, more-append, more-text, more-list, more-stmt, more-each, more-flat}
 
 pub more-fail : {A : Type 0} → More (fail {A = A})
 more-fail = record { more = λ x. stops }
@@ -50,14 +50,14 @@ more-call name x =
     more-bind (more-each more-text _) (λ ts. more-bind (more-list ts) (λ path. more-bind (more-list _) (λ args. more-expr 41 _)))
 
 pub more-msg : (clause : Clause) (default : List ℕ) → More (msgExpr clause default)
-more-msg clause default = more-pick (eqb (clause .message) 65535) (more-str default) (more-give _)
+more-msg clause default = more-cond (eqb (clause .message) 65535) (more-str default) (more-give _)
 
 pub more-violation : (msg : ℕ) → More (violation msg)
 unfolding violation
 more-violation msg =
     more-bind (more-err msg)
     (λ err.
-    more-bind more-self (λ ctx. more-pick (ctx .isResult) (more-new 66 _) (more-bind (more-call _ err) (λ abort. more-new 65 _))))
+    more-bind more-self (λ ctx. more-cond (ctx .isResult) (more-new 66 _) (more-bind (more-call _ err) (λ abort. more-new 65 _))))
 
 pub more-only-if : (condition s : ℕ) → More (onlyIf condition s)
 unfolding onlyIf
@@ -80,24 +80,24 @@ more-descend {A} {step} h i = go (suc i) i
   where
     go : (fuel i : ℕ) → More (descendBy fail step fuel i)
     go zero i = more-fail
-    go (suc fuel) i = h i (below i fail (descendBy fail step fuel)) (λ j. more-pick (ltb j i) (go fuel j) more-fail)
+    go (suc fuel) i = h i (below i fail (descendBy fail step fuel)) (λ j. more-cond (ltb j i) (go fuel j) more-fail)
 
 module _ (clone : ℕ → Make ℕ) (h : (j : ℕ) → More (clone j)) where
   pub more-entries : (l r : Target) (ns : List ℕ) → More (cloneEntries clone l r ns)
   unfolding cloneEntries
   more-entries l r [] = more-give []
   more-entries l r (n ∷ ns) =
-      more-bind (more-pick (isNode l) (h n) (more-give n)) (λ m. more-bind (more-entries r l ns) (λ ms. more-give (m ∷ ms)))
+      more-bind (more-cond (isNode l) (h n) (more-give n)) (λ m. more-bind (more-entries r l ns) (λ ms. more-give (m ∷ ms)))
 
   pub more-field : (o : Sort) (f : Field) → More (cloneField clone o f)
   more-field (Raw n) f = more-give f
   more-field (Byte low high) f = more-give f
   more-field Scalar f = more-give f
   more-field Part f = more-give f
-  more-field (One t) f = more-pick (isNode t) (more-bind (h (first f)) (λ n. more-give (num n))) (more-give f)
+  more-field (One t) f = more-cond (isNode t) (more-bind (h (first f)) (λ n. more-give (num n))) (more-give f)
   more-field (Maybe t) f = more-give f
   more-field (Many l r n) f =
-      more-pick (isNode l || isNode r) (more-bind more-self (λ ctx. more-bind (more-entries l r (entriesOf (ctx .image) f)) more-list))
+      more-cond (isNode l || isNode r) (more-bind more-self (λ ctx. more-bind (more-entries l r (entriesOf (ctx .image) f)) more-list))
       (more-give f)
   more-field (Range o) f = more-give f
   more-field OperandSort f = more-give f
@@ -111,7 +111,7 @@ module _ (clone : ℕ → Make ℕ) (h : (j : ℕ) → More (clone j)) where
 
   more-record : (id : ℕ) (r : Rec) → More (cloneRecord clone id r)
   more-record id r =
-      more-pick (isLambda (r .kind)) (more-give id)
+      more-cond (isLambda (r .kind)) (more-give id)
       (more-bind (more-fields (fieldsOf (r .kind)) (r .fields)) (λ fs. more-append Expressions (made (r .kind) fs ∷ [])))
 
 pub more-clone : (id : ℕ) → More (deepCloneExpr id)
@@ -139,11 +139,11 @@ unfolding wrapAs
 more-wrap-as temp isResult value ensures =
     more-bind (more-declare temp value)
     (λ dec.
-    more-bind (more-pick isResult (more-skip temp) (more-give []))
+    more-bind (more-cond isResult (more-skip temp) (more-give []))
     (λ skip.
     more-bind (more-ident temp)
     (λ n.
-    more-bind (more-pick isResult (more-call _ n) (more-give n))
+    more-bind (more-cond isResult (more-call _ n) (more-give n))
     (λ inner.
     more-bind (more-declare _ inner)
     (λ ret. more-bind (more-each (more-clause _) ensures) (λ guards. more-bind (more-return temp) (λ s. more-give _)))))))
@@ -176,14 +176,14 @@ module _ (walk : ℕ → Make (List ℕ)) (h : (s : ℕ) → More (walk s)) wher
 
   pub more-branch-by : (s : ℕ) (r : Rec) → More (transformBranchBy walk s r)
   more-branch-by s r =
-      more-pick (eqb (r .kind) 69) (more-bind (more-body (fieldOf r 2)) (λ body. more-stmt 69 (number r 0) _)) (more-give s)
+      more-cond (eqb (r .kind) 69) (more-bind (more-body (fieldOf r 2)) (λ body. more-stmt 69 (number r 0) _)) (more-give s)
 
   pub more-branch : (s : ℕ) → More (transformBranch walk s)
   unfolding transformBranch
   more-branch s = more-bind more-self (λ ctx. more-branch-by s (recordOf (ctx .image) Statements s))
 
   pub more-else : (s : ℕ) → More (transformElse walk s)
-  more-else s = more-pick (eqb s 65535) (more-give s) (more-branch s)
+  more-else s = more-cond (eqb s 65535) (more-give s) (more-branch s)
 
   pub more-arm-by : (r : Rec) → More (transformArmBy walk r)
   more-arm-by r = more-bind (more-body (fieldOf r 2)) (λ body. more-stmt 76 (number r 0) _)
@@ -209,15 +209,15 @@ module _ (walk : ℕ → Make (List ℕ)) (h : (s : ℕ) → More (walk s)) wher
 
   pub more-statement-by : (ensures : List Clause) (s : ℕ) (r : Rec) → More (transformStatementBy walk ensures s r)
   more-statement-by ensures s r =
-      more-pick (eqb (r .kind) 66) (more-wrap (number r 1) ensures)
-      (more-pick (eqb (r .kind) 67) (more-bind (more-expr 16 []) (λ null. more-wrap null ensures))
-      (more-pick (eqb (r .kind) 68) (more-only (more-conditional r))
-      (more-pick (eqb (r .kind) 70) (more-only (more-loop r (fieldOf r 1 ∷ []) (fieldOf r 2)))
-      (more-pick (eqb (r .kind) 71) (more-only (more-loop r [] (fieldOf r 1)))
-      (more-pick (eqb (r .kind) 72) (more-only (more-loop r (fieldOf r 1 ∷ fieldOf r 2 ∷ fieldOf r 3 ∷ []) (fieldOf r 4)))
-      (more-pick (eqb (r .kind) 73) (more-only (more-loop r (fieldOf r 1 ∷ fieldOf r 2 ∷ []) (fieldOf r 3)))
-      (more-pick (eqb (r .kind) 74) (more-only (more-loop r (fieldOf r 1 ∷ fieldOf r 2 ∷ []) (fieldOf r 3)))
-      (more-pick (eqb (r .kind) 75) (more-only (more-match r)) (more-give (s ∷ []))))))))))
+      more-cond (eqb (r .kind) 66) (more-wrap (number r 1) ensures)
+      (more-cond (eqb (r .kind) 67) (more-bind (more-expr 16 []) (λ null. more-wrap null ensures))
+      (more-cond (eqb (r .kind) 68) (more-only (more-conditional r))
+      (more-cond (eqb (r .kind) 70) (more-only (more-loop r (fieldOf r 1 ∷ []) (fieldOf r 2)))
+      (more-cond (eqb (r .kind) 71) (more-only (more-loop r [] (fieldOf r 1)))
+      (more-cond (eqb (r .kind) 72) (more-only (more-loop r (fieldOf r 1 ∷ fieldOf r 2 ∷ fieldOf r 3 ∷ []) (fieldOf r 4)))
+      (more-cond (eqb (r .kind) 73) (more-only (more-loop r (fieldOf r 1 ∷ fieldOf r 2 ∷ []) (fieldOf r 3)))
+      (more-cond (eqb (r .kind) 74) (more-only (more-loop r (fieldOf r 1 ∷ fieldOf r 2 ∷ []) (fieldOf r 3)))
+      (more-cond (eqb (r .kind) 75) (more-only (more-match r)) (more-give (s ∷ []))))))))))
 
 pub more-statement : (ensures : List Clause) (s : ℕ) → More (transformStatement ensures s)
 unfolding transformStatement
@@ -229,7 +229,7 @@ unfolding wrapTrailing
 more-trailing ensures body =
     more-bind more-self
     (λ ctx.
-    more-pick (not (isEmpty body) && eqb (lastOf (ctx .image) body .kind) 65) (more-bind (more-wrap _ ensures) (λ seq. more-give _)) (more-give body))
+    more-cond (not (isEmpty body) && eqb (lastOf (ctx .image) body .kind) 65) (more-bind (more-wrap _ ensures) (λ seq. more-give _)) (more-give body))
 
 pub more-ensured : (ensures : List Clause) (body : List ℕ) → More (ensuredBody ensures body)
 more-ensured ensures body = more-bind (more-flat (more-statement ensures) body) (more-trailing ensures)
@@ -242,4 +242,4 @@ more-desugar params body requires ensures =
     more-bind (more-flat (λ p. more-refinement (ctx .image) (p .name) (p .refinement)) params)
     (λ refined.
     more-bind (more-each (more-clause _) requires)
-    (λ required. more-bind (more-pick (isEmpty ensures) (more-give body) (more-ensured ensures body)) (λ rest. more-give _))))
+    (λ required. more-bind (more-cond (isEmpty ensures) (more-give body) (more-ensured ensures body)) (λ rest. more-give _))))

@@ -12,7 +12,7 @@ use Rattle.rl_spec.specs.Image.{Field, num, pair, Rec, Image}
 use Rattle.rl_spec.specs.Tree.{ascii}
 use Rattle.rl_spec.specs.Make.{Context, Make, andThen, _>>=_, give, each, append, made, newText, newList}
 use Rattle.rl_spec.specs.Lower.{expr, ident, strLit, errLit, resCall, unwrapCall, isErrCall}
-use Rattle.rl_theorems.specs.Making.{gives, after}
+use Rattle.rl_images.specs.Lowering.Gives.{gives, after}
 use Rattle.rl_encode.specs.Words.{wordFields, wordRecord}
 use Rattle.rl_context.specs.Does.{State, nothing, one, all, Does, Pushes, Listed}
 use Rattle.rl_context.specs.Paths.{resPath}

@@ -2,20 +2,19 @@
 -- Assumes nothing.
 use Prim.Native.Nat.{ℕ, zero, suc, _+_, _-_, _*_, _^_, _≤_, _<_, _%_, _/_}
 use mathlib.Core.Path.{_≡_, refl, ap, ap₂, sym, _∙_, subst}
-use mathlib.Core.Bool.{Bool, true, false, not, _&&_}
+use mathlib.Core.Bool.{Bool, true, false, not, cond, _&&_}
 use mathlib.Core.List.{List, [], _∷_, _++_, map, append-assoc, append-nil}
 use native.Mathlib.Omega.{arith}
 use lib.Dec.{T, eqb, ltb}
 use lib.ListN.{length, getD, length-append}
 use borrow.Author.Tests.{ltb-false}
-use Rattle.rl_spec.specs.Bytes.{pick}
 use Rattle.rl_spec.specs.Schema.{Row, schema, sortOf, widthOf, fieldsIn, fieldsOf}
 use Rattle.rl_spec.specs.Image.{num, pair, Rec, bytesOf, encodeField, encodeFields, encodeRecord, encodeRecords, widthsOf}
 use Rattle.rl_spec.specs.Make.{made}
 use Rattle.rl_schema.specs.Codes.{codesIn, codes}
 use Rattle.rl_arena.proofs.Laws.{width-small}
-use Rattle.rl_theorems.specs.Grows.{listRecords}
-use Rattle.rl_theorems.specs.Standing.{length-bytes}
+use Rattle.rl_images.specs.Lowering.Grows.{listRecords}
+use Rattle.rl_images.specs.Encoding.BytesAt.{length-bytes}
 use Rattle.rl_encode.specs.Words.{wordField, wordFields, wordRecord}
 use Rattle.rl_encode.proofs.Records.{field-word}
 
@@ -47,7 +46,7 @@ narrow-row k [] h = omega arith
 narrow-row k (r ∷ rs) h = go (ltb 23 (widthsOf (r .fields))) refl h (λ e. narrow-row k rs e) (eqb k (r .kind))
   where
     go : (t : Bool) → ltb 23 (widthsOf (r .fields)) ≡ t → not t && narrow rs ≡ true → (narrow rs ≡ true → widthsOf (fieldsIn k rs) ≤ 23) →
-        (b : Bool) → widthsOf (pick b (r .fields) (fieldsIn k rs)) ≤ 23
+        (b : Bool) → widthsOf (cond b (r .fields) (fieldsIn k rs)) ≤ 23
     go true e f rest b = absurd (subst T (sym f) tt)
     go false e f rest true = ltb-false 23 (widthsOf (r .fields)) e
     go false e f rest false = rest f
@@ -110,7 +109,7 @@ unfolding codesIn widthsOf
 codes-narrow zero n = omega arith
 codes-narrow (suc f) n = go (eqb n 0) (codes-narrow f (n / 256))
   where
-    go : (b : Bool) → widthsOf (codesIn f (n / 256)) ≤ 8 * f → widthsOf (pick b [] (n % 256 ∷ codesIn f (n / 256))) ≤ 8 * suc f
+    go : (b : Bool) → widthsOf (codesIn f (n / 256)) ≤ 8 * f → widthsOf (cond b [] (n % 256 ∷ codesIn f (n / 256))) ≤ 8 * suc f
     go true h = omega arith
     go false h = omega (arith, width-small (n % 256) (sortOf (n % 256)) refl (widthOf (sortOf (n % 256))) refl)
 

@@ -2,11 +2,10 @@
 -- Assumes nothing.
 use Prim.Native.Nat.{ℕ}
 use mathlib.Core.Path.{_≡_, refl, ap, sym, _∙_, subst}
-use mathlib.Core.Bool.{Bool, true, false}
+use mathlib.Core.Bool.{Bool, true, false, cond}
 use mathlib.Core.List.{List, [], _∷_}
 use Rattle.rl_spec.specs.declared.Section.the-variants.{Statements}
 use Rattle.rl_spec.specs.declared.Interval.{Interval}
-use Rattle.rl_spec.specs.Bytes.{pick}
 use Rattle.rl_spec.specs.Schema.{sortOf, schema, fieldsIn, fieldsOf}
 use Rattle.rl_spec.specs.Image.{Field, num, pair, Rec, Image}
 use Rattle.rl_spec.specs.Make.{Make, _>>=_, self, append, made, newText, newList, stmt, newStmt, absent}
@@ -14,7 +13,7 @@ use Rattle.rl_spec.specs.Lower.{ident, errLit, unwrapCall, violation, onlyIf, d
 use Rattle.rl_encode.specs.Words.{wordFields, wordRecord}
 use Rattle.rl_context.specs.Does.{State, nothing, Does}
 use Rattle.rl_context.proofs.Composed.{does-bind, does-same}
-use Rattle.rl_context.proofs.More.{More, more-bind, more-self, more-pick, keeps-more}
+use Rattle.rl_context.proofs.More.{More, more-bind, more-self, more-cond, keeps-more}
 use Rattle.rl_context.proofs.MoreLower.{more-new, more-call}
 use Rattle.rl_context.proofs.NodesMade.{Word}
 
@@ -58,10 +57,10 @@ return-of-does name d e = does-bind d (keeps-more nothing (λ m. more-new 66 (nu
 
 module _ {im : Image} {s t : State} {n : ℕ} (msg : ℕ) (d : Does im 0 0 nothing (errLit msg) s n t) where
   abbrev violated : ℕ → Bool → Make ℕ
-  violated err b = pick b (newStmt 66 (num err ∷ [])) (unwrapCall err >>= λ abort. newStmt 65 (num abort ∷ []))
+  violated err b = cond b (newStmt 66 (num err ∷ [])) (unwrapCall err >>= λ abort. newStmt 65 (num abort ∷ []))
 
   more-violated : (err : ℕ) (b : Bool) → More (violated err b)
-  more-violated err b = more-pick b (more-new 66 _) (more-bind (more-call _ err) (λ abort. more-new 65 _))
+  more-violated err b = more-cond b (more-new 66 _) (more-bind (more-call _ err) (λ abort. more-new 65 _))
 
   by-flag : {u : State} {a : ℕ} → Does im 0 0 nothing (violated n (t .ctx .«is_result»)) t a u → Does im 0 0 nothing (violation msg) s a u
   unfolding violation

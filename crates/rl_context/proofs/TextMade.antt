@@ -2,7 +2,7 @@
 -- Assumes nothing.
 use Prim.Native.Nat.{ℕ, _+_, _-_, _*_, _≤_, _<_, min}
 use mathlib.Core.Path.{_≡_, refl, ap, ap₂, sym, _∙_, subst}
-use mathlib.Core.Bool.{Bool, true, false}
+use mathlib.Core.Bool.{Bool, true, false, cond}
 use mathlib.Core.List.{List, [], _∷_, _++_}
 use mathlib.Core.Option.{Option, none, some}
 use native.Mathlib.Omega.{arith}
@@ -11,10 +11,9 @@ use lib.ListN.{length, take, drop, length-append}
 use lib.Seq.{paste, take-length}
 use borrow.Author.Tests.{ltb-false}
 use Rattle.rl_spec.specs.declared.Section.the-variants.{Texts, Lists}
-use Rattle.rl_spec.specs.Bytes.{pick}
 use Rattle.rl_spec.specs.Image.{pair, Rec, Image, sizeOf, bytesOf, encodeRecord, encodeRecords}
 use Rattle.rl_spec.specs.Make.{Context, Make, andThen, append, made, newText}
-use Rattle.rl_theorems.specs.Standing.{length-bytes}
+use Rattle.rl_images.specs.Encoding.BytesAt.{length-bytes}
 use Rattle.rl_encode.specs.Words.{over}
 use Rattle.rl_encode.proofs.Over.{length-over}
 use Rattle.rl_text_out.specs.Put.{fitting, withText}
@@ -153,9 +152,9 @@ module _ (im : Image) (k : ℕ) (self : Ctx) (scratch w text : List ℕ) (f : se
         gave : (new : New) → Counted im new self → newText text (contextOf im new self) ≡ some (self .texts, contextOf im (with-texts (with-bytes new text) (rec ∷ [])) self)
         gave new c =
             ap (λ z. andThen z (λ n. append Texts (made 2 (pair n (length text) ∷ []) ∷ [])))
-            (bytes-appended im new self text (self .bytes) (c .bytes) ∙ ap (λ z. pick z none (some (self .bytes, contextOf im (with-bytes new text) self))) (sym e ∙ q))
+            (bytes-appended im new self text (self .bytes) (c .bytes) ∙ ap (λ z. cond z none (some (self .bytes, contextOf im (with-bytes new text) self))) (sym e ∙ q))
             ∙ texts-appended im (with-bytes new text) self (rec ∷ []) (self .texts) (c .texts)
-            ∙ ap (λ z. pick z none (some (self .texts, contextOf im (with-texts (with-bytes new text) (rec ∷ [])) self))) (sym g ∙ h)
+            ∙ ap (λ z. cond z none (some (self .texts, contextOf im (with-texts (with-bytes new text) (rec ∷ [])) self))) (sym g ∙ h)
 
         go : (x : Context) (vs : List ℕ) → Live im k x vs self scratch w →
             (y : Context) × ((newText text x ≡ some (self .texts, y)) × Live im k y vs (texted self (length text)) end w)

@@ -2,7 +2,7 @@
 -- Assumes nothing.
 use Prim.Native.Nat.{ℕ, suc, _+_, _-_, _*_, _≤_, _<_}
 use mathlib.Core.Path.{_≡_, refl, ap, ap₂, sym, _∙_, subst}
-use mathlib.Core.Bool.{Bool, true, false}
+use mathlib.Core.Bool.{Bool, true, false, cond}
 use mathlib.Core.List.{List, [], _∷_, _++_, map, append-assoc, append-nil}
 use mathlib.Core.Option.{Option, none, some}
 use native.Mathlib.Omega.{arith}
@@ -12,12 +12,11 @@ use lib.ListN.{length, set, getD, take, drop, length-append, length-drop, length
 use lib.Seq.{take-suc-set, take-suc, take-append-seam, take-take, length-take-le, take-add, drop-at, getD-drop}
 use Rattle.rl_spec.specs.declared.Section.the-variants.{Lists}
 use Rattle.rl_spec.specs.declared.Interval.{Interval}
-use Rattle.rl_spec.specs.Bytes.{pick}
 use Rattle.rl_spec.specs.Image.{num, pair, Rec, Image, sizeOf, bytesOf, encodeRecord, encodeRecords}
 use Rattle.rl_spec.specs.Make.{Context, Make, andThen, append, made, newList}
-use Rattle.rl_theorems.specs.Making.{Gives, stops, gives, after, weaker}
-use Rattle.rl_theorems.specs.Standing.{length-bytes}
-use Rattle.rl_theorems.specs.Grows.{listRecords, NewList, list-gives}
+use Rattle.rl_images.specs.Lowering.Gives.{Gives, stops, gives, after, weaker}
+use Rattle.rl_images.specs.Encoding.BytesAt.{length-bytes}
+use Rattle.rl_images.specs.Lowering.Grows.{listRecords, NewList, list-gives}
 use Rattle.rl_encode.specs.Words.{over}
 use Rattle.rl_encode.proofs.Over.{over-none, over-over, length-over}
 use Rattle.rl_context.specs.declared.Ctx.{Ctx}

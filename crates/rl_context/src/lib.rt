@@ -16,7 +16,7 @@ ghost use lib.Dec.{ltb};
 ghost use lib.ListN.{length, take, drop};
 ghost use Rattle.rl_spec.specs.Image.{Image, encodeRecords};
 ghost use Rattle.rl_spec.specs.Schema.{fieldsOf};
-ghost use Rattle.rl_theorems.specs.Grows.{listRecords};
+ghost use Rattle.rl_images.specs.Lowering.Grows.{listRecords};
 ghost use Rattle.rl_encode.specs.Words.{wordRecord, over};
 ghost use Rattle.rl_spec.specs.declared.Section.the-variants.{Expressions, Statements};
 ghost use Rattle.rl_spec.specs.Make.{append, newText, takeTemp};

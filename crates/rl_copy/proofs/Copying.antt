@@ -2,7 +2,7 @@
 -- Assumes nothing.
 use Prim.Native.Nat.{ℕ, zero, suc, _+_, _-_, _*_, _/_, _%_, _^_, _≤_, _<_}
 use mathlib.Core.Path.{_≡_, refl, ap, ap₂, sym, _∙_, subst}
-use mathlib.Core.Bool.{Bool, true, false, _||_}
+use mathlib.Core.Bool.{Bool, true, false, cond, _||_}
 use mathlib.Core.List.{List, [], _∷_, _++_, map, append-assoc, append-nil}
 use mathlib.Core.Option.{Option, none, some}
 use native.Mathlib.Omega.{arith}
@@ -13,7 +13,6 @@ use borrow.Author.Tests.{ne-eqb}
 use Rattle.rl_spec.specs.declared.Counts.{Counts}
 use Rattle.rl_spec.specs.declared.Section.the-variants.{Lists, Expressions}
 use Rattle.rl_spec.specs.declared.Sort.{Sort}
-use Rattle.rl_spec.specs.Bytes.{pick}
 use Rattle.rl_spec.specs.Schema.{sortOf, widthOf, fieldsOf}
 use Rattle.rl_spec.specs.Image.{Field, Rec, Image, sizeOf, noRecord, recordsOf, recordOf, fieldOf, entryOf, first, fieldIn, fieldsAt, recordIn, FieldFits, FieldsFit, RecordFits, WellFormed}
 use Rattle.rl_spec.specs.Found.{recordAs, recordFound, imageFound}
@@ -32,7 +31,7 @@ use Rattle.rl_encode.specs.Words.{wordField, wordFields, wordRecord}
 use Rattle.rl_context.specs.Additions.{Live}
 use Rattle.rl_context.specs.Does.{State, nothing, Does}
 use Rattle.rl_context.proofs.Composed.{Keeps, not-both, does-then, does-bind, does-give, does-same}
-use Rattle.rl_context.proofs.More.{More, more-bind, more-append, more-give, more-pick, keeps-more}
+use Rattle.rl_context.proofs.More.{More, more-bind, more-append, more-give, more-cond, keeps-more}
 use Rattle.rl_context.proofs.MoreLower.{more-fail, more-clone, more-field, more-fields}
 use Rattle.rl_context.proofs.Appends.{stops-does}
 use Rattle.rl_copy.specs.Copies.{cloneBelow, Fitting, Copies, CopiesField}
@@ -66,14 +65,14 @@ module _ (s p : List ℕ) (c : Counts) (id start kind : ℕ) (h : id < c .expres
   -- a Lambda's own id
   pub copies-lambda : (t : State) → isLambda kind ≡ true → Copies im id t id t
   unfolding recordAs
-  copies-lambda t b = does-same (deepCloneExpr id) (keeps-more nothing (λ _. more-clone id)) (λ x ws l. clone-is x ws {t = t} l ∙ ap (λ z. pick z (give id) (cloneFields (cloneBelow id) (fieldsOf kind) (fieldsAt s (fieldsOf kind) (start + 1)) >>= λ fs. append Expressions (made kind fs ∷ [])) x) b) (does-give im 0 id t)
+  copies-lambda t b = does-same (deepCloneExpr id) (keeps-more nothing (λ _. more-clone id)) (λ x ws l. clone-is x ws {t = t} l ∙ ap (λ z. cond z (give id) (cloneFields (cloneBelow id) (fieldsOf kind) (fieldsAt s (fieldsOf kind) (start + 1)) >>= λ fs. append Expressions (made kind fs ∷ [])) x) b) (does-give im 0 id t)
 
   -- the copied fields, and the new record
   pub copies-record : (fs : List Field) (t u v : State) (index : ℕ) → isLambda kind ≡ false → Does im 0 0 nothing (cloneFields (cloneBelow id) (fieldsOf kind) (fieldsAt s (fieldsOf kind) (start + 1))) t fs u →
       Does im 0 0 nothing (append Expressions (made kind fs ∷ [])) u index v → Copies im id t index v
   unfolding recordAs
   copies-record fs t u v index b d e =
-      does-same (deepCloneExpr id) (keeps-more nothing (λ _. more-clone id)) (λ x ws l. clone-is x ws {t = t} l ∙ ap (λ z. pick z (give id) (cloneFields (cloneBelow id) (fieldsOf kind) (fieldsAt s (fieldsOf kind) (start + 1)) >>= λ fs. append Expressions (made kind fs ∷ [])) x) b)
+      does-same (deepCloneExpr id) (keeps-more nothing (λ _. more-clone id)) (λ x ws l. clone-is x ws {t = t} l ∙ ap (λ z. cond z (give id) (cloneFields (cloneBelow id) (fieldsOf kind) (fieldsAt s (fieldsOf kind) (start + 1)) >>= λ fs. append Expressions (made kind fs ∷ [])) x) b)
       (does-bind d (keeps-more nothing (λ gs. more-append Expressions (made kind gs ∷ []))) e)
 
   pub copies-full : (t u : State) (index : ℕ) → t .ctx .full ≡ true → u .ctx .full ≡ true → Copies im id t index u
@@ -94,7 +93,7 @@ unfolding codesIn
 codes-length zero n = omega arith
 codes-length (suc f) n = go (eqb n 0) (codes-length f (n / 256))
   where
-    go : (b : Bool) → length (codesIn f (n / 256)) ≤ f → length (pick b [] (n % 256 ∷ codesIn f (n / 256))) ≤ suc f
+    go : (b : Bool) → length (codesIn f (n / 256)) ≤ f → length (cond b [] (n % 256 ∷ codesIn f (n / 256))) ≤ suc f
     go true h = omega arith
     go false h = omega arith
 
@@ -114,7 +113,7 @@ pub record Copying (s p : List ℕ) (c : Counts) (id row at : ℕ) (start here :
       Does (imageFound s p c) 0 0 nothing (cloneFields (cloneBelow id) (codes row) (fieldsAt s (codes row) at)) start (done ++ gs) t
 
 pub more-below : (id j : ℕ) → More (cloneBelow id j)
-more-below id j = more-pick (ltb j id) (more-clone j) more-fail
+more-below id j = more-cond (ltb j id) (more-clone j) more-fail
 
 module _ (s p : List ℕ) (c : Counts) (id row at : ℕ) (start : State) where
   pub copying-none : (kind : ℕ) (words : List ℕ) → length words ≡ 8 → row < 2 ^ 64 → at ≤ 65536 → id < c .expressions → codes row ≡ fieldsOf kind → (start₀ : ℕ) → at ≡ start₀ + 1 → start₀ ≡ getD p id 0 → kind ≡ getD s start₀ 0 →

@@ -2,7 +2,7 @@
 -- Assumes nothing.
 use Prim.Native.Nat.{ℕ, zero, suc, _+_, _-_, _*_, _/_, _%_, _≤_, _<_}
 use mathlib.Core.Path.{_≡_, refl, ap, ap₂, sym, _∙_, subst}
-use mathlib.Core.Bool.{Bool, true, false, _||_}
+use mathlib.Core.Bool.{Bool, true, false, cond, _||_}
 use mathlib.Core.List.{List, [], _∷_, _++_, map, append-assoc}
 use mathlib.Core.Option.{Option, none, some}
 use native.Mathlib.Omega.{arith}
@@ -16,7 +16,7 @@ use Rattle.rl_spec.specs.declared.Section.the-variants.{Lists, Expressions}
 use Rattle.rl_spec.specs.declared.Target.{Target}
 use Rattle.rl_spec.specs.declared.Sort.{Sort}
 use Rattle.rl_spec.specs.declared.Sort.the-variants.{Raw, Byte, Scalar, Part, One, Maybe, Many, Range, OperandSort, Operand}
-use Rattle.rl_spec.specs.Bytes.{pick, numAt, u16At}
+use Rattle.rl_spec.specs.Bytes.{numAt, u16At}
 use Rattle.rl_spec.specs.Schema.{sortOf, widthOf}
 use Rattle.rl_spec.specs.Image.{Field, num, pair, Image, recordsOf, sizeOf, noRecord, recordOf, fieldOf, first, second, entryOf, isPair, fieldIn, FieldFits, WellFormed}
 use Rattle.rl_spec.specs.Found.{imageFound}
@@ -27,12 +27,12 @@ use Rattle.rl_spec.specs.Make.{Context, Make, andThen, _>>=_, give, fail, self,
 use Rattle.rl_spec.specs.Lower.{isNode, cloneEntries, cloneField, deepCloneExpr}
 use Rattle.rl_laws.specs.Tests.{by-ltb}
 use Rattle.rl_encode.specs.Words.{wordField}
-use Rattle.rl_theorems.specs.Making.{gives, after}
+use Rattle.rl_images.specs.Lowering.Gives.{gives, after}
 use Rattle.rl_context.specs.declared.Ctx.{Ctx}
 use Rattle.rl_context.specs.Additions.{Live}
 use Rattle.rl_context.specs.Does.{State, at, nothing, one, all, Ends, Start, Does, Pushes, Listed}
 use Rattle.rl_context.proofs.Composed.{Keeps, not-both, does-then, does-bind, does-give, does-same, does-push, does-list}
-use Rattle.rl_context.proofs.More.{More, more-bind, more-give, more-pick, more-self, more-list, keeps-more, keeps-one}
+use Rattle.rl_context.proofs.More.{More, more-bind, more-give, more-cond, more-self, more-list, keeps-more, keeps-one}
 use Rattle.rl_context.proofs.MoreLower.{more-fail, more-clone, more-entries, more-field}
 use Rattle.rl_context.proofs.Appends.{stops-does}
 use Rattle.rl_copy.specs.declared.Plan.{Plan}
@@ -47,10 +47,10 @@ two s at = omega arith
 -- ---- the copy of a child
 
 pub clone-below : (id n : ℕ) → n < id → cloneBelow id n ≡ deepCloneExpr n
-clone-below id n h = ap (λ b. pick b (deepCloneExpr n) fail) (lt-ltb n id h)
+clone-below id n h = ap (λ b. cond b (deepCloneExpr n) fail) (lt-ltb n id h)
 
 pub clone-above : (id n : ℕ) → id ≤ n → cloneBelow id n ≡ fail
-clone-above id n h = ap (λ b. pick b (deepCloneExpr n) fail) (le-ltb n id h)
+clone-above id n h = ap (λ b. cond b (deepCloneExpr n) fail) (le-ltb n id h)
 
 -- ---- what a plan says of a sort
 
@@ -69,16 +69,16 @@ said Scalar = λ clone f. refl
 said Part = λ clone f. refl
 said (One t) = go (isNode t) refl
   where
-    go : (b : Bool) → isNode t ≡ b → Said (One t) (pick b plan.Node plan.Keep)
-    go true e = (refl, (refl, λ clone f. ap (λ b. pick b (clone (first f) >>= λ n. give (num n)) (give f)) e))
-    go false e = λ clone f. ap (λ b. pick b (clone (first f) >>= λ n. give (num n)) (give f)) e
+    go : (b : Bool) → isNode t ≡ b → Said (One t) (cond b plan.Node plan.Keep)
+    go true e = (refl, (refl, λ clone f. ap (λ b. cond b (clone (first f) >>= λ n. give (num n)) (give f)) e))
+    go false e = λ clone f. ap (λ b. cond b (clone (first f) >>= λ n. give (num n)) (give f)) e
 said (Maybe t) = λ clone f. refl
 said (Many l r n) = go (isNode l || isNode r) refl
   where
-    go : (b : Bool) → isNode l || isNode r ≡ b → Said (Many l r n) (pick b (plan.List l r) plan.Keep)
+    go : (b : Bool) → isNode l || isNode r ≡ b → Said (Many l r n) (cond b (plan.List l r) plan.Keep)
     go true e =
-        (refl, (λ clone f. ap (λ b. pick b (self >>= λ ctx. cloneEntries clone l r (entriesOf (ctx .image) f) >>= newList) (give f)) e, λ im i before a m h. h .0))
-    go false e = λ clone f. ap (λ b. pick b (self >>= λ ctx. cloneEntries clone l r (entriesOf (ctx .image) f) >>= newList) (give f)) e
+        (refl, (λ clone f. ap (λ b. cond b (self >>= λ ctx. cloneEntries clone l r (entriesOf (ctx .image) f) >>= newList) (give f)) e, λ im i before a m h. h .0))
+    go false e = λ clone f. ap (λ b. cond b (self >>= λ ctx. cloneEntries clone l r (entriesOf (ctx .image) f) >>= newList) (give f)) e
 said (Range o) = λ clone f. refl
 said OperandSort = λ clone f. refl
 said Operand = λ clone f. refl
@@ -113,7 +113,7 @@ module _ (s p : List ℕ) (c : Counts) (id code place : ℕ) (sort : Sort) (q : 
     node-said = subst (Said o) k by-plan
 
     child-is : first (fieldIn s o place) ≡ child
-    child-is = ap (λ b. first (pick b (pair (u16At s place) (u16At s (place + 2))) (num (numAt s place (widthOf o))))) (node-said .0) ∙ ap (numAt s place) (node-said .1 .0) ∙ two s place ∙ sym f
+    child-is = ap (λ b. first (cond b (pair (u16At s place) (u16At s (place + 2))) (num (numAt s place (widthOf o))))) (node-said .0) ∙ ap (numAt s place) (node-said .1 .0) ∙ two s place ∙ sym f
 
     field-is : cloneField (cloneBelow id) o (fieldIn s o place) ≡ (cloneBelow id child >>= λ n. give (num n))
     field-is = node-said .1 .1 (cloneBelow id) (fieldIn s o place) ∙ ap (λ n. cloneBelow id n >>= λ m. give (num m)) child-is
@@ -124,7 +124,7 @@ module _ (s p : List ℕ) (c : Counts) (id code place : ℕ) (sort : Sort) (q : 
 
     copied : (t u : State) (index word : ℕ) → child < id → Copies im child t index u → word ≡ index → CopiesField im s id code place t word u
     copied t u index word h d w =
-        subst (λ z. Does im 0 0 nothing (cloneField (cloneBelow id) o (fieldIn s o place)) t z u) (ap num (sym w) ∙ sym (ap (λ b. pick b (pair (word % 65536) (word / 65536)) (num word)) (node-said .0)))
+        subst (λ z. Does im 0 0 nothing (cloneField (cloneBelow id) o (fieldIn s o place)) t z u) (ap num (sym w) ∙ sym (ap (λ b. cond b (pair (word % 65536) (word / 65536)) (num word)) (node-said .0)))
         (subst (λ m. Does im 0 0 nothing m t (num index) u) (sym (field-is ∙ ap (λ m. m >>= λ n. give (num n)) (clone-below id child h)))
         (does-bind d (keeps-more nothing (λ n. more-give (num n))) (does-give im 0 (num index) u)))
 
@@ -137,7 +137,7 @@ module _ (s p : List ℕ) (c : Counts) (id code place : ℕ) (sort : Sort) (q : 
     list-said = subst (Said o) k by-plan
 
     pair-is : fieldIn s o place ≡ pair a n
-    pair-is = ap (λ b. pick b (pair (u16At s place) (u16At s (place + 2))) (num (numAt s place (widthOf o)))) (list-said .0) ∙ ap₂ pair (sym f) (sym h)
+    pair-is = ap (λ b. cond b (pair (u16At s place) (u16At s (place + 2))) (num (numAt s place (widthOf o)))) (list-said .0) ∙ ap₂ pair (sym f) (sym h)
 
     pub list-fits : Fitting im s id code place → WellFormed im → a + n ≤ sizeOf im Lists
     list-fits fit wf = list-said .1 .1 im id (fit wf .0) a n (subst (FieldFits im Expressions id (fit wf .0) o) pair-is (fit wf .1))
@@ -145,7 +145,7 @@ module _ (s p : List ℕ) (c : Counts) (id code place : ℕ) (sort : Sort) (q : 
     pub field-listed : (t u v : State) (list : Interval) (word waits : ℕ) → Fitting im s id code place → waits ≡ t .ctx .waiting → CopiesEntries im id a n left right t u →
         Listed waits u list v → pair (word % 65536) (word / 65536) ≡ pair (list .first) (list .count) → CopiesField im s id code place t word v
     field-listed t u v list word waits fit w d g is =
-        subst (λ z. Does im 0 0 nothing (cloneField (cloneBelow id) o (fieldIn s o place)) t z v) (sym is ∙ sym (ap (λ b. pick b (pair (word % 65536) (word / 65536)) (num word)) (list-said .0)))
+        subst (λ z. Does im 0 0 nothing (cloneField (cloneBelow id) o (fieldIn s o place)) t z v) (sym is ∙ sym (ap (λ b. cond b (pair (word % 65536) (word / 65536)) (num word)) (list-said .0)))
         (does-same (cloneField (cloneBelow id) o (fieldIn s o place)) field-keeps same (does-list waits w (d .1) g))
       where
         same : (x : Context) (ws : List ℕ) → Live im 0 x ws (t .ctx) (t .scratch) (t .waiting) →
@@ -198,7 +198,7 @@ module _ (s p : List ℕ) (c : Counts) (id a n : ℕ) (l r : Target) (start : St
         cons m k e = ap (upFrom (a + i)) e ∙ up-suc (a + i) k
 
     -- what is made of the next entry waits, and the rest follows
-    entries-next : (h : i < n) (m : ℕ) (next : State) → Does of 0 0 one (pick (isNode left) (cloneBelow id (entryOf of (a + i))) (give (entryOf of (a + i)))) here m next →
+    entries-next : (h : i < n) (m : ℕ) (next : State) → Does of 0 0 one (cond (isNode left) (cloneBelow id (entryOf of (a + i))) (give (entryOf of (a + i)))) here m next →
         CopyingEntries s p c id a n l r start next (i + 1) right left
     unfolding cloneEntries
     entries-next h m next d =
@@ -214,7 +214,7 @@ module _ (s p : List ℕ) (c : Counts) (id a n : ℕ) (l r : Target) (start : St
         }
 
     pub entries-more : i < n → (e : ℕ) (next : State) → e ≡ entryOf of (a + i) → CopiesEntry of id left e here next → CopyingEntries s p c id a n l r start next (i + 1) right left
-    entries-more h e next g d = entries-next h (d .0) next (subst (λ z. Does of 0 0 one (pick (isNode left) (cloneBelow id z) (give z)) here (d .0) next) g (d .1))
+    entries-more h e next g d = entries-next h (d .0) next (subst (λ z. Does of 0 0 one (cond (isNode left) (cloneBelow id z) (give z)) here (d .0) next) g (d .1))
 
     pub entries-all : n ≤ i → CopiesEntries of id a n l r start here
     unfolding cloneEntries upFrom
@@ -228,12 +228,12 @@ module _ (s p : List ℕ) (c : Counts) (id a n : ℕ) (l r : Target) (start : St
 module _ (of : Image) (id : ℕ) (target : Target) (n : ℕ) (here : State) (b : Bool) (q : b ≡ isNode target) where
   pub entry-copied : (made : ℕ) (mid next : State) → b ≡ true → n < id → Copies of n here made mid → Pushes made mid next → CopiesEntry of id target n here next
   entry-copied made mid next t v d o =
-      (made, subst (λ m. Does of 0 0 one m here made next) (sym (ap (λ z. pick z (cloneBelow id n) (give n)) (sym q ∙ t) ∙ clone-below id n v)) (does-push d o))
+      (made, subst (λ m. Does of 0 0 one m here made next) (sym (ap (λ z. cond z (cloneBelow id n) (give n)) (sym q ∙ t) ∙ clone-below id n v)) (does-push d o))
 
   pub entry-kept : (next : State) → b ≡ false → Pushes n here next → CopiesEntry of id target n here next
-  entry-kept next t o = (n, subst (λ m. Does of 0 0 one m here n next) (sym (ap (λ z. pick z (cloneBelow id n) (give n)) (sym q ∙ t))) (does-push (does-give of 0 n here) o))
+  entry-kept next t o = (n, subst (λ m. Does of 0 0 one m here n next) (sym (ap (λ z. cond z (cloneBelow id n) (give n)) (sym q ∙ t))) (does-push (does-give of 0 n here) o))
 
   -- a node that is not before the one at hand
   pub entry-stopped : (next : State) → b ≡ true → id ≤ n → next .ctx .full ≡ true → CopiesEntry of id target n here next
   entry-stopped next t v full =
-      (0, subst (λ m. Does of 0 0 one m here 0 next) (sym (ap (λ z. pick z (cloneBelow id n) (give n)) (sym q ∙ t) ∙ clone-above id n v)) (stops-does one full more-fail (λ x ws k m. refl)))
+      (0, subst (λ m. Does of 0 0 one m here 0 next) (sym (ap (λ z. cond z (cloneBelow id n) (give n)) (sym q ∙ t) ∙ clone-above id n v)) (stops-does one full more-fail (λ x ws k m. refl)))

@@ -2,14 +2,14 @@
 -- Assumes nothing.
 use Prim.Native.Nat.{ℕ, _+_, _*_, _/_, _%_, _<_}
 use mathlib.Core.Path.{_≡_, refl, ap, ap₂, sym, _∙_, subst}
-use mathlib.Core.Bool.{Bool, true, false, _||_}
+use mathlib.Core.Bool.{Bool, true, false, cond, _||_}
 use mathlib.Core.List as list
 use native.Mathlib.Omega.{arith}
 use lib.Dec.{T}
 use Rattle.rl_spec.specs.declared.Sort.{Sort}
 use Rattle.rl_spec.specs.declared.Sort.the-variants.{Many}
 use Rattle.rl_spec.specs.declared.Target.{Target}
-use Rattle.rl_spec.specs.Bytes.{pick, numAt, u16At}
+use Rattle.rl_spec.specs.Bytes.{numAt, u16At}
 use Rattle.rl_spec.specs.Schema.{sortOf, widthOf}
 use Rattle.rl_spec.specs.Image.{Field, num, pair, first, isPair, fieldIn}
 use Rattle.rl_spec.specs.Lower.{isNode}
@@ -36,14 +36,14 @@ module _ (s : list.List ℕ) (code place : ℕ) (o : Sort) (e : o ≡ sortOf cod
   pub word-number : (m : ℕ) → b ≡ false → m ≡ widthOf o → (r : ℕ) → r ≡ numberIn s place m → wordField (sortOf code) r ≡ fieldIn s (sortOf code) place
   word-number m t g r h = go (isPair (sortOf code)) (ap isPair (sym e) ∙ sym f ∙ t) (first-number s code place o e b f t m g r h)
     where
-      go : (d : Bool) → d ≡ false → r ≡ first (pick d (pair (u16At s place) (u16At s (place + 2))) (num (numAt s place (widthOf (sortOf code))))) →
-          pick d (pair (r % 65536) (r / 65536)) (num r) ≡ pick d (pair (u16At s place) (u16At s (place + 2))) (num (numAt s place (widthOf (sortOf code))))
+      go : (d : Bool) → d ≡ false → r ≡ first (cond d (pair (u16At s place) (u16At s (place + 2))) (num (numAt s place (widthOf (sortOf code))))) →
+          cond d (pair (r % 65536) (r / 65536)) (num r) ≡ cond d (pair (u16At s place) (u16At s (place + 2))) (num (numAt s place (widthOf (sortOf code))))
       go true q k = absurd (subst T q tt)
       go false q k = ap num k
 
 module _ (sort : Sort) (left right : Target) (n : ℕ) (e : sort ≡ Many left right n) (b : Bool) (q : b ≡ isNode left || isNode right) where
   pub plan-list : b ≡ true → List left right ≡ planOf sort
-  plan-list t = sym (ap planOf e ∙ ap (λ z. pick z (List left right) Keep) (sym q ∙ t))
+  plan-list t = sym (ap planOf e ∙ ap (λ z. cond z (List left right) Keep) (sym q ∙ t))
 
   pub plan-keep : b ≡ false → Keep ≡ planOf sort
-  plan-keep t = sym (ap planOf e ∙ ap (λ z. pick z (List left right) Keep) (sym q ∙ t))
+  plan-keep t = sym (ap planOf e ∙ ap (λ z. cond z (List left right) Keep) (sym q ∙ t))

@@ -1,13 +1,12 @@
 -- What copying promises.
 use Prim.Native.Nat.{ℕ, _+_, _≤_}
-use mathlib.Core.Bool.{_||_}
+use mathlib.Core.Bool.{cond, _||_}
 use mathlib.Core.List as list
 use mathlib.Core.List.{map}
 use Rattle.rl_spec.specs.declared.Section.the-variants.{Lists, Expressions}
 use Rattle.rl_spec.specs.declared.Target.{Target}
 use Rattle.rl_spec.specs.declared.Sort.{Sort}
 use Rattle.rl_spec.specs.declared.Sort.the-variants.{Raw, Byte, Scalar, Part, One, Maybe, Many, Range, OperandSort, Operand}
-use Rattle.rl_spec.specs.Bytes.{pick}
 use Rattle.rl_spec.specs.Schema.{sortOf}
 use Rattle.rl_spec.specs.Image.{Image, sizeOf, entryOf, fieldIn, FieldFits, WellFormed}
 use Rattle.rl_spec.specs.Tree.{below}
@@ -25,9 +24,9 @@ planOf (Raw n) = Keep
 planOf (Byte low high) = Keep
 planOf Scalar = Keep
 planOf Part = Keep
-planOf (One t) = pick (isNode t) Node Keep
+planOf (One t) = cond (isNode t) Node Keep
 planOf (Maybe t) = Keep
-planOf (Many l r n) = pick (isNode l || isNode r) (List l r) Keep
+planOf (Many l r n) = cond (isNode l || isNode r) (List l r) Keep
 planOf (Range o) = Keep
 planOf OperandSort = Keep
 planOf Operand = Keep
@@ -50,7 +49,7 @@ CopiesField im bytes id code place s word t =
 
 -- an entry's copy, which waits then
 abbrev pub CopiesEntry : Image → ℕ → Target → ℕ → State → State → Type 0
-CopiesEntry im id target n s t = (m : ℕ) × Does im 0 0 one (pick (isNode target) (cloneBelow id n) (give n)) s m t
+CopiesEntry im id target n s t = (m : ℕ) × Does im 0 0 one (cond (isNode target) (cloneBelow id n) (give n)) s m t
 
 -- entries' copies, which wait then
 abbrev pub CopiesEntries : Image → ℕ → ℕ → ℕ → Target → Target → State → State → Type 0

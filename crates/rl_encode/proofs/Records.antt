@@ -2,19 +2,18 @@
 -- Assumes nothing.
 use Prim.Native.Nat.{ℕ, zero, suc, _+_, _-_, _/_, _%_, _^_, _≤_, _<_}
 use mathlib.Core.Path.{_≡_, refl, ap, ap₂, sym, _∙_}
-use mathlib.Core.Bool.{Bool, true, false}
+use mathlib.Core.Bool.{Bool, true, false, cond}
 use mathlib.Core.List.{List, [], _∷_, _++_, append-assoc, append-nil}
 use native.Mathlib.Omega.{arith}
 use native.Mathlib.Nat.{add-zero}
 use lib.ListN.{length, getD, length-append}
 use Rattle.rl_spec.specs.declared.Sort.{Sort}
-use Rattle.rl_spec.specs.Bytes.{pick}
 use Rattle.rl_spec.specs.Schema.{sortOf, widthOf}
 use Rattle.rl_spec.specs.Image.{num, pair, isPair, bytesOf, encodeField, encodeFields}
 use Rattle.rl_schema.specs.Codes.{codes}
 use Rattle.rl_schema.proofs.Rows.{codes-none, codes-more}
-use Rattle.rl_theorems.specs.Decode.{pair-width}
-use Rattle.rl_theorems.specs.Standing.{length-bytes}
+use Rattle.rl_images.specs.Reading.Decode.{pair-width}
+use Rattle.rl_images.specs.Encoding.BytesAt.{length-bytes}
 use Rattle.rl_encode.specs.Words.{wordField, wordFields, over}
 use Rattle.rl_encode.proofs.Over.{over-none, over-over, length-over}
 
@@ -38,7 +37,7 @@ two-numbers w = λ i. a i ∷ b i ∷ c i ∷ d i ∷ []
 pub field-word : (o : Sort) (w : ℕ) → encodeField o (wordField o w) ≡ bytesOf (widthOf o) w
 field-word o w = go (isPair o) refl
   where
-    go : (b : Bool) → isPair o ≡ b → encodeField o (pick b (pair (w % 65536) (w / 65536)) (num w)) ≡ bytesOf (widthOf o) w
+    go : (b : Bool) → isPair o ≡ b → encodeField o (cond b (pair (w % 65536) (w / 65536)) (num w)) ≡ bytesOf (widthOf o) w
     go true e = two-numbers w ∙ ap (λ n. bytesOf n w) (sym (pair-width o e))
     go false e = refl
 

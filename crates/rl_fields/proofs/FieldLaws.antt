@@ -2,7 +2,7 @@
 -- Assumes nothing.
 use Prim.Native.Nat.{ℕ, suc, _+_, _-_, _*_, _%_, _≤_, _<_, max}
 use mathlib.Core.Path.{_≡_, refl, sym}
-use mathlib.Core.Bool.{Bool, true, false}
+use mathlib.Core.Bool.{Bool, true, false, cond}
 use mathlib.Core.List.{List}
 use native.Mathlib.Omega.{arith}
 use native.Mathlib.Nat.{mod-zero}
@@ -18,7 +18,7 @@ use Rattle.rl_spec.specs.declared.Target.{Target}
 use Rattle.rl_spec.specs.declared.Target.the-variants.{Text, Expression}
 use Rattle.rl_spec.specs.declared.Check.{Check}
 use Rattle.rl_spec.specs.declared.Check.the-variants.{Holds, Fails}
-use Rattle.rl_spec.specs.Bytes.{pick, u16At}
+use Rattle.rl_spec.specs.Bytes.{u16At}
 use Rattle.rl_spec.specs.Schema.{textBytesAt, countOf}
 use Rattle.rl_spec.specs.Utf8.{utf8}
 use Rattle.rl_spec.specs.Fields.{unless, takes, within, zeros, kindOfStatement, allowed, nodeHeight, statementHeight, heightIn, childHeight, entryAt, rangeOf, partOf, byteIn, operandSortOf, referTo, referOrNone, entriesFrom, listOf, operandOf}
@@ -94,10 +94,10 @@ module _ (s : List ℕ) (seen : Counts) (offset size tall : ℕ) where
 pub takes-is : (t k : Target) (kind : ℕ) (r : Bool) → t ≡ k → r ≡ takes k kind → r ≡ takes t kind
 takes-is t k kind r e f = rw e f
 
-pub takes-first : (kind : ℕ) → kind ≡ 69 → true ≡ pick (eqb kind 69) true (eqb kind 68)
+pub takes-first : (kind : ℕ) → kind ≡ 69 → true ≡ cond (eqb kind 69) true (eqb kind 68)
 takes-first kind e = rw (eq-eqb kind 69 e) refl
 
-pub takes-second : (kind : ℕ) → (kind ≡ 69 → ⊥) → eqb kind 68 ≡ pick (eqb kind 69) true (eqb kind 68)
+pub takes-second : (kind : ℕ) → (kind ≡ 69 → ⊥) → eqb kind 68 ≡ cond (eqb kind 69) true (eqb kind 68)
 takes-second kind e = rw (ne-eqb kind 69 e) refl
 
 pub kind-is : (s p : List ℕ) (seen : Counts) (n start r : ℕ) → start ≡ getD p (seen .expressions + n) 0 → r ≡ getD s start 0 → r ≡ kindOfStatement s p seen n
@@ -240,10 +240,10 @@ module _ (s w p : List ℕ) (seen : Counts) (own : Section) (first count step ta
     list-odd f = rw (le-ltb (seen .lists) (first + count) q, ← e, f) refl
 
 module _ (s : List ℕ) (at : ℕ) where
-  pub bool-low : getD s at 0 ≤ 1 → (b : Bool) → b ≡ zeros s (at + 1) 7 → b ≡ pick (leb (getD s at 0) 1) (zeros s (at + 1) 7) false
+  pub bool-low : getD s at 0 ≤ 1 → (b : Bool) → b ≡ zeros s (at + 1) 7 → b ≡ cond (leb (getD s at 0) 1) (zeros s (at + 1) 7) false
   bool-low q b e = rw (le-leb (getD s at 0) 1 q) e
 
-  pub bool-high : 1 < getD s at 0 → false ≡ pick (leb (getD s at 0) 1) (zeros s (at + 1) 7) false
+  pub bool-high : 1 < getD s at 0 → false ≡ cond (leb (getD s at 0) 1) (zeros s (at + 1) 7) false
   bool-high q = rw (lt-leb (getD s at 0) 1 q) refl
 
 module _ (s w p : List ℕ) (seen : Counts) (own : Section) (o at tall : ℕ) where
@@ -257,7 +257,7 @@ module _ (s w p : List ℕ) (seen : Counts) (own : Section) (o at tall : ℕ) wh
     operand-integer q = rw (ne-eqb o 0 x, eq-eqb o 1 q) refl
 
     module _ (y : o ≡ 1 → ⊥) where
-      pub operand-bool : o ≡ 3 → (b : Bool) → b ≡ pick (leb (getD s at 0) 1) (zeros s (at + 1) 7) false → (r : Check) → r ≡ unless BadValue b tall → r ≡ operandOf s w p seen own o at tall
+      pub operand-bool : o ≡ 3 → (b : Bool) → b ≡ cond (leb (getD s at 0) 1) (zeros s (at + 1) 7) false → (r : Check) → r ≡ unless BadValue b tall → r ≡ operandOf s w p seen own o at tall
       unfolding operandOf
       operand-bool q b e r f = rw (ne-eqb o 0 x, ne-eqb o 1 y, eq-eqb o 3 q, ← e) f
 

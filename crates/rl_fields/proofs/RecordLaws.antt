@@ -2,7 +2,7 @@
 -- Assumes nothing.
 use Prim.Native.Nat.{ℕ, _+_, _-_, _/_, _%_, _^_, _≤_, _<_}
 use mathlib.Core.Path.{_≡_, refl, sym, ap, _∙_}
-use mathlib.Core.Bool.{Bool, true, false}
+use mathlib.Core.Bool.{Bool, true, false, cond}
 use mathlib.Core.List.{List}
 use native.Mathlib.Omega.{arith}
 use mir.Val.{Fits}
@@ -21,7 +21,7 @@ use Rattle.rl_spec.specs.declared.Check.{Check}
 use Rattle.rl_spec.specs.declared.Check.the-variants.{Holds, Fails}
 use Rattle.rl_spec.specs.declared.Step.{Step}
 use Rattle.rl_spec.specs.declared.Step.the-variants.{Next, Stop}
-use Rattle.rl_spec.specs.Bytes.{pick, u16At, u32At, past}
+use Rattle.rl_spec.specs.Bytes.{u16At, u32At, past}
 use Rattle.rl_spec.specs.Schema.{raw4, raw8, node, text, sortOf, widthOf, inSection, tallest}
 use Rattle.rl_spec.specs.Utf8.{isScalar}
 use Rattle.rl_spec.specs.Fields.{unless, byteIn, partOf, rangeOf, operandSortOf, referTo, referOrNone, listOf, operandOf, valueOf, fieldAt, fieldsFrom, heightStep, recordAt}
@@ -96,10 +96,10 @@ module _ (s w p : List ℕ) (seen : Counts) (own : Section) (o : Sort) (at tall 
         field-range k g v j = value (Range k) g v (rw (← h, ← i) j)
 
 module _ (s : List ℕ) (n at tall : ℕ) (b : Bool) (f : b ≡ past s at n) where
-  pub raw-past : b ≡ true → Fails BytesEnd ≡ pick (past s at n) (Fails BytesEnd) (Holds tall)
+  pub raw-past : b ≡ true → Fails BytesEnd ≡ cond (past s at n) (Fails BytesEnd) (Holds tall)
   raw-past q = rw (← f, q) refl
 
-  pub raw-there : b ≡ false → Holds tall ≡ pick (past s at n) (Fails BytesEnd) (Holds tall)
+  pub raw-there : b ≡ false → Holds tall ≡ cond (past s at n) (Fails BytesEnd) (Holds tall)
   raw-there q = rw (← f, q) refl
 
 module _ (s w p : List ℕ) (seen : Counts) (own : Section) (t : Target) (at tall : ℕ) (b : Bool) (f : b ≡ past s at 2) where
@@ -113,11 +113,11 @@ module _ (s w p : List ℕ) (seen : Counts) (own : Section) (code at tall : ℕ)
   coded : (k : ℕ) → code ≡ k → (v : Check) → v ≡ fieldAt s w p seen own (sortOf k) at tall → v ≡ fieldAt s w p seen own (sortOf code) at tall
   coded k e v f = rw e f
 
-  pub coded-raw4 : code ≡ raw4 → (v : Check) → v ≡ pick (past s at 4) (Fails BytesEnd) (Holds tall) → v ≡ fieldAt s w p seen own (sortOf code) at tall
+  pub coded-raw4 : code ≡ raw4 → (v : Check) → v ≡ cond (past s at 4) (Fails BytesEnd) (Holds tall) → v ≡ fieldAt s w p seen own (sortOf code) at tall
   unfolding sortOf fieldAt valueOf
   coded-raw4 e v f = rw e f
 
-  pub coded-raw8 : code ≡ raw8 → (v : Check) → v ≡ pick (past s at 8) (Fails BytesEnd) (Holds tall) → v ≡ fieldAt s w p seen own (sortOf code) at tall
+  pub coded-raw8 : code ≡ raw8 → (v : Check) → v ≡ cond (past s at 8) (Fails BytesEnd) (Holds tall) → v ≡ fieldAt s w p seen own (sortOf code) at tall
   unfolding sortOf fieldAt valueOf
   coded-raw8 e v f = rw e f
 
@@ -137,7 +137,7 @@ pub field-there : (s w p : List ℕ) (seen : Counts) (own : Section) (o : Sort) 
 unfolding fieldAt
 field-there s w p seen own o at tall r e t f = go (past s at (widthOf o)) refl (sym e ∙ f)
   where
-    go : (b : Bool) → b ≡ past s at (widthOf o) → pick b (Fails BytesEnd) (valueOf s w p seen own o at tall) ≡ Holds t → at + widthOf o ≤ length s
+    go : (b : Bool) → b ≡ past s at (widthOf o) → cond b (Fails BytesEnd) (valueOf s w p seen own o at tall) ≡ Holds t → at + widthOf o ≤ length s
     go true g h = let z : _≡_ {A = ℕ} 0 1 = cc in absurd (omega arith)
     go false g h = there s at (widthOf o) false g refl
 
@@ -176,7 +176,7 @@ module _ (s w p : List ℕ) (seen : Counts) (own : Section) (at row r : ℕ) (e 
   some-row : r ≡ 0 → ⊥
   some-row z = omega arith
 
-  field-is : (v : Check) → v ≡ pick (past s at 4) (Fails BytesEnd) (Holds 0) → v ≡ fieldAt s w p seen own (sortOf (r % 256)) at 0
+  field-is : (v : Check) → v ≡ cond (past s at 4) (Fails BytesEnd) (Holds 0) → v ≡ fieldAt s w p seen own (sortOf (r % 256)) at 0
   field-is v g = coded-raw4 s w p seen own (r % 256) at 0 t v g
 
   row-is : fieldsFrom s w p seen own (codes row) at 0 ≡ fieldsFrom s w p seen own (codes r) at 0

@@ -26,12 +26,12 @@ use rl_spec::Sort;
 use rl_spec::Step;
 use rl_spec::Target;
 ghost use mathlib.Core.Path.{_≡_};
-ghost use mathlib.Core.Bool.{false};
+ghost use mathlib.Core.Bool.{false, cond};
 ghost use Prim.Native.Nat.{_+_, _%_, _≤_};
 ghost use lib.ListN.{length, getD};
 ghost use lib.Dec.{leb};
 ghost use Rattle.rl_spec.specs.Schema.{sortOf};
-ghost use Rattle.rl_spec.specs.Bytes.{pick, past};
+ghost use Rattle.rl_spec.specs.Bytes.{past};
 ghost use Rattle.rl_schema.specs.Codes.{codes};
 ghost use Rattle.rl_fields.specs.Checked.{recordBy};
 ghost use Rattle.rl_spec.specs.Fields.{unless, rangeOf, partOf, byteIn, operandSortOf, zeros, operandOf, fieldAt, fieldsFrom};
@@ -117,7 +117,7 @@ fn are_zeros(s: &[u8], at: usize, n: usize) -> bool
 
 fn bool_operand(s: &[u8], at: usize) -> bool
     requires { ⌜ at + 8 ≤ length (now s) ⌝ }
-    ensures { λ r. ⌜ r ≡ pick (leb (getD (now (s .entry)) at 0) 1) (zeros (now (s .entry)) (at + 1) 7) false ⌝ }
+    ensures { λ r. ⌜ r ≡ cond (leb (getD (now (s .entry)) at 0) 1) (zeros (now (s .entry)) (at + 1) 7) false ⌝ }
 {
     if s[at] <= 1 {
         return are_zeros(s, at + 1, 7);
@@ -216,7 +216,7 @@ fn one_reference(
 
 // A field of n bytes of any value.
 fn raw_field(s: &[u8], n: u8, at: usize, tall: u16) -> Check
-    ensures { λ r. ⌜ r ≡ pick (past (now (s .entry)) at n) (Check.Fails Cause.BytesEnd) (Check.Holds tall) ⌝ }
+    ensures { λ r. ⌜ r ≡ cond (past (now (s .entry)) at n) (Check.Fails Cause.BytesEnd) (Check.Holds tall) ⌝ }
 {
     if is_past(s, at, n as usize) {
         return Check::Fails {

@@ -1,6 +1,7 @@
 -- What stands when a node is folded under names with a memory. Assumes nothing.
 use Prim.Native.Nat.{ℕ}
 use mathlib.Core.Path.{_≡_}
+use mathlib.Core.Bool.{cond}
 use mathlib.Core.List.{List}
 use lib.Dec.{ltb}
 use lib.ListN.{length}
@@ -8,7 +9,6 @@ use Rattle.rl_spec.specs.declared.Folded.{Folded}
 use Rattle.rl_spec.specs.declared.Folded.the-variants.{Nothing}
 use Rattle.rl_spec.specs.declared.Form.{Form}
 use Rattle.rl_spec.specs.declared.Form.the-variants as form
-use Rattle.rl_spec.specs.Bytes.{pick}
 use Rattle.rl_spec.specs.Image.{Image, textOf}
 use Rattle.rl_spec.specs.Folded.{asFolded}
 use Rattle.rl_spec.specs.Tree.{exprTree}
@@ -25,13 +25,13 @@ foldedAt im env n = asFolded (constEval (textOf im) env (exprTree im n))
 -- ---- what folding a node needs, by its form; a part that is not before the node has no value
 
 abbrev pub unaryHead : ℕ → ℕ → ℕ → Head
-unaryHead n op e = pick (ltb e n) (Unary op e) (Done Nothing)
+unaryHead n op e = cond (ltb e n) (Unary op e) (Done Nothing)
 
 abbrev pub binaryHead : ℕ → ℕ → ℕ → ℕ → Head
-binaryHead n l op r = pick (ltb l n) (pick (ltb r n) (Binary l op r) (Done Nothing)) (Done Nothing)
+binaryHead n l op r = cond (ltb l n) (cond (ltb r n) (Binary l op r) (Done Nothing)) (Done Nothing)
 
 abbrev pub groupingHead : ℕ → ℕ → Head
-groupingHead n e = pick (ltb e n) (Grouping e) (Done Nothing)
+groupingHead n e = cond (ltb e n) (Grouping e) (Done Nothing)
 
 unfoldable pub headOf : List ℕ → List ℕ → ℕ → ℕ → Form → Head
 headOf cs w count n form.Null = Done Nothing

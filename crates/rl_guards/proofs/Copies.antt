@@ -13,8 +13,8 @@ use Rattle.rl_spec.specs.Tree.{below}
 use Rattle.rl_spec.specs.Make.{Context, Make, andThen, _>>=_, give, fail, self, append, made}
 use Rattle.rl_spec.specs.Lower.{expr, cloneFields, cloneRecord, deepCloneExpr}
 use Rattle.rl_laws.specs.Descend.{descend-is, under-earlier}
-use Rattle.rl_theorems.specs.Grows.{Eight, record-kept, size-grows, records-own}
-use Rattle.rl_theorems.specs.Good.{Later, good-is, append-good, expr-good}
+use Rattle.rl_images.specs.Lowering.Grows.{Eight, record-kept, size-grows, records-own}
+use Rattle.rl_images.specs.Lowering.GrowsTo.{Later, good-is, append-good, expr-good}
 use Rattle.rl_guards.specs.Guards.{Leaf, anInteger, aString, aBool, anIdentifier, copyOf}
 
 -- the expression at an index

@@ -2,6 +2,7 @@
 -- Assumes nothing.
 use Prim.Native.Nat.{ℕ, suc, _+_, _-_, _≤_, _<_}
 use mathlib.Core.Path.{_≡_, refl, ap, ap₂, sym, _∙_, subst}
+use mathlib.Core.Bool.{cond}
 use mathlib.Core.List.{List, [], _∷_, map}
 use native.Mathlib.Omega.{arith}
 use lib.Dec.{eqb}
@@ -9,7 +10,6 @@ use lib.ListN.{length}
 use borrow.Author.Tests.{ne-eqb}
 use Rattle.rl_spec.specs.declared.Clause.{Clause}
 use Rattle.rl_spec.specs.declared.Interval.{Interval}
-use Rattle.rl_spec.specs.Bytes.{pick}
 use Rattle.rl_spec.specs.Image.{num, Image}
 use Rattle.rl_spec.specs.Records.{clauseAt}
 use Rattle.rl_spec.specs.Ranges.{upFrom}
@@ -42,12 +42,12 @@ module _ {im : Image} {s u : State} {a : ℕ} (default : List ℕ) (clause : Cla
   pub clause-default : {t : State} {m : ℕ} → clause .message ≡ 65535 → Makes im (strLit default) s m t → Makes im (guard (clause .condition) m) t a u →
       Makes im (clauseGuard default clause) s a u
   clause-default {t} {m} e d f =
-      by-message (subst (λ b. Makes im (pick b (strLit default) (give (clause .message))) s m t) (sym (ap (λ n. eqb n 65535) e)) d) f
+      by-message (subst (λ b. Makes im (cond b (strLit default) (give (clause .message))) s m t) (sym (ap (λ n. eqb n 65535) e)) d) f
 
   pub clause-own : (clause .message ≡ 65535 → ⊥) → Makes im (guard (clause .condition) (clause .message)) s a u → Makes im (clauseGuard default clause) s a u
   clause-own n f =
       by-message
-      (subst (λ b. Makes im (pick b (strLit default) (give (clause .message))) s (clause .message) s) (sym (ne-eqb (clause .message) 65535 n))
+      (subst (λ b. Makes im (cond b (strLit default) (give (clause .message))) s (clause .message) s) (sym (ne-eqb (clause .message) 65535 n))
       (does-give im 0 (clause .message) s)) f
 
 -- ---- the guards of clauses, one after the other

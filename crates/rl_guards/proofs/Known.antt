@@ -8,8 +8,8 @@ use mathlib.Core.Option.{Option, none, some}
 use lib.ListN.{length}
 use Rattle.rl_spec.specs.Image.{Image}
 use Rattle.rl_spec.specs.Make.{Context, Make, andThen, _>>=_}
-use Rattle.rl_theorems.specs.Making.{after}
-use Rattle.rl_theorems.specs.Grows.{Eight}
+use Rattle.rl_images.specs.Lowering.Gives.{after}
+use Rattle.rl_images.specs.Lowering.Grows.{Eight}
 use Rattle.rl_context.specs.Does.{State, nothing, Ends, Start, Does}
 use Rattle.rl_context.proofs.Composed.{Keeps, not-both, by-full, ends-full, ends-live, stays-full, then-is}
 

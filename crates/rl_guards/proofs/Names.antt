@@ -2,12 +2,11 @@
 -- Assumes nothing.
 use Prim.Native.Nat.{ℕ, zero, suc, _+_, _/_, _%_, _≤_}
 use mathlib.Core.Path.{_≡_, _∙_}
-use mathlib.Core.Bool.{Bool, true, false}
+use mathlib.Core.Bool.{Bool, true, false, cond}
 use mathlib.Core.List.{List, [], _∷_, _++_}
 use native.Mathlib.Omega.{arith}
 use lib.Dec.{ltb}
 use lib.ListN.{length, take, drop, length-append}
-use Rattle.rl_spec.specs.Bytes.{pick}
 use Rattle.rl_spec.specs.Tree.{ascii}
 use Rattle.rl_spec.specs.Message.{decimalBy, decimal}
 use Rattle.rl_text_out.specs.Put.{withText, afterText}
@@ -18,7 +17,7 @@ unfolding decimalBy
 few-digits zero n = omega arith
 few-digits (suc k) n = go (few-digits k (n / 10)) (ltb n 10)
   where
-    go : length (decimalBy k (n / 10)) ≤ k → (b : Bool) → length (pick b ((48 + n) ∷ []) (decimalBy k (n / 10) ++ ((48 + n % 10) ∷ []))) ≤ suc k
+    go : length (decimalBy k (n / 10)) ≤ k → (b : Bool) → length (cond b ((48 + n) ∷ []) (decimalBy k (n / 10) ++ ((48 + n % 10) ∷ []))) ≤ suc k
     go h true = omega arith
     go h false = rw (length-append (decimalBy k (n / 10)) ((48 + n % 10) ∷ [])) (omega (arith, h))
 

@@ -2,7 +2,7 @@
 -- Assumes nothing.
 use Prim.Native.Nat.{ℕ, _≤_, _<_}
 use mathlib.Core.Path.{_≡_, refl, ap, sym, _∙_, subst}
-use mathlib.Core.Bool.{Bool, true, false}
+use mathlib.Core.Bool.{Bool, true, false, cond}
 use mathlib.Core.List.{List, [], _∷_}
 use mathlib.Core.Option.{Option, none}
 use native.Mathlib.Omega.{arith}
@@ -15,15 +15,14 @@ use lib.Seq.{length-take-le}
 use Rattle.rl_spec.specs.declared.RefineOperand as operand
 use Rattle.rl_spec.specs.declared.RefineOperand.the-variants.{Integer, Str, Bool as Truth, Param as Named}
 use Rattle.rl_spec.specs.declared.Section.the-variants.{Expressions}
-use Rattle.rl_spec.specs.Bytes.{pick}
 use Rattle.rl_spec.specs.Schema.{limits, sortOf, schema, fieldsIn, fieldsOf}
 use Rattle.rl_spec.specs.Image.{num, Image, textOf}
 use Rattle.rl_spec.specs.Words.{bits64}
 use Rattle.rl_spec.specs.Contracts.{operandOf}
 use Rattle.rl_spec.specs.Make.{Context, andThen, _>>=_, give, append, made, newText}
 use Rattle.rl_spec.specs.Lower.{expr, strLit}
-use Rattle.rl_theorems.specs.Making.{Gives, stops, gives}
-use Rattle.rl_theorems.specs.Grows.{text-gives}
+use Rattle.rl_images.specs.Lowering.Gives.{Gives, stops, gives}
+use Rattle.rl_images.specs.Lowering.Grows.{text-gives}
 use Rattle.rl_schema.specs.Codes.{codes}
 use Rattle.rl_encode.specs.Words.{wordFields, wordRecord}
 use Rattle.rl_text_out.specs.Put.{fitting, withText, afterText}
@@ -64,10 +63,10 @@ module _ {im : Image} (image : Image) (x : operand.RefineOperand) (s : State) wh
       of-operand image x (record { ctx = s .ctx; kind = 17; row = 1027; word = w }) (Integer v) e
       (record { does = subst (λ n. Does {A = ℕ × ℕ} im 0 0 nothing (give (17, bits64 v)) s (17, n) s) (sym (q ∙ ap bits64 (toZ-ofZ h))) (does-give im 0 (17, bits64 v) s); leaf = anInteger; row = row-integer })
 
-  truth-made : (b : Bool) → x ≡ Truth b → OperandMade im (leafOf image (operandOf x)) s (record { ctx = s .ctx; kind = 26; row = 1283; word = pick b 1 0 }) s
+  truth-made : (b : Bool) → x ≡ Truth b → OperandMade im (leafOf image (operandOf x)) s (record { ctx = s .ctx; kind = 26; row = 1283; word = cond b 1 0 }) s
   truth-made b e =
-      of-operand image x (record { ctx = s .ctx; kind = 26; row = 1283; word = pick b 1 0 }) (Truth b) e
-      (record { does = does-give im 0 (26, pick b 1 0) s; leaf = aBool; row = row-bool })
+      of-operand image x (record { ctx = s .ctx; kind = 26; row = 1283; word = cond b 1 0 }) (Truth b) e
+      (record { does = does-give im 0 (26, cond b 1 0) s; leaf = aBool; row = row-bool })
 
   pub true-made : (b : Bool) → x ≡ Truth b → b ≡ true → OperandMade im (leafOf image (operandOf x)) s (record { ctx = s .ctx; kind = 26; row = 1283; word = 1 }) s
   true-made b e q = truth-made true (e ∙ ap Truth q)

@@ -19,8 +19,8 @@ use Rattle.rl_spec.specs.Records.{paramAt, functionAt}
 use Rattle.rl_spec.specs.Message.{refinementText, defaultText}
 use Rattle.rl_spec.specs.Make.{Context, Make, andThen, _>>=_, give, append, made, newText}
 use Rattle.rl_spec.specs.Lower.{expr, ident, strLit, guard, tokenOf, operandExpr, refinePredicate, refinementGuard}
-use Rattle.rl_theorems.specs.Grows.{Eight}
-use Rattle.rl_theorems.specs.Good.{Later, Anything, good-is, text-good, expr-good, only-grows, _▷_}
+use Rattle.rl_images.specs.Lowering.Grows.{Eight}
+use Rattle.rl_images.specs.Lowering.GrowsTo.{Later, Anything, good-is, text-good, expr-good, only-grows, _▷_}
 use Rattle.rl_context.specs.Does.{State, nothing, all, Does, Pushes}
 use Rattle.rl_context.proofs.Composed.{does-bind, does-push}
 use Rattle.rl_context.proofs.More.{More, more-give, more-bind, more-append, more-text, keeps-more}

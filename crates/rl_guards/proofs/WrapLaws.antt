@@ -2,11 +2,10 @@
 -- Assumes nothing.
 use Prim.Native.Nat.{ℕ}
 use mathlib.Core.Path.{_≡_, refl, sym, _∙_, subst}
-use mathlib.Core.Bool.{Bool, true, false}
+use mathlib.Core.Bool.{Bool, true, false, cond}
 use mathlib.Core.List.{List, [], _∷_, _++_, append-assoc}
 use native.Mathlib.Omega.{arith}
 use Rattle.rl_spec.specs.declared.Clause.{Clause}
-use Rattle.rl_spec.specs.Bytes.{pick}
 use Rattle.rl_spec.specs.Image.{Image}
 use Rattle.rl_spec.specs.Tree.{ascii}
 use Rattle.rl_spec.specs.Message.{decimal}
@@ -14,7 +13,7 @@ use Rattle.rl_spec.specs.Make.{Make, _>>=_, give, takeTemp, each}
 use Rattle.rl_spec.specs.Lower.{ident, unwrapCall, isErrCall, onlyIf, clauseGuard, declare, returnOf, skipErr, wrapAs, wrapReturn}
 use Rattle.rl_context.specs.Does.{State, nothing, one, all, Does, Pushes}
 use Rattle.rl_context.proofs.Composed.{Keeps, does-bind, does-then, does-give, does-push}
-use Rattle.rl_context.proofs.More.{More, more-give, more-bind, more-self, more-pick, more-each, keeps-more, keeps-one, keeps-all}
+use Rattle.rl_context.proofs.More.{More, more-give, more-bind, more-self, more-cond, more-each, keeps-more, keeps-one, keeps-all}
 use Rattle.rl_context.proofs.MoreLower.{more-ident, more-call, more-only-if, more-clause, more-declare, more-return, more-skip, more-wrap-as}
 use Rattle.rl_context.proofs.NodesMade.{assoc, does-none, does-only}
 use Rattle.rl_context.proofs.StatementsMade.{does-by-result}
@@ -34,21 +33,21 @@ skip-err-does {check = check} {skip = skip} temp d e f g p =
     from-call c = more-bind (more-return temp) (from-return c)
 
 module _ {im : Image} {s : State} (temp : List ℕ) (b : Bool) where
-  pub skip-some : {t : State} → b ≡ true → Gathers im 0 (skipErr temp) s t → Gathers im 0 (pick b (skipErr temp) (give [])) s t
-  skip-some {t} e g = subst (λ z. Gathers im 0 (pick z (skipErr temp) (give [])) s t) (sym e) g
+  pub skip-some : {t : State} → b ≡ true → Gathers im 0 (skipErr temp) s t → Gathers im 0 (cond b (skipErr temp) (give [])) s t
+  skip-some {t} e g = subst (λ z. Gathers im 0 (cond z (skipErr temp) (give [])) s t) (sym e) g
 
-  pub skip-none : b ≡ false → Gathers im 0 (pick b (skipErr temp) (give [])) s s
-  skip-none e = subst (λ z. Gathers im 0 (pick z (skipErr temp) (give [])) s s) (sym e) ([], does-none s)
+  pub skip-none : b ≡ false → Gathers im 0 (cond b (skipErr temp) (give [])) s s
+  skip-none e = subst (λ z. Gathers im 0 (cond z (skipErr temp) (give [])) s s) (sym e) ([], does-none s)
 
   module _ {t : State} {n : ℕ} (d : Makes im (ident temp) s n t) where
-    inner-then : {u : State} {a : ℕ} → Makes im (pick b (unwrapCall n) (give n)) t a u → Makes im (innerOf temp b) s a u
-    inner-then e = does-bind d (keeps-more nothing (λ m. more-pick b (more-call _ m) (more-give m))) e
+    inner-then : {u : State} {a : ℕ} → Makes im (cond b (unwrapCall n) (give n)) t a u → Makes im (innerOf temp b) s a u
+    inner-then e = does-bind d (keeps-more nothing (λ m. more-cond b (more-call _ m) (more-give m))) e
 
     pub inner-unwrapped : {u : State} {a : ℕ} → b ≡ true → Makes im (unwrapCall n) t a u → Makes im (innerOf temp b) s a u
-    inner-unwrapped {u} {a} e f = inner-then (subst (λ z. Makes im (pick z (unwrapCall n) (give n)) t a u) (sym e) f)
+    inner-unwrapped {u} {a} e f = inner-then (subst (λ z. Makes im (cond z (unwrapCall n) (give n)) t a u) (sym e) f)
 
     pub inner-plain : b ≡ false → Makes im (innerOf temp b) s n t
-    inner-plain e = inner-then (subst (λ z. Makes im (pick z (unwrapCall n) (give n)) t n t) (sym e) (does-give im 0 n t))
+    inner-plain e = inner-then (subst (λ z. Makes im (cond z (unwrapCall n) (give n)) t n t) (sym e) (does-give im 0 n t))
 
 -- ---- the whole, each statement put ahead of those that come after it
 
@@ -60,7 +59,7 @@ module _ (temp : List ℕ) (b : Bool) (value : ℕ) (ensures : List Clause) wher
   guards = each (clauseGuard (ascii "ensures violated")) ensures
 
   abbrev skips : Make (List ℕ)
-  skips = pick b (skipErr temp) (give [])
+  skips = cond b (skipErr temp) (give [])
 
   -- what is left, with what is made of its statements
   abbrev from-last : (List ℕ → List ℕ) → Make (List ℕ)
@@ -104,8 +103,8 @@ module _ (temp : List ℕ) (b : Bool) (value : ℕ) (ensures : List Clause) wher
   wrap-is : wrapAs temp b value ensures ≡ (declare temp value >>= λ dec. from-skip (λ l. dec ∷ l))
   unfolding wrapAs
   wrap-is =
-      (λ i. declare temp value >>= λ dec. skips >>= λ skip. ident temp >>= λ n. pick b (unwrapCall n) (give n) >>= λ v. declare (ascii "ret") v >>= λ ret. guards >>= λ ns. returnOf temp >>= λ s. give (append-assoc (dec ∷ skip) (ret ∷ ns) (s ∷ []) i))
-      ∙ bind-same (declare temp value) (λ dec. bind-same skips (λ skip. sym (assoc (ident temp) (λ n. pick b (unwrapCall n) (give n)) (λ v. from-ret v (λ l. dec ∷ (skip ++ l))))))
+      (λ i. declare temp value >>= λ dec. skips >>= λ skip. ident temp >>= λ n. cond b (unwrapCall n) (give n) >>= λ v. declare (ascii "ret") v >>= λ ret. guards >>= λ ns. returnOf temp >>= λ s. give (append-assoc (dec ∷ skip) (ret ∷ ns) (s ∷ []) i))
+      ∙ bind-same (declare temp value) (λ dec. bind-same skips (λ skip. sym (assoc (ident temp) (λ n. cond b (unwrapCall n) (give n)) (λ v. from-ret v (λ l. dec ∷ (skip ++ l))))))
 
   more-last : More (from-last same)
   more-last = more-bind (more-return temp) (λ s. more-give _)
@@ -117,12 +116,12 @@ module _ (temp : List ℕ) (b : Bool) (value : ℕ) (ensures : List Clause) wher
   more-ret v = more-bind (more-declare _ v) (λ r. more-bind (more-each (more-clause _) ensures) (λ ns. more-bind (more-return temp) (λ s. more-give _)))
 
   more-inner : More (from-inner same)
-  more-inner = more-bind (more-bind (more-ident temp) (λ n. more-pick b (more-call _ n) (more-give n))) more-ret
+  more-inner = more-bind (more-bind (more-ident temp) (λ n. more-cond b (more-call _ n) (more-give n))) more-ret
 
   more-skips : More (from-skip same)
   more-skips =
-      more-bind (more-pick b (more-skip temp) (more-give []))
-      (λ ns. more-bind (more-bind (more-ident temp) (λ n. more-pick b (more-call _ n) (more-give n))) (λ v. more-bind (more-declare _ v) (λ r. more-bind (more-each (more-clause _) ensures) (λ ms. more-bind (more-return temp) (λ s. more-give _)))))
+      more-bind (more-cond b (more-skip temp) (more-give []))
+      (λ ns. more-bind (more-bind (more-ident temp) (λ n. more-cond b (more-call _ n) (more-give n))) (λ v. more-bind (more-declare _ v) (λ r. more-bind (more-each (more-clause _) ensures) (λ ms. more-bind (more-return temp) (λ s. more-give _)))))
 
   -- one, or some, and then what is left
   ahead : {im : Image} {j : ℕ} {s t u : State} {n : ℕ} {m : Make ℕ} (rest : (List ℕ → List ℕ) → Make (List ℕ)) → ((g h : List ℕ → List ℕ) → (rest h >>= λ l. give (g l)) ≡ rest (λ l. g (h l))) → More (rest same) →

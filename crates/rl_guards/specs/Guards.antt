@@ -1,11 +1,10 @@
 -- What guards and wrapped returns promise.
 use Prim.Native.Nat.{ℕ, _+_, _<_}
 use mathlib.Core.Path.{_≡_}
-use mathlib.Core.Bool.{Bool}
+use mathlib.Core.Bool.{Bool, cond}
 use mathlib.Core.List.{List, [], _∷_, map}
 use Rattle.rl_spec.specs.declared.Clause.{Clause}
 use Rattle.rl_spec.specs.declared.Interval.{Interval}
-use Rattle.rl_spec.specs.Bytes.{pick}
 use Rattle.rl_spec.specs.declared.RefineOp as op
 use Rattle.rl_spec.specs.declared.RefineOperand as operand
 use Rattle.rl_spec.specs.Folded.{opOf}
@@ -40,7 +39,7 @@ guardOf copy msg = do
 abbrev pub innerOf : List ℕ → Bool → Make ℕ
 innerOf temp isResult = do
   n ← ident temp
-  pick isResult (unwrapCall n) (give n)
+  cond isResult (unwrapCall n) (give n)
 
 abbrev pub clausesIn : Image → Interval → List Clause
 clausesIn im clauses = map (clauseAt im) (numbersIn clauses)
@@ -62,7 +61,7 @@ pub data Leaf : ℕ → Type 0 where
 abbrev pub leafOf : Image → RefineOperand ℕ → Make (ℕ × ℕ)
 leafOf im (integer v) = give (17, bits64 v)
 leafOf im (str s) = newText (textOf im s) >>= λ t. give (25, t)
-leafOf im (bool b) = give (26, pick b 1 0)
+leafOf im (bool b) = give (26, cond b 1 0)
 leafOf im (param p) = newText (textOf im p) >>= λ t. give (30, t)
 
 -- the copy of a comparison: its operands' records, and the comparison of these

@@ -8,8 +8,8 @@ use rl_spec::Interval;
 use rl_text_out::put_number;
 use rl_text_out::put_text;
 ghost use mathlib.Core.Path.{_≡_};
+ghost use mathlib.Core.Bool.{cond};
 ghost use mathlib.Core.List.{[]};
-ghost use Rattle.rl_spec.specs.Bytes.{pick};
 ghost use Rattle.rl_spec.specs.Found.{imageFound};
 ghost use Rattle.rl_spec.specs.Image.{Image};
 ghost use Rattle.rl_spec.specs.Make.{give};
@@ -32,7 +32,7 @@ fn skip_err(temp: &[u8], scratch: &mut [u8], waiting: &mut [u16], ctx: Ctx) -> C
 
 // Of a result function only.
 fn skip_of(temp: &[u8], is_result: bool, scratch: &mut [u8], waiting: &mut [u16], ctx: Ctx) -> Ctx
-    ensures { λ r. ⌜ ((im : Image) → Gathers im 0 (pick «is_result» (skipErr (now (temp .entry))) (give [])) (at ctx (now (scratch .entry)) (now (waiting .entry))) (at r (now (scratch .exit)) (now (waiting .exit)))) ⌝ }
+    ensures { λ r. ⌜ ((im : Image) → Gathers im 0 (cond «is_result» (skipErr (now (temp .entry))) (give [])) (at ctx (now (scratch .entry)) (now (waiting .entry))) (at r (now (scratch .exit)) (now (waiting .exit)))) ⌝ }
 {
     if is_result {
         return skip_err(temp, scratch, waiting, ctx);

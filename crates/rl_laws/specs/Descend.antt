@@ -2,11 +2,10 @@
 -- Assumes nothing.
 use Prim.Native.Nat.{ℕ, zero, suc, _≤_, _<_}
 use mathlib.Core.Path.{_≡_, refl, ap, fun-ext}
-use mathlib.Core.Bool.{Bool, true, false}
+use mathlib.Core.Bool.{Bool, true, false, cond}
 use native.Mathlib.Omega.{arith}
 use lib.Dec.{ltb}
 use borrow.Author.Tests.{ltb-true, lt-ltb, le-ltb}
-use Rattle.rl_spec.specs.Bytes.{pick}
 use Rattle.rl_spec.specs.Image.{Image}
 use Rattle.rl_spec.specs.Tree.{Expr, other, below, descendBy, descend, formOf, treeBy, exprTree}
 use Rattle.rl_spec.specs.Statement.{aStatement, otherStatement, statementOf, itemBy, itemTree}
@@ -14,7 +13,7 @@ use Rattle.rl_spec.specs.Statement.{aStatement, otherStatement, statementOf, it
 below-same : {X : Type 0} (i : ℕ) (d : X) (f g : ℕ → X) → ((j : ℕ) → j < i → f j ≡ g j) → below i d f ≡ below i d g
 below-same {X} i d f g h = fun-ext (λ j. go j (ltb j i) refl)
   where
-    go : (j : ℕ) (b : Bool) → ltb j i ≡ b → pick b (f j) d ≡ pick b (g j) d
+    go : (j : ℕ) (b : Bool) → ltb j i ≡ b → cond b (f j) d ≡ cond b (g j) d
     go j true e = h j (ltb-true j i e)
     go j false e = refl
 

@@ -1,5 +1,9 @@
+-- ---- tests and ranges
 pub mod Tests
 pub mod Ranges
+-- ---- records that are found, the trees of an image and their heights
 pub mod Found
 pub mod Descend
 pub mod Heights
+-- ---- the steps of a run
+pub mod Steps

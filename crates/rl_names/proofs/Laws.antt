@@ -2,7 +2,7 @@
 -- Assumes nothing.
 use Prim.Native.Nat.{ℕ, suc, _+_, _-_, _*_, _≤_, _<_}
 use mathlib.Core.Path.{_≡_, refl, sym, ap, _∙_}
-use mathlib.Core.Bool.{Bool, true, false}
+use mathlib.Core.Bool.{Bool, true, false, cond}
 use mathlib.Core.List.{List, [], _∷_}
 use mathlib.Core.Option.{some}
 use native.Mathlib.Omega.{arith}
@@ -11,7 +11,6 @@ use lib.ListN.{length, getD, set}
 use borrow.Author.Tests.{eq-eqb, ne-eqb}
 use Rattle.rl_spec.specs.declared.Folded.{Folded}
 use Rattle.rl_spec.specs.declared.Folded.the-variants.{Value, Nothing}
-use Rattle.rl_spec.specs.Bytes.{pick}
 use Rattle.rl_spec.specs.Folded.{asConst, asFolded}
 use Rattle.rl_spec.specs.Words.{sortWordOf, payloadWordOf, wordsValue}
 use Rattle.rl_spec.specs.Fold.{Binding, lookup}
@@ -25,7 +24,7 @@ module _ (cs w : List ℕ) (t k class : ℕ) (whole : Folded) (v : whole ≡ loo
   walk-end h = let z : k ≡ 0 = omega arith in sym (v ∙ rw z refl)
 
   module _ (h : 0 < k) (name other : ℕ) (p : name ≡ getD w ((k - 1) * 3) 0) (q : other ≡ getD cs name 0) where
-    step : whole ≡ pick (eqb other class) (wordsValue (getD w ((k - 1) * 3 + 1) 0) (getD w ((k - 1) * 3 + 2) 0)) (lookupIn cs w t (k - 1))
+    step : whole ≡ cond (eqb other class) (wordsValue (getD w ((k - 1) * 3 + 1) 0) (getD w ((k - 1) * 3 + 2) 0)) (lookupIn cs w t (k - 1))
     unfolding lookupIn
     step =
         let z : k ≡ suc (k - 1) = omega arith in
@@ -54,6 +53,6 @@ module _ (bytes : ℕ → List ℕ) (cs w : List ℕ) (t : ℕ) where
   walk-is [] h = refl
   walk-is (b ∷ env) h = rw (h .0, h .1 .0, walk-is env (h .1 .1 .1), h .1 .1 .0 t) (either (eqb (getD cs (b .name) 0) (getD cs t 0)))
     where
-      either : (x : Bool) → pick x (Value (asConst (b .value))) (asFolded (lookup bytes env t)) ≡ asFolded (pick x (some (b .value)) (lookup bytes env t))
+      either : (x : Bool) → cond x (Value (asConst (b .value))) (asFolded (lookup bytes env t)) ≡ asFolded (cond x (some (b .value)) (lookup bytes env t))
       either true = refl
       either false = refl

@@ -2,12 +2,12 @@
 -- Assumes nothing.
 use Prim.Native.Nat.{ℕ, zero, suc, _+_, _*_}
 use mathlib.Core.Path.{_≡_}
+use mathlib.Core.Bool.{cond}
 use mathlib.Core.List.{List, [], _∷_}
 use lib.ListN.{length, getD, set}
 use lib.Dec.{eqb}
 use Rattle.rl_spec.specs.declared.Folded.{Folded}
 use Rattle.rl_spec.specs.declared.Folded.the-variants.{Value, Nothing}
-use Rattle.rl_spec.specs.Bytes.{pick}
 use Rattle.rl_spec.specs.Values.{sameText}
 use Rattle.rl_spec.specs.Folded.{asConst}
 use Rattle.rl_spec.specs.Words.{sortWordOf, payloadWordOf, wordsValue}
@@ -21,7 +21,7 @@ Classes bytes cs = (a b : ℕ) → sameText (bytes a) (bytes b) ≡ eqb (getD cs
 unfoldable pub lookupIn : List ℕ → List ℕ → ℕ → ℕ → Folded
 lookupIn cs w t zero = Nothing
 lookupIn cs w t (suc k) =
-    pick (eqb (getD cs (getD w (k * 3) 0) 0) (getD cs t 0)) (wordsValue (getD w (k * 3 + 1) 0) (getD w (k * 3 + 2) 0))
+    cond (eqb (getD cs (getD w (k * 3) 0) 0) (getD cs t 0)) (wordsValue (getD w (k * 3 + 1) 0) (getD w (k * 3 + 2) 0))
     (lookupIn cs w t k)
 
 -- the words of a binding

@@ -2,7 +2,7 @@
 -- Assumes nothing.
 use Prim.Native.Nat.{ℕ, suc, _+_, _-_, _≤_, _<_}
 use mathlib.Core.Path.{_≡_, refl, sym, ap, _∙_}
-use mathlib.Core.Bool.{Bool, true, false, _||_}
+use mathlib.Core.Bool.{Bool, true, false, cond, _||_}
 use mathlib.Core.List.{List, map}
 use mathlib.Core.Option.{some}
 use native.Mathlib.Omega.{arith}
@@ -14,7 +14,6 @@ use Rattle.rl_spec.specs.declared.Function.{Function}
 use Rattle.rl_spec.specs.declared.Param.{Param}
 use Rattle.rl_spec.specs.declared.ParamRefinement.{ParamRefinement}
 use Rattle.rl_spec.specs.declared.ParamRefinement.the-variants.{Unrefined, Refined}
-use Rattle.rl_spec.specs.Bytes.{pick}
 use Rattle.rl_spec.specs.Image.{Image, textOf}
 use Rattle.rl_spec.specs.Values.{sameText}
 use Rattle.rl_spec.specs.Found.{imageFound}
@@ -110,7 +109,7 @@ module _ (s : List ℕ) (c : Counts) (cs : List ℕ) (name most : ℕ) where
     seeks-end h p k = let z : n ≡ 0 = omega arith in sym (l p k ∙ rw z refl)
 
     module _ (h : 0 < n) (r : Bool) (g : Is s c cs name (n - 1) r) where
-      step-back : (p : List ℕ) → Classes (textOf (imageFound s p c)) cs → calleeAmong (imageFound s p c) (textOf (imageFound s p c) name) most ≡ pick r (some (n - 1)) (calleeAmong (imageFound s p c) (textOf (imageFound s p c) name) (n - 1))
+      step-back : (p : List ℕ) → Classes (textOf (imageFound s p c)) cs → calleeAmong (imageFound s p c) (textOf (imageFound s p c) name) most ≡ cond r (some (n - 1)) (calleeAmong (imageFound s p c) (textOf (imageFound s p c) name) (n - 1))
       unfolding calleeAmong
       step-back p k =
           let z : n ≡ suc (n - 1) = omega arith in

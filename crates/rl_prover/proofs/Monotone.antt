@@ -7,7 +7,6 @@ use mathlib.Core.List.{List, [], _∷_}
 use mathlib.Core.Option.{Option, none, some}
 use lib.Dec.{T, eqb}
 use borrow.Author.Tests.{eqb-true}
-use Rattle.rl_spec.specs.Bytes.{pick}
 use Rattle.rl_spec.specs.Values.{ConstVal, sameText}
 use Rattle.rl_spec.specs.Tree.{Expr, null, literal, identifier, unary, binary, grouping, assign, okLiteral, errLiteral, isErr, resultUnwrap, other}
 use Rattle.rl_spec.specs.Fold.{Binding, unaryFolded, binaryFolded, lookup, constEval}
@@ -45,7 +44,7 @@ module _ {A : Type 0} (bytes : A → List ℕ) where
     unfolding lookup
     fresh x v e = go (sameText (bytes (b .name)) (bytes x)) refl
       where
-        go : (t : Bool) → sameText (bytes (b .name)) (bytes x) ≡ t → pick t (some (b .value)) (lookup bytes env x) ≡ some v
+        go : (t : Bool) → sameText (bytes (b .name)) (bytes x) ≡ t → cond t (some (b .value)) (lookup bytes env x) ≡ some v
         go true p = not-some v (sym n ∙ same-lookup env (b .name) x (same-bytes (bytes (b .name)) (bytes x) p) ∙ e)
         go false p = e
 

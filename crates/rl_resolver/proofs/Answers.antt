@@ -2,7 +2,7 @@
 -- Assumes nothing.
 use Prim.Native.Nat.{ℕ, _+_, _-_, _<_, _≤_}
 use mathlib.Core.Path.{_≡_, refl, ap, sym, subst, _∙_}
-use mathlib.Core.Bool.{Bool, true, false, not, _||_}
+use mathlib.Core.Bool.{Bool, true, false, not, cond, _||_}
 use mathlib.Core.List.{List, [], _++_, append-assoc}
 use mathlib.Core.Option.{Option, none, some}
 use native.Mathlib.Omega.{arith}
@@ -22,7 +22,6 @@ use Rattle.rl_spec.specs.declared.LowerAnswer.{LowerAnswer}
 use Rattle.rl_spec.specs.declared.LowerAnswer.the-variants as answer
 use Rattle.rl_spec.specs.declared.Section.{Section}
 use Rattle.rl_spec.specs.declared.Section.the-variants.{Expressions, Statements}
-use Rattle.rl_spec.specs.Bytes.{pick}
 use Rattle.rl_spec.specs.Schema.{countOf}
 use Rattle.rl_spec.specs.Read.{answerOf, workOf, startsOf}
 use Rattle.rl_spec.specs.Image.{Image, recordsOf, encode, imageOf, heights, AllBytes}
@@ -30,13 +29,13 @@ use Rattle.rl_spec.specs.Fold.{workUnless}
 use Rattle.rl_spec.specs.Found.{imageFound}
 use Rattle.rl_spec.specs.Lower.{lowered}
 use Rattle.rl_spec.specs.Lowerer.{Lowering, made, refused, anyOver, tooTall, orLimit, lowerBy, lowerOf, lowerAnswer, lowerNumber, lowerOut}
-use Rattle.rl_theorems.specs.Accepted.{accepted-work}
-use Rattle.rl_theorems.specs.Filled.{drop-replicate}
-use Rattle.rl_theorems.specs.Found.{found-is-image}
-use Rattle.rl_theorems.specs.Limits.{all-bytes}
-use Rattle.rl_theorems.specs.Loop.{length-heights}
-use Rattle.rl_theorems.specs.Refusals.{zeros-unless, refused-work}
-use Rattle.rl_theorems.specs.Starts.{sizes-are-counts}
+use Rattle.rl_images.specs.Encoding.Accepted.{accepted-work}
+use Rattle.rl_images.specs.Reading.Filled.{drop-replicate}
+use Rattle.rl_images.specs.Reading.Found.{found-is-image}
+use Rattle.rl_images.specs.Images.Limits.{all-bytes}
+use Rattle.rl_images.specs.Encoding.SectionLoop.{length-heights}
+use Rattle.rl_images.specs.Reading.Refusals.{zeros-unless, refused-work}
+use Rattle.rl_images.specs.Reading.Starts.{sizes-are-counts}
 use Rattle.rl_assemble.specs.Pieces.{Source}
 use Rattle.rl_assemble.proofs.Accepted.{accepted-source}
 use Rattle.rl_resolver.specs.declared.checks.Admission.{Admission}
@@ -52,11 +51,11 @@ IsRefused (Refused q) = Unit {0}
 
 abbrev Checked : Bool → Bool → Bool → Admission
 Checked b c d =
-    pick b (Refused NoSuchFunction) (pick c (Refused HeightOverLimit) (pick d (Refused OutputTooShort) Admitted))
+    cond b (Refused NoSuchFunction) (cond c (Refused HeightOverLimit) (cond d (Refused OutputTooShort) Admitted))
 
 as-checked : (b c d : Bool) (r : Lowering) →
     orRefused (Checked b c d) r
-    ≡ pick b (refused NoSuchFunction 0) (pick c (refused HeightOverLimit 0) (pick d (refused OutputTooShort 0) r))
+    ≡ cond b (refused NoSuchFunction 0) (cond c (refused HeightOverLimit 0) (cond d (refused OutputTooShort 0) r))
 as-checked true c d r = refl
 as-checked false true d r = refl
 as-checked false false true r = refl

@@ -14,8 +14,8 @@ use Rattle.rl_spec.specs.Image.{Rec, Image, encodeRecords, WellFormed}
 use Rattle.rl_spec.specs.Found.{imageFound}
 use Rattle.rl_spec.specs.Records.{functionAt}
 use Rattle.rl_spec.specs.Lower.{start}
-use Rattle.rl_theorems.specs.Known.{counts}
-use Rattle.rl_theorems.specs.Limits.{size-within}
+use Rattle.rl_images.specs.Encoding.ReaderKnows.{counts}
+use Rattle.rl_images.specs.Images.Limits.{size-within}
 use Rattle.rl_context.specs.Additions.{none-new, grown, Counted, Kept, Waiting, Live}
 use Rattle.rl_context.specs.declared.Ctx.{Ctx}
 use Rattle.rl_assemble.specs.Pieces.{Source}

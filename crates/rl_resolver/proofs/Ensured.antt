@@ -2,7 +2,7 @@
 -- Assumes nothing.
 use Prim.Native.Nat.{ℕ, zero, suc, _+_, _-_, _≤_, _<_, min}
 use mathlib.Core.Path.{_≡_, refl, ap, ap₂, sym, _∙_, subst}
-use mathlib.Core.Bool.{Bool, true, false, not, _&&_}
+use mathlib.Core.Bool.{Bool, true, false, not, cond, _&&_}
 use mathlib.Core.List.{List, [], _∷_, _++_, map, append-nil}
 use mathlib.Core.Option.{Option, none, some}
 use native.Mathlib.Omega.{arith}
@@ -15,7 +15,6 @@ use Rattle.rl_spec.specs.declared.Counts.{Counts}
 use Rattle.rl_spec.specs.declared.Clause.{Clause}
 use Rattle.rl_spec.specs.declared.Interval.{Interval}
 use Rattle.rl_spec.specs.declared.Section.the-variants.{Lists, Statements}
-use Rattle.rl_spec.specs.Bytes.{pick}
 use Rattle.rl_spec.specs.Image.{Image, recordsOf, sizeOf, noRecord, recordOf, entryOf}
 use Rattle.rl_spec.specs.Found.{imageFound}
 use Rattle.rl_spec.specs.Tree.{ascii, number}
@@ -26,8 +25,8 @@ use Rattle.rl_spec.specs.Make.{Context, Make, andThen, _>>=_, give, fail, count
 use Rattle.rl_spec.specs.Lower.{ident, unwrapCall, clauseGuard, declare, returnOf, skipErr, wrapAs, wrapReturn, transformStatement, lastOf, wrapTrailing, ensuredBody}
 use Rattle.rl_laws.specs.Tests.{by-eqb}
 use Rattle.rl_laws.specs.Found.{size-found}
-use Rattle.rl_theorems.specs.Making.{Gives, stops, gives, after, weaker, by-pick, given-is}
-use Rattle.rl_theorems.specs.LastBare.{Last, last-bare}
+use Rattle.rl_images.specs.Lowering.Gives.{Gives, stops, gives, after, weaker, by-cond, given-is}
+use Rattle.rl_images.specs.Lowering.LastBare.{Last, last-bare}
 use Rattle.rl_context.specs.declared.Ctx.{Ctx}
 use Rattle.rl_context.specs.Additions.{waitingWith, Waiting, Live}
 use Rattle.rl_context.specs.Does.{State, at, nothing, all, Over, Ends, Start, Does}
@@ -58,9 +57,9 @@ some-as : (temp : List ℕ) (r : Bool) (value : ℕ) (ensures : List Clause) (x 
 unfolding wrapAs
 some-as temp r value ensures x =
     after (any (declare temp value x)) (λ dec d _.
-    after (any (pick r (skipErr temp) (give []) d)) (λ skip e _.
+    after (any (cond r (skipErr temp) (give []) d)) (λ skip e _.
     after (any (ident temp e)) (λ n f _.
-    after (any (pick r (unwrapCall n) (give n) f)) (λ inner g _.
+    after (any (cond r (unwrapCall n) (give n) f)) (λ inner g _.
     after (any (declare (ascii "ret") inner g)) (λ ret h _.
     after (any (each (clauseGuard (ascii "ensures violated")) ensures h)) (λ guards i _.
     after (any (returnOf temp i)) (λ s j _. gives (ends-some (dec ∷ skip ++ ret ∷ guards) s))))))))
@@ -72,7 +71,7 @@ some-wrapped value ensures x = some-as (ascii "__ensure_ret_" ++ decimal (x .tem
 trailing-long : (ensures : List Clause) (b : List ℕ) (y : Context) → Gives (λ r z. AsMany y z × (length b ≤ length r)) (wrapTrailing ensures b y)
 unfolding wrapTrailing
 trailing-long ensures b y =
-    by-pick (endsBare (y .image) b) (wrapReturn (number (lastOf (y .image) b) 1) ensures >>= λ seq. give (seq ++ take (length b - 1) b)) (give b) y
+    by-cond (endsBare (y .image) b) (wrapReturn (number (lastOf (y .image) b) 1) ensures >>= λ seq. give (seq ++ take (length b - 1) b)) (give b) y
     (λ _.
     after (both (more-wrap (number (lastOf (y .image) b) 1) ensures .more y) (some-wrapped (number (lastOf (y .image) b) 1) ensures y)) (λ seq z h.
     gives (h .0, rw (length-append seq (take (length b - 1) b), length-take-le (length b - 1) b (omega arith)) (omega (arith, h .1)))))
@@ -156,7 +155,7 @@ module _ (s p : List ℕ) (c : Counts) (rows : List ℕ) (body ensured : Interva
   unfolding upFrom flatMap
   walk-same zero a h = refl
   walk-same (suc n) a h =
-      λ i x. andThen (ap (λ b. pick b (transformStatement es (entryOf of a)) fail) (lt-ltb (entryOf of a) (c .statements) (subst (λ z. entryOf of z < c .statements) (add-zero a) (h 0 (omega arith)))) i x)
+      λ i x. andThen (ap (λ b. cond b (transformStatement es (entryOf of a)) fail) (lt-ltb (entryOf of a) (c .statements) (subst (λ z. entryOf of z < c .statements) (add-zero a) (h 0 (omega arith)))) i x)
       (λ bs. walk-same n (a + 1) (λ j l. subst (λ z. entryOf of z < c .statements) (next a j) (h (suc j) (omega arith))) i >>= λ cs. give (bs ++ cs))
     where
       next : (a b : ℕ) → a + suc b ≡ a + 1 + b
@@ -207,7 +206,7 @@ module _ (s p : List ℕ) (c : Counts) (rows : List ℕ) (body ensured : Interva
         aside-then of ctx scratch waiting side long done scratch′ side′ (flatMap (transformStatement es) numbers) ss through (wrapTrailing es) (trailing-long es) ss t
         (λ f. stays-full w f)
         (λ x y ws l e m f v.
-        subst (λ z. Ends of 0 all ws z ss t) (sym (ap (λ z. pick z (wrapReturn (number (lastOf (y .image) ss) 1) es >>= λ seq. give (seq ++ take (length ss - 1) ss)) (give ss) y) (bare-then x y ws l e ∙ b)))
+        subst (λ z. Ends of 0 all ws z ss t) (sym (ap (λ z. cond z (wrapReturn (number (lastOf (y .image) ss) 1) es >>= λ seq. give (seq ++ take (length ss - 1) ss)) (give ss) y) (bare-then x y ws l e ∙ b)))
         (subst (λ z. Ends of 0 all ws (some (z, y)) z t) (whole y m)
         (w .does ws (some (tt, y)) (ends-live f (subst (λ z. Live of 0 y z (waitingWith done (ctx .waiting)) scratch′ waiting) (sym (append-nil ws)) v)))))
         (more-flat (more-statement es) numbers)
@@ -246,7 +245,7 @@ module _ (s p : List ℕ) (c : Counts) (rows : List ℕ) (body ensured : Interva
         wrapped : (x y : Context) (ws : List ℕ) → Live of 0 x ws ctx scratch waiting → flatMap (transformStatement es) numbers x ≡ some (ss, y) → Live of 0 y ss done scratch′ side′ →
             wrapTrailing es ss y ≡ (wrapReturn value es >>= λ z. give (z ++ take most side′)) y
         wrapped x y ws l e m =
-            ap (λ z. pick z (wrapReturn (number (lastOf (y .image) ss) 1) es >>= λ k. give (k ++ take (length ss - 1) ss)) (give ss) y) (bare-then x y ws l e ∙ b)
+            ap (λ z. cond z (wrapReturn (number (lastOf (y .image) ss) 1) es >>= λ k. give (k ++ take (length ss - 1) ss)) (give ss) y) (bare-then x y ws l e ∙ b)
             ∙ ap₂ (λ z k. (wrapReturn z es >>= λ i. give (i ++ k)) y) (ap (λ r. number r 1) (lasts x ws l y ss e .kept (same-bare x ws l ∙ b)) ∙ same-value x ws l ∙ sym g)
             (sym (stood y m (length ss - 1) (omega arith)) ∙ ap (λ n. take n side′) (sym (q ∙ ap (λ n. n - 1) (counted-all y m))))
 

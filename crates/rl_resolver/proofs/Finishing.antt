@@ -2,7 +2,7 @@
 -- Assumes nothing.
 use Prim.Native.Nat.{ℕ, _+_, _≤_, _<_}
 use mathlib.Core.Path.{_≡_, refl, ap, sym, subst, _∙_}
-use mathlib.Core.Bool.{Bool, true, false}
+use mathlib.Core.Bool.{Bool, true, false, cond}
 use mathlib.Core.List.{List, [], _∷_, _++_}
 use mathlib.Core.Option.{Option, none, some}
 use native.Mathlib.Omega.{arith}
@@ -12,15 +12,14 @@ use borrow.Author.Tests.{ltb-false}
 use Rattle.rl_spec.specs.declared.Counts.{Counts}
 use Rattle.rl_spec.specs.declared.Interval.{Interval}
 use Rattle.rl_spec.specs.declared.Section.the-variants.{Lists, Functions}
-use Rattle.rl_spec.specs.Bytes.{pick}
 use Rattle.rl_spec.specs.Schema.{limits}
 use Rattle.rl_spec.specs.Image.{Field, num, pair, Image, recordsOf, sizeOf, encode}
 use Rattle.rl_spec.specs.Found.{imageFound}
 use Rattle.rl_spec.specs.Records.{functionAt}
 use Rattle.rl_spec.specs.Make.{Context, made}
 use Rattle.rl_spec.specs.Lower.{hasContracts, newBody, start, withBody, fitting, finished, lowered}
-use Rattle.rl_theorems.specs.Grows.{listRecords, list-gives, records-own}
-use Rattle.rl_theorems.specs.Making.{Gives, stops, gives, after, weaker, given-is}
+use Rattle.rl_images.specs.Lowering.Grows.{listRecords, list-gives, records-own}
+use Rattle.rl_images.specs.Lowering.Gives.{Gives, stops, gives, after, weaker, given-is}
 use Rattle.rl_text_out.specs.Put.{withText, afterText}
 use Rattle.rl_context.specs.declared.Ctx.{Ctx}
 use Rattle.rl_context.specs.Additions.{New, grown, Counted, Kept}
@@ -56,8 +55,8 @@ none-of (gives {a} {c} p) k = absurd (k a c refl p)
 written-none : (out : List ℕ) → Written none out 0 out
 written-none out = record { number = refl; bytes = refl; few = omega arith }
 
-written-by : (im : Image) (out : List ℕ) (n : ℕ) (end : List ℕ) (b : Bool) → ltb 65535 (length (encode im)) ≡ b → n ≡ pick b 0 (length (encode im)) →
-    end ≡ pick b out (encode im ++ drop (length (encode im)) out) → Written (pick b none (some im)) out n end
+written-by : (im : Image) (out : List ℕ) (n : ℕ) (end : List ℕ) (b : Bool) → ltb 65535 (length (encode im)) ≡ b → n ≡ cond b 0 (length (encode im)) →
+    end ≡ cond b out (encode im ++ drop (length (encode im)) out) → Written (cond b none (some im)) out n end
 written-by im out n end true e p q = record { number = p; bytes = q; few = omega (arith, p) }
 written-by im out n end false e p q =
     record { number = p; bytes = q; few = omega (arith, p, ltb-false 65535 (length (encode im)) e) }

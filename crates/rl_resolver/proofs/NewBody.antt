@@ -2,6 +2,7 @@
 -- Assumes nothing.
 use Prim.Native.Nat.{ℕ, _+_, _<_}
 use mathlib.Core.Path.{_≡_, refl, ap, sym, _∙_, subst}
+use mathlib.Core.Bool.{cond}
 use mathlib.Core.List.{List, [], _∷_, _++_, map, append-assoc}
 use mathlib.Core.Option.{Option, none, some}
 use native.Mathlib.Omega.{arith}
@@ -12,7 +13,6 @@ use Rattle.rl_spec.specs.declared.Function.{Function}
 use Rattle.rl_spec.specs.declared.Interval.{Interval}
 use Rattle.rl_spec.specs.declared.Section.the-variants.{Expressions, Statements, Functions}
 use Rattle.rl_spec.specs.declared.Target.the-variants.{Statement}
-use Rattle.rl_spec.specs.Bytes.{pick}
 use Rattle.rl_spec.specs.Image.{pair, Image, sizeOf, entryOf, WellFormed}
 use Rattle.rl_spec.specs.Found.{imageFound}
 use Rattle.rl_spec.specs.Tree.{ascii}
@@ -22,13 +22,13 @@ use Rattle.rl_spec.specs.Contracts.{isEmpty}
 use Rattle.rl_spec.specs.Make.{Context, Make, andThen, _>>=_, give, newList, each, flatMap}
 use Rattle.rl_spec.specs.Lower.{clauseGuard, refinementGuard, ensuredBody, desugarFnContracts, paramsIn, requiresIn, ensuresIn, bodyIn, newBody}
 use Rattle.rl_laws.specs.Found.{size-found}
-use Rattle.rl_theorems.specs.FunctionViews.{function-fits}
+use Rattle.rl_images.specs.Images.FunctionFields.{function-fits}
 use Rattle.rl_schema.specs.Codes.{table}
 use Rattle.rl_context.specs.declared.Ctx.{Ctx}
 use Rattle.rl_context.specs.Additions.{none-new, grown, Live}
 use Rattle.rl_context.specs.Does.{State, at, nothing, all, Does, Listed}
 use Rattle.rl_context.proofs.Composed.{Keeps, does-then, does-same, does-list}
-use Rattle.rl_context.proofs.More.{More, more-bind, more-give, more-pick, more-each, more-list, keeps-more, keeps-all}
+use Rattle.rl_context.proofs.More.{More, more-bind, more-give, more-cond, more-each, more-list, keeps-more, keeps-all}
 use Rattle.rl_context.proofs.MoreLower.{more-clause, more-ensured, more-desugar}
 use Rattle.rl_guards.specs.Guards.{Gathers, clausesIn, ConditionsIn}
 use Rattle.rl_guards.proofs.Conditions.{required-in, ensured-in}
@@ -48,13 +48,13 @@ module _ (im : Image) (body ensured : Interval) (s t : State) where
       by : ℕ → Make (List ℕ)
       by n =
           let es : List Clause = map (clauseAt im) (upFrom (ensured .first) n) in
-          pick (isEmpty es) (give (entriesIn im body)) (ensuredBody es (entriesIn im body))
+          cond (isEmpty es) (give (entriesIn im body)) (ensuredBody es (entriesIn im body))
 
   pub rest-ensured : (ensured .count ≡ 0 → ⊥) → Gathers im 0 (ensuredBody (clausesIn im ensured) (entriesIn im body)) s t →
       Gathers im 0 (restIn im body ensured) s t
   rest-ensured z g = (
     g .0,
-    subst (λ b. Does im 0 0 all (pick b (give (entriesIn im body)) (ensuredBody (clausesIn im ensured) (entriesIn im body))) s (g .0) t)
+    subst (λ b. Does im 0 0 all (cond b (give (entriesIn im body)) (ensuredBody (clausesIn im ensured) (entriesIn im body))) s (g .0) t)
         (sym (not-empty (clauseAt im) (ensured .first) (ensured .count) z)) (g .1),
   )
 
@@ -154,7 +154,7 @@ module _ (s p : List ℕ) (c : Counts) (f : ℕ) (ctx : Ctx) (fresh : Fresh (ima
   required = each (clauseGuard (ascii "requires violated")) (requiresIn of f)
 
   abbrev rest : Make (List ℕ)
-  rest = pick (isEmpty (ensuresIn of f)) (give (bodyIn of f)) (ensuredBody (ensuresIn of f) (bodyIn of f))
+  rest = cond (isEmpty (ensuresIn of f)) (give (bodyIn of f)) (ensuredBody (ensuresIn of f) (bodyIn of f))
 
   -- with the texts of refinements as they are in an image
   abbrev guarded : Image → Make (List ℕ)
@@ -179,7 +179,7 @@ module _ (s p : List ℕ) (c : Counts) (f : ℕ) (ctx : Ctx) (fresh : Fresh (ima
   body-done g e t u v w first list same x y z listed =
       does-same (newBody of f) keeps-body same-body
       (does-list first same
-      (does-three (more-each (more-clause _) (requiresIn of f)) (more-pick (isEmpty (ensuresIn of f)) (more-give (bodyIn of f)) (more-ensured (ensuresIn of f) (bodyIn of f)))
+      (does-three (more-each (more-clause _) (requiresIn of f)) (more-cond (isEmpty (ensuresIn of f)) (more-give (bodyIn of f)) (more-ensured (ensuresIn of f) (bodyIn of f)))
       (x .1)
       (subst (λ (h : Function). Does of 0 0 all (each (clauseGuard (ascii "requires violated")) (clausesIn of (h .required))) t (y .0) u) (e p) (y .1))
       (subst (λ (h : Function). Does of 0 0 all (restIn of (h .body) (h .ensured)) u (z .0) v) (e p) (z .1)))

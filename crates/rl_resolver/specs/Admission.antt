@@ -1,12 +1,11 @@
 -- The checks of lowering after reading, in the table's order.
 use Prim.Native.Nat.{ℕ}
-use mathlib.Core.Bool.{Bool, not, _||_}
+use mathlib.Core.Bool.{Bool, not, cond, _||_}
 use mathlib.Core.List.{List}
 use lib.Dec.{ltb}
 use lib.ListN.{take, drop}
 use Rattle.rl_spec.specs.declared.Cause.the-variants.{NoSuchFunction, HeightOverLimit, OutputTooShort}
 use Rattle.rl_spec.specs.declared.Counts.{Counts}
-use Rattle.rl_spec.specs.Bytes.{pick}
 use Rattle.rl_spec.specs.Lowerer.{Lowering, anyOver, refused}
 use Rattle.rl_resolver.specs.declared.checks.Admission.{Admission}
 use Rattle.rl_resolver.specs.declared.checks.Admission.the-variants.{Admitted, Refused}
@@ -17,8 +16,8 @@ tallIn w c = anyOver 64 (take (c .expressions) (drop 0 w)) || anyOver 32 (take (
 
 unfoldable pub admissionOf : List ℕ → Counts → ℕ → ℕ → Admission
 admissionOf w c f room =
-    pick (not (ltb f (c .functions))) (Refused NoSuchFunction)
-    (pick (tallIn w c) (Refused HeightOverLimit) (pick (ltb room 65535) (Refused OutputTooShort) Admitted))
+    cond (not (ltb f (c .functions))) (Refused NoSuchFunction)
+    (cond (tallIn w c) (Refused HeightOverLimit) (cond (ltb room 65535) (Refused OutputTooShort) Admitted))
 
 abbrev pub orRefused : Admission → Lowering → Lowering
 orRefused Admitted r = r

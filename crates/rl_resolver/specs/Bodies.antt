@@ -1,14 +1,13 @@
 -- What the parts of a new body promise.
 use Prim.Native.Nat.{ℕ, _+_, _<_}
 use mathlib.Core.Path.{_≡_}
-use mathlib.Core.Bool.{Bool, not, _&&_}
+use mathlib.Core.Bool.{Bool, not, cond, _&&_}
 use mathlib.Core.List.{List, map}
 use lib.Dec.{eqb}
 use lib.ListN.{length}
 use Rattle.rl_spec.specs.declared.Counts.{Counts}
 use Rattle.rl_spec.specs.declared.Section.the-variants.{Texts, Lists, Expressions, Statements}
 use Rattle.rl_spec.specs.declared.Interval.{Interval}
-use Rattle.rl_spec.specs.Bytes.{pick}
 use Rattle.rl_spec.specs.Image.{Image, sizeOf, entryOf}
 use Rattle.rl_spec.specs.Found.{imageFound}
 use Rattle.rl_spec.specs.Ranges.{numbersIn}
@@ -37,7 +36,7 @@ abbrev pub endsBare : Image → List ℕ → Bool
 endsBare im body = not (isEmpty body) && eqb (lastOf im body .kind) 65
 
 abbrev pub restIn : Image → Interval → Interval → Make (List ℕ)
-restIn im body ensured = pick (isEmpty (clausesIn im ensured)) (give (entriesIn im body)) (ensuredBody (clausesIn im ensured) (entriesIn im body))
+restIn im body ensured = cond (isEmpty (clausesIn im ensured)) (give (entriesIn im body)) (ensuredBody (clausesIn im ensured) (entriesIn im body))
 
 -- a body's entries are statements of the image
 abbrev pub BodyFits : List ℕ → List ℕ → Counts → Interval → Type 0

@@ -1,7 +1,7 @@
 -- One law for each way out of `run`. Assumes nothing.
 use Prim.Native.Nat.{ℕ, _<_, _≤_}
 use mathlib.Core.Path.{_≡_, refl, ap, _∙_, sym, subst}
-use mathlib.Core.Bool.{Bool, true, false, _&&_, not}
+use mathlib.Core.Bool.{Bool, true, false, _&&_, not, cond}
 use mathlib.Core.List.{List}
 use native.Mathlib.Omega.{arith}
 use lib.Dec.{ltb, eqb}
@@ -19,19 +19,18 @@ use Rattle.rl_spec.specs.declared.Counts.{Counts}
 use Rattle.rl_spec.specs.declared.RunAnswer.{RunAnswer}
 use Rattle.rl_spec.specs.declared.RunAnswer.the-variants as answer
 use Rattle.rl_spec.specs.declared.Section.the-variants.{Texts}
-use Rattle.rl_spec.specs.Bytes.{pick}
 use Rattle.rl_spec.specs.Read.{answerOf, workOf, startsOf}
 use Rattle.rl_spec.specs.Image.{Image, imageOf}
 use Rattle.rl_spec.specs.Fold.{workUnless}
 use Rattle.rl_spec.specs.Found.{imageFound}
 use Rattle.rl_spec.specs.Records.{functionAt}
 use Rattle.rl_spec.specs.Runner.{isFor, allHave, given, ranIn, runOf, runNumber}
-use Rattle.rl_theorems.specs.Accepted.{accepted-well-formed}
-use Rattle.rl_theorems.specs.Found.{found-is-image}
-use Rattle.rl_theorems.specs.Heights.{found-low}
-use Rattle.rl_theorems.specs.Limits.{texts-within, all-bytes}
-use Rattle.rl_theorems.specs.Refusals.{zeros-unless, refused-work}
-use Rattle.rl_theorems.specs.Starts.{sizes-are-counts}
+use Rattle.rl_images.specs.Encoding.Accepted.{accepted-well-formed}
+use Rattle.rl_images.specs.Reading.Found.{found-is-image}
+use Rattle.rl_images.specs.Images.Heights.{found-low}
+use Rattle.rl_images.specs.Images.Limits.{texts-within, all-bytes}
+use Rattle.rl_images.specs.Reading.Refusals.{zeros-unless, refused-work}
+use Rattle.rl_images.specs.Reading.Starts.{sizes-are-counts}
 use Rattle.rl_machine.specs.Machine.{Low}
 use Rattle.rl_runner.specs.declared.admission.Admission.{Admission}
 use Rattle.rl_runner.specs.declared.admission.Admission.the-variants.{Admitted, Refused}
@@ -45,11 +44,11 @@ IsRefused (Refused q) = Unit {0}
 
 abbrev Checked : Bool → Bool → Bool → Bool → Admission
 Checked b c d e =
-    pick b (Refused NoSuchFunction) (pick c (Refused WrongValues) (pick d (Refused NoSuchText) (pick e (Refused BudgetOverLimit) Admitted)))
+    cond b (Refused NoSuchFunction) (cond c (Refused WrongValues) (cond d (Refused NoSuchText) (cond e (Refused BudgetOverLimit) Admitted)))
 
 as-checked : (b c d e : Bool) (r : RunAnswer) →
     orRefused (Checked b c d e) r
-    ≡ pick b (answer.Refused NoSuchFunction 0) (pick c (answer.Refused WrongValues 0) (pick d (answer.Refused NoSuchText 0) (pick e (answer.Refused BudgetOverLimit 0) r)))
+    ≡ cond b (answer.Refused NoSuchFunction 0) (cond c (answer.Refused WrongValues 0) (cond d (answer.Refused NoSuchText 0) (cond e (answer.Refused BudgetOverLimit 0) r)))
 as-checked true c d e r = refl
 as-checked false true d e r = refl
 as-checked false false true e r = refl

@@ -1,13 +1,12 @@
 -- The checks of the runner after reading, in the table's order. Assumes nothing.
 use Prim.Native.Nat.{ℕ}
-use mathlib.Core.Bool.{not}
+use mathlib.Core.Bool.{not, cond}
 use lib.Dec.{ltb}
 use Rattle.rl_spec.specs.declared.Arguments.{Arguments}
 use Rattle.rl_spec.specs.declared.Cause.the-variants.{NoSuchFunction, WrongValues, NoSuchText, BudgetOverLimit}
 use Rattle.rl_spec.specs.declared.Counts.{Counts}
 use Rattle.rl_spec.specs.declared.RunAnswer.{RunAnswer}
 use Rattle.rl_spec.specs.declared.RunAnswer.the-variants as run
-use Rattle.rl_spec.specs.Bytes.{pick}
 use Rattle.rl_spec.specs.Image.{Image}
 use Rattle.rl_spec.specs.Records.{functionAt}
 use Rattle.rl_spec.specs.Runner.{isFor, allHave, given}
@@ -16,10 +15,10 @@ use Rattle.rl_runner.specs.declared.admission.Admission.the-variants.{Ad
 
 unfoldable pub admissionOf : Image → Counts → ℕ → Arguments → ℕ → Admission
 admissionOf im c f args budget =
-    pick (not (ltb f (c .functions))) (Refused NoSuchFunction)
-    (pick (not (isFor (args .count) (functionAt im f .params .count))) (Refused WrongValues)
-    (pick (not (allHave c (given args))) (Refused NoSuchText)
-    (pick (ltb 1000000 budget) (Refused BudgetOverLimit) Admitted)))
+    cond (not (ltb f (c .functions))) (Refused NoSuchFunction)
+    (cond (not (isFor (args .count) (functionAt im f .params .count))) (Refused WrongValues)
+    (cond (not (allHave c (given args))) (Refused NoSuchText)
+    (cond (ltb 1000000 budget) (Refused BudgetOverLimit) Admitted)))
 
 abbrev pub orRefused : Admission → RunAnswer → RunAnswer
 orRefused Admitted r = r

@@ -2,7 +2,7 @@
 -- Assumes nothing.
 use Prim.Native.Nat.{ℕ, zero, suc, _+_, _*_, _/_, _%_, _^_, _≤_, _<_}
 use mathlib.Core.Path.{_≡_, refl, sym, ap, _∙_}
-use mathlib.Core.Bool.{Bool, true, false}
+use mathlib.Core.Bool.{Bool, true, false, cond}
 use mathlib.Core.List.{List, [], _∷_}
 use native.Mathlib.Omega.{arith}
 use native.Mathlib.Nat.{pow-zero, pow-suc}
@@ -12,7 +12,7 @@ use borrow.Author.Tests.{lt-ltb, le-ltb, ne-eqb, eqb-true}
 use Rattle.rl_spec.specs.declared.Counts.{Counts}
 use Rattle.rl_spec.specs.declared.Section.{Section}
 use Rattle.rl_spec.specs.declared.Section.the-variants.{Calls}
-use Rattle.rl_spec.specs.Bytes.{pick, u16At}
+use Rattle.rl_spec.specs.Bytes.{u16At}
 use Rattle.rl_spec.specs.Fields.{entryAt}
 use Rattle.rl_spec.specs.Schema.{Row, schema, fieldsIn, fieldsOf, inSection, lowest, highest, sections}
 use Rattle.rl_laws.specs.Tests.{by-ltb}
@@ -46,7 +46,7 @@ abbrev pub same : List ℕ → List ℕ → Bool
 same [] [] = true
 same [] (y ∷ ys) = false
 same (x ∷ xs) [] = false
-same (x ∷ xs) (y ∷ ys) = pick (eqb x y) (same xs ys) false
+same (x ∷ xs) (y ∷ ys) = cond (eqb x y) (same xs ys) false
 
 pub same-eq : (xs ys : List ℕ) → T (same xs ys) → xs ≡ ys
 same-eq [] [] t = refl
@@ -54,7 +54,7 @@ same-eq [] (y ∷ ys) t = absurd t
 same-eq (x ∷ xs) [] t = absurd t
 same-eq (x ∷ xs) (y ∷ ys) t = go (eqb x y) refl t (same-eq xs ys)
   where
-    go : (b : Bool) → eqb x y ≡ b → T (pick b (same xs ys) false) → (T (same xs ys) → xs ≡ ys) → x ∷ xs ≡ y ∷ ys
+    go : (b : Bool) → eqb x y ≡ b → T (cond b (same xs ys) false) → (T (same xs ys) → xs ≡ ys) → x ∷ xs ≡ y ∷ ys
     go true e u f =
         let p : x ≡ y = eqb-true x y e in
         let q : xs ≡ ys = f u in
@@ -65,7 +65,7 @@ same-eq (x ∷ xs) (y ∷ ys) t = go (eqb x y) refl t (same-eq xs ys)
 
 abbrev every-row : (Row → Bool) → List Row → Bool
 every-row f [] = true
-every-row f (r ∷ rs) = pick (f r) (every-row f rs) false
+every-row f (r ∷ rs) = cond (f r) (every-row f rs) false
 
 fields-above : (k : ℕ) (rs : List Row) → T (every-row (λ r. ltb (r .kind) 84) rs) → 84 ≤ k → fieldsIn k rs ≡ []
 unfolding fieldsIn

@@ -1,13 +1,9 @@
--- Numbers in an image, little-endian, and a choice by a test. A place past the end counts as 0.
+-- Numbers in an image, little-endian. A place past the end counts as 0.
 use Prim.Native.Nat.{ℕ, zero, suc, _+_, _*_}
-use mathlib.Core.Bool.{Bool, true, false}
+use mathlib.Core.Bool.{Bool}
 use mathlib.Core.List.{List}
 use lib.ListN.{length, getD}
 use lib.Dec.{ltb}
-
-abbrev pub pick : {A : Type 0} → Bool → A → A → A
-pick true a b = a
-pick false a b = b
 
 -- the number in n bytes
 unfoldable pub numAt : List ℕ → ℕ → ℕ → ℕ

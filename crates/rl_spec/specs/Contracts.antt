@@ -1,6 +1,6 @@
 -- The contracts of a function, under the names of rl-ast's statements.rs, and the callee of a call. T is the type of texts.
 use Prim.Native.Nat.{ℕ, zero, suc, _+_}
-use mathlib.Core.Bool.{Bool, true, false, not, _&&_, _||_}
+use mathlib.Core.Bool.{Bool, true, false, not, cond, _&&_, _||_}
 use mathlib.Core.List.{List, [], _∷_, map}
 use mathlib.Core.Option.{Option, none, some}
 use lib.Dec.{eqb}
@@ -11,7 +11,6 @@ use Rattle.rl_spec.specs.declared.RefineOperand.the-variants.{Integer, S
 use Rattle.rl_spec.specs.declared.ParamRefinement as refinement
 use Rattle.rl_spec.specs.declared.ParamRefinement.the-variants.{Unrefined, Refined}
 use Rattle.rl_spec.specs.declared.Interval.{Interval}
-use Rattle.rl_spec.specs.Bytes.{pick}
 use Rattle.rl_spec.specs.Image.{Image, sizeOf, entryOf, textOf}
 use Rattle.rl_spec.specs.Values.{RefineOp, sameText}
 use Rattle.rl_spec.specs.Folded.{opOf}
@@ -58,7 +57,7 @@ paramOf im i = record { name = paramAt im i .name; refinement = refinementOf (pa
 
 -- 65,535 for no message
 abbrev pub messageNode : Image → ℕ → Option (Expr ℕ)
-messageNode im n = pick (eqb n 65535) none (some (exprTree im n))
+messageNode im n = cond (eqb n 65535) none (some (exprTree im n))
 
 unfoldable pub clauseOf : Image → ℕ → ContractClause ℕ
 clauseOf im i =
@@ -98,7 +97,7 @@ isCallee im name f = sameText (textOf im (functionAt im f .name)) name && hasCon
 -- the last of the first n functions of that name that has requires or a refinement
 unfoldable pub calleeAmong : Image → List ℕ → ℕ → Option ℕ
 calleeAmong im name zero = none
-calleeAmong im name (suc n) = pick (isCallee im name n) (some n) (calleeAmong im name n)
+calleeAmong im name (suc n) = cond (isCallee im name n) (some n) (calleeAmong im name n)
 
 unfoldable pub calleeOf : Image → ℕ → Option ℕ
 calleeOf im call = calleeAmong im (textOf im (callAt im call .callee)) (sizeOf im Functions)

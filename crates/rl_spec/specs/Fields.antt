@@ -1,6 +1,6 @@
 -- What the reader checks of one record.
 use Prim.Native.Nat.{ℕ, zero, suc, _+_, _-_, _*_, _%_, max}
-use mathlib.Core.Bool.{Bool, true, false, not}
+use mathlib.Core.Bool.{Bool, true, false, not, cond}
 use mathlib.Core.List.{List, [], _∷_}
 use lib.ListN.{getD, take, drop}
 use lib.Dec.{ltb, leb, eqb}
@@ -17,13 +17,13 @@ use Rattle.rl_spec.specs.declared.Check.{Check}
 use Rattle.rl_spec.specs.declared.Check.the-variants.{Holds, Fails}
 use Rattle.rl_spec.specs.declared.Step.{Step}
 use Rattle.rl_spec.specs.declared.Step.the-variants.{Next, Stop}
-use Rattle.rl_spec.specs.Bytes.{pick, u16At, u32At, past}
+use Rattle.rl_spec.specs.Bytes.{u16At, u32At, past}
 use Rattle.rl_spec.specs.Schema.{textBytesAt, countOf, inSection, tallest, sortOf, widthOf, fieldsOf}
 use Rattle.rl_spec.specs.Utf8.{utf8, isScalar}
 
 -- a check that refuses for one cause unless a test holds
 abbrev pub unless : Cause → Bool → ℕ → Check
-unless c b tall = pick b (Holds tall) (Fails c)
+unless c b tall = cond b (Holds tall) (Fails c)
 
 -- whether a reference may find a statement of this kind
 abbrev pub takes : Target → ℕ → Bool
@@ -31,7 +31,7 @@ takes Text k = true
 takes Expression k = true
 takes Statement k = not (eqb k 76)
 takes Branch k = eqb k 69
-takes ElseBranch k = pick (eqb k 69) true (eqb k 68)
+takes ElseBranch k = cond (eqb k 69) true (eqb k 68)
 takes Arm k = eqb k 76
 
 -- where the list entries start
@@ -41,7 +41,7 @@ listsAt c = textBytesAt + c .bytes + c .texts * 5
 -- whether n bytes are all 0
 unfoldable pub zeros : List ℕ → ℕ → ℕ → Bool
 zeros s at zero = true
-zeros s at (suc n) = pick (eqb (getD s at 0) 0) (zeros s (at + 1) n) false
+zeros s at (suc n) = cond (eqb (getD s at 0) 0) (zeros s (at + 1) n) false
 
 -- ---- references. `seen` counts what a record may refer to: all records of the earlier sections and the earlier ones of its own.
 -- w holds the heights of the expressions and then of the statements so far, p where each of them starts in the image s.
@@ -58,7 +58,7 @@ unfoldable pub kindOfStatement : List ℕ → List ℕ → Counts → ℕ → �
 kindOfStatement s p seen n = getD s (getD p (seen .expressions + n) 0) 0
 
 unfoldable pub allowed : List ℕ → List ℕ → Counts → Target → ℕ → Bool
-allowed s p seen t n = pick (ltb n (within seen t)) (takes t (kindOfStatement s p seen n)) false
+allowed s p seen t n = cond (ltb n (within seen t)) (takes t (kindOfStatement s p seen n)) false
 
 -- the height of a child, which is a record of the own section
 abbrev pub nodeHeight : List ℕ → Target → ℕ → ℕ
@@ -102,16 +102,16 @@ rangeOf seen first count o tall = unless BadReference (leb (first + count) (coun
 -- a text: a part of the text bytes that is UTF-8
 unfoldable pub partOf : List ℕ → Counts → ℕ → ℕ → ℕ → Check
 partOf s seen offset size tall =
-    pick (ltb (seen .bytes) (offset + size)) (Fails BadText)
+    cond (ltb (seen .bytes) (offset + size)) (Fails BadText)
     (unless BadText (utf8 (take size (drop (textBytesAt + offset) s))) tall)
 
 unfoldable pub byteIn : ℕ → ℕ → ℕ → ℕ → Check
-byteIn low high b tall = pick (ltb b low) (Fails BadValue) (unless BadValue (leb b high) tall)
+byteIn low high b tall = cond (ltb b low) (Fails BadValue) (unless BadValue (leb b high) tall)
 
 -- the operand's sort: 0 exactly where the refinement is 0
 unfoldable pub operandSortOf : ℕ → ℕ → ℕ → Check
 operandSortOf refinement b tall =
-    pick (eqb refinement 0) (unless BadValue (eqb b 0) tall) (byteIn 1 4 b tall)
+    cond (eqb refinement 0) (unless BadValue (eqb b 0) tall) (byteIn 1 4 b tall)
 
 -- a refusal is at the field's first byte
 abbrev pub checked : Check → ℕ → (ℕ → Step) → Step
@@ -120,7 +120,7 @@ checked (Fails c) at f = Stop c at
 
 -- the height is checked after the record, and refused at its kind
 abbrev pub heightStep : Section → ℕ → Step → Step
-heightStep own at (Next a tall) = pick (ltb tall (tallest own)) (Next a (tall + 1)) (Stop TooHigh at)
+heightStep own at (Next a tall) = cond (ltb tall (tallest own)) (Next a (tall + 1)) (Stop TooHigh at)
 heightStep own at (Stop c q) = Stop c q
 
 -- ---- a record of the section `own`
@@ -130,28 +130,28 @@ module _ (s w p : List ℕ) (seen : Counts) (own : Section) where
   referTo t n tall = unless BadReference (allowed s p seen t n) (max tall (childHeight w seen own t n))
 
   unfoldable pub referOrNone : Target → ℕ → ℕ → Check
-  referOrNone t n tall = pick (eqb n 65535) (Holds tall) (referTo t n tall)
+  referOrNone t n tall = cond (eqb n 65535) (Holds tall) (referTo t n tall)
 
   -- n list entries from the k-th on, by turns a left and a right
   unfoldable pub entriesFrom : ℕ → ℕ → Target → Target → ℕ → Check
   entriesFrom zero k left right tall = Holds tall
   entriesFrom (suc n) k left right tall =
-      pick (allowed s p seen left (entryAt s seen k))
+      cond (allowed s p seen left (entryAt s seen k))
       (entriesFrom n (k + 1) right left (max tall (childHeight w seen own left (entryAt s seen k)))) (Fails BadReference)
 
   -- a list: its first entry and its count
   unfoldable pub listOf : ℕ → ℕ → Target → Target → ℕ → ℕ → Check
   listOf first count left right step tall =
-      pick (ltb (seen .lists) (first + count)) (Fails BadReference)
-      (pick (eqb (count % step) 0) (entriesFrom count first left right tall) (Fails BadReference))
+      cond (ltb (seen .lists) (first + count)) (Fails BadReference)
+      (cond (eqb (count % step) 0) (entriesFrom count first left right tall) (Fails BadReference))
 
   -- the operand, by its sort: none, Integer, Str, Bool, Param; the bytes that are left unused are 0
   unfoldable pub operandOf : ℕ → ℕ → ℕ → Check
   operandOf b at tall =
-      pick (eqb b 0) (unless BadValue (zeros s at 8) tall)
-      (pick (eqb b 1) (Holds tall)
-      (pick (eqb b 3) (unless BadValue (pick (leb (getD s at 0) 1) (zeros s (at + 1) 7) false) tall)
-      (pick (zeros s (at + 2) 6) (referTo Text (u16At s at) tall) (Fails BadValue))))
+      cond (eqb b 0) (unless BadValue (zeros s at 8) tall)
+      (cond (eqb b 1) (Holds tall)
+      (cond (eqb b 3) (unless BadValue (cond (leb (getD s at 0) 1) (zeros s (at + 1) 7) false) tall)
+      (cond (zeros s (at + 2) 6) (referTo Text (u16At s at) tall) (Fails BadValue))))
 
   -- a field's value, once its bytes are there. An operand's sort follows its refinement, and an operand its sort.
   unfoldable pub valueOf : Sort → ℕ → ℕ → Check
@@ -168,7 +168,7 @@ module _ (s w p : List ℕ) (seen : Counts) (own : Section) where
 
   -- ONE FIELD
   unfoldable pub fieldAt : Sort → ℕ → ℕ → Check
-  fieldAt o at tall = pick (past s at (widthOf o)) (Fails BytesEnd) (valueOf o at tall)
+  fieldAt o at tall = cond (past s at (widthOf o)) (Fails BytesEnd) (valueOf o at tall)
 
   -- THE FIELDS, left to right
   unfoldable pub fieldsFrom : List ℕ → ℕ → ℕ → Step
@@ -178,5 +178,5 @@ module _ (s w p : List ℕ) (seen : Counts) (own : Section) where
   -- ONE RECORD: its kind, its fields, its height
   unfoldable pub recordAt : ℕ → Step
   recordAt at =
-      pick (past s at 1) (Stop BytesEnd at)
-      (pick (inSection own (getD s at 0)) (heightStep own at (fieldsFrom (fieldsOf (getD s at 0)) (at + 1) 0)) (Stop WrongKind at))
+      cond (past s at 1) (Stop BytesEnd at)
+      (cond (inSection own (getD s at 0)) (heightStep own at (fieldsFrom (fieldsOf (getD s at 0)) (at + 1) 0)) (Stop WrongKind at))

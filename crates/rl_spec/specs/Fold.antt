@@ -13,7 +13,6 @@ use Rattle.rl_spec.specs.declared.Answer.the-variants as read
 use Rattle.rl_spec.specs.declared.Cause.the-variants.{OtherArena, NoSuchNode}
 use Rattle.rl_spec.specs.declared.FoldAnswer.{FoldAnswer}
 use Rattle.rl_spec.specs.declared.FoldAnswer.the-variants.{Found, Refused}
-use Rattle.rl_spec.specs.Bytes.{pick}
 use Rattle.rl_spec.specs.Read.{numberOf, answerOf, workOf}
 use Rattle.rl_spec.specs.Image.{textOf, imageOf}
 use Rattle.rl_spec.specs.Values.{ConstVal, bool, RefineOp, gt, ge, lt, le, eq, ne, ArithOp, plus, minus, star, slash, sameText, compareValues, arithValues, bang, negate}
@@ -29,7 +28,7 @@ boolean (some b) = some (bool b)
 
 -- 5 Bang, 2 Minus
 unfoldable pub unaryValue : {T : Type 0} → ℕ → ConstVal T → Option (ConstVal T)
-unaryValue op v = pick (eqb op 5) (bang v) (pick (eqb op 2) (negate v) none)
+unaryValue op v = cond (eqb op 5) (bang v) (cond (eqb op 2) (negate v) none)
 
 -- an operand without a value leaves none
 unfoldable pub unaryFolded : {T : Type 0} → ℕ → Option (ConstVal T) → Option (ConstVal T)
@@ -45,15 +44,15 @@ module _ {T : Type 0} (bytes : T → List ℕ) where
   -- 6 Compare, 7 BangEqual, 8 Less, 9 LessEqual, 10 Greater, 11 GreaterEqual, 1 Plus, 2 Minus, 3 Star, 4 Slash
   unfoldable pub binaryValue : ℕ → ConstVal T → ConstVal T → Option (ConstVal T)
   binaryValue op a b =
-      pick (eqb op 6) (boolean (compareValues bytes eq a b))
-      (pick (eqb op 7) (boolean (compareValues bytes ne a b))
-      (pick (eqb op 8) (boolean (compareValues bytes lt a b))
-      (pick (eqb op 9) (boolean (compareValues bytes le a b))
-      (pick (eqb op 10) (boolean (compareValues bytes gt a b))
-      (pick (eqb op 11) (boolean (compareValues bytes ge a b))
-      (pick (eqb op 1) (arithValues plus a b)
-      (pick (eqb op 2) (arithValues minus a b)
-      (pick (eqb op 3) (arithValues star a b) (pick (eqb op 4) (arithValues slash a b) none)))))))))
+      cond (eqb op 6) (boolean (compareValues bytes eq a b))
+      (cond (eqb op 7) (boolean (compareValues bytes ne a b))
+      (cond (eqb op 8) (boolean (compareValues bytes lt a b))
+      (cond (eqb op 9) (boolean (compareValues bytes le a b))
+      (cond (eqb op 10) (boolean (compareValues bytes gt a b))
+      (cond (eqb op 11) (boolean (compareValues bytes ge a b))
+      (cond (eqb op 1) (arithValues plus a b)
+      (cond (eqb op 2) (arithValues minus a b)
+      (cond (eqb op 3) (arithValues star a b) (cond (eqb op 4) (arithValues slash a b) none)))))))))
 
   unfoldable pub binaryFolded : ℕ → Option (ConstVal T) → Option (ConstVal T) → Option (ConstVal T)
   binaryFolded op none b = none
@@ -63,7 +62,7 @@ module _ {T : Type 0} (bytes : T → List ℕ) where
   -- names are compared by their bytes
   unfoldable pub lookup : List (Binding T) → T → Option (ConstVal T)
   lookup [] x = none
-  lookup (b ∷ env) x = pick (sameText (bytes (b .name)) (bytes x)) (some (b .value)) (lookup env x)
+  lookup (b ∷ env) x = cond (sameText (bytes (b .name)) (bytes x)) (some (b .value)) (lookup env x)
 
   unfoldable pub constEval : List (Binding T) → Expr T → Option (ConstVal T)
   constEval env null = none
@@ -83,8 +82,8 @@ module _ {T : Type 0} (bytes : T → List ℕ) where
 
 abbrev pub foldBy : List ℕ → Id → Answer → FoldAnswer
 foldBy s id (read.Accepted a c) =
-    pick (eqb (id .arena .0) (a .0))
-    (pick (ltb (id .node .0) (c .expressions))
+    cond (eqb (id .arena .0) (a .0))
+    (cond (ltb (id .node .0) (c .expressions))
     (Found (asFolded (constEval (textOf (imageOf s)) [] (exprTree (imageOf s) (id .node .0)))))
     (Refused NoSuchNode 0))
     (Refused OtherArena 0)
@@ -99,4 +98,4 @@ foldNumber (Refused q n) = numberOf q
 
 -- the work slice: as reading leaves it, and zero where something is refused by a number
 abbrev pub workUnless : ℕ → List ℕ → ℕ → List ℕ
-workUnless number s k = pick (eqb number 0) (workOf s k) (replicate k 0)
+workUnless number s k = cond (eqb number 0) (workOf s k) (replicate k 0)

@@ -1,13 +1,14 @@
 -- The image that the bytes, the starts of the expressions and statements, and the counts give, whatever they are. For accepted bytes
 -- it is the image that they stand for.
 use Prim.Native.Nat.{ℕ, zero, suc, _+_, _-_, _*_}
+use mathlib.Core.Bool.{cond}
 use mathlib.Core.List.{List, [], _∷_, map}
 use lib.ListN.{length, getD, take, drop}
 use lib.Dec.{eqb}
 use Rattle.rl_spec.specs.declared.Counts.{Counts}
 use Rattle.rl_spec.specs.declared.Section.{Section}
 use Rattle.rl_spec.specs.declared.Section.the-variants.{Texts, Lists, Expressions, Statements, Parameters, Clauses, Functions, Calls}
-use Rattle.rl_spec.specs.Bytes.{pick, u32At}
+use Rattle.rl_spec.specs.Bytes.{u32At}
 use Rattle.rl_spec.specs.Schema.{textBytesAt, sections, countOf, lowest, highest, fieldsOf}
 use Rattle.rl_spec.specs.Fields.{listsAt}
 use Rattle.rl_spec.specs.Image.{Rec, Image, fieldsAt}
@@ -43,7 +44,7 @@ recordAs s kind at = record { kind = kind; fields = fieldsAt s (fieldsOf kind) (
 
 -- the kind of the record at a place: that of the section, where it has only one
 abbrev pub kindFound : List ℕ → Section → ℕ → ℕ
-kindFound s o at = pick (eqb (lowest o) (highest o)) (lowest o) (getD s at 0)
+kindFound s o at = cond (eqb (lowest o) (highest o)) (lowest o) (getD s at 0)
 
 unfoldable pub recordFound : List ℕ → List ℕ → Counts → Section → ℕ → Rec
 recordFound s p c o i = recordAs s (kindFound s o (placeOf s p c o i)) (placeOf s p c o i)

@@ -1,7 +1,7 @@
 -- The abstract image: records with their field values, text bytes and list entries; its bytes; and when it is well formed.
 use Prim.Native.Nat.{ℕ, zero, suc, _+_, _/_, _%_, _^_, _≤_, _<_, max}
 use mathlib.Core.Path.{_≡_}
-use mathlib.Core.Bool.{Bool, true, false}
+use mathlib.Core.Bool.{Bool, true, false, cond}
 use mathlib.Core.List.{List, [], _∷_, _++_, map}
 use mathlib.Core.Logic.{_⊎_}
 use lib.ListN.{length, getD, take, drop}
@@ -13,7 +13,7 @@ use Rattle.rl_spec.specs.declared.Target.{Target}
 use Rattle.rl_spec.specs.declared.Target.the-variants.{Text, Expression, Statement, Branch, ElseBranch, Arm}
 use Rattle.rl_spec.specs.declared.Sort.{Sort}
 use Rattle.rl_spec.specs.declared.Sort.the-variants.{Raw, Byte, Scalar, Part, One, Maybe, Many, Range, OperandSort, Operand}
-use Rattle.rl_spec.specs.Bytes.{pick, numAt, u16At, u32At}
+use Rattle.rl_spec.specs.Bytes.{numAt, u16At, u32At}
 use Rattle.rl_spec.specs.Schema.{limits, textBytesAt, sections, countOf, inSection, tallest, sortOf, widthOf, fieldsOf}
 use Rattle.rl_spec.specs.Utf8.{utf8, isScalar}
 use Rattle.rl_spec.specs.Fields.{takes}
@@ -135,7 +135,7 @@ isPair OperandSort = false
 isPair Operand = false
 
 abbrev pub fieldIn : List ℕ → Sort → ℕ → Field
-fieldIn s o at = pick (isPair o) (pair (u16At s at) (u16At s (at + 2))) (num (numAt s at (widthOf o)))
+fieldIn s o at = cond (isPair o) (pair (u16At s at) (u16At s (at + 2))) (num (numAt s at (widthOf o)))
 
 unfoldable pub fieldsAt : List ℕ → List ℕ → ℕ → List Field
 fieldsAt s [] at = []
@@ -190,7 +190,7 @@ sameSection o q = eqb (orderOf o) (orderOf q)
 -- the heights of the children of the section o, of which h has the heights so far
 module _ (im : Image) (o : Section) (h : List ℕ) where
   abbrev pub heightOf : Target → ℕ → ℕ
-  heightOf t n = pick (sameSection o (sectionOf t)) (getD h n 0) 0
+  heightOf t n = cond (sameSection o (sectionOf t)) (getD h n 0) 0
 
   unfoldable pub tallestEntry : ℕ → ℕ → Target → Target → ℕ
   tallestEntry zero k l r = 0
@@ -202,7 +202,7 @@ module _ (im : Image) (o : Section) (h : List ℕ) where
   tallestIn Scalar f = 0
   tallestIn Part f = 0
   tallestIn (One t) f = heightOf t (first f)
-  tallestIn (Maybe t) f = pick (eqb (first f) 65535) 0 (heightOf t (first f))
+  tallestIn (Maybe t) f = cond (eqb (first f) 65535) 0 (heightOf t (first f))
   tallestIn (Many l r n) f = tallestEntry (second f) (first f) l r
   tallestIn (Range q) f = 0
   tallestIn OperandSort f = 0
@@ -227,7 +227,7 @@ heights im o = heightsFrom im o (recordsOf im o) []
 -- a reference of the i-th record of a section: to an earlier record of its own section, or to another section (in the schema always
 -- an earlier one); and of a kind that is taken
 pub record Refers (im : Image) (o : Section) (i : ℕ) (t : Target) (n : ℕ) : Type 0 where
-  pub earlier : n < pick (sameSection o (sectionOf t)) i (sizeOf im (sectionOf t))
+  pub earlier : n < cond (sameSection o (sectionOf t)) i (sizeOf im (sectionOf t))
   pub taken : takes t (recordOf im Statements n .kind) ≡ true
 
 abbrev pub Entries : Image → Section → ℕ → ℕ → ℕ → Target → Target → Type 0

@@ -1,7 +1,7 @@
 -- Lowering on records: rl-resolver's contracts.rs, function by function. What is made is appended to the image, in the order in which
 -- the Rust makes it; a statement is made when the Rust has finished it, after all that stands inside it.
 use Prim.Native.Nat.{ℕ, _-_}
-use mathlib.Core.Bool.{Bool, true, false, not, _&&_, _||_}
+use mathlib.Core.Bool.{Bool, true, false, not, cond, _&&_, _||_}
 use mathlib.Core.List.{List, [], _∷_, _++_, map}
 use mathlib.Core.Option.{Option, none, some}
 use lib.Dec.{eqb, ltb}
@@ -12,7 +12,6 @@ use Rattle.rl_spec.specs.declared.Target.the-variants.{Text, Expression,
 use Rattle.rl_spec.specs.declared.Sort.{Sort}
 use Rattle.rl_spec.specs.declared.Sort.the-variants.{Raw, Byte, Scalar, Part, One, Maybe, Many, Range, OperandSort, Operand}
 use Rattle.rl_spec.specs.declared.Clause.{Clause}
-use Rattle.rl_spec.specs.Bytes.{pick}
 use Rattle.rl_spec.specs.Schema.{sortOf, fieldsOf}
 use Rattle.rl_spec.specs.Image.{Field, num, Rec, Image, recordsOf, recordOf, fieldOf, first, entryOf, textOf, encode}
 use Rattle.rl_spec.specs.Values.{RefineOp, gt, ge, lt, le, eq, ne}
@@ -58,7 +57,7 @@ isErrCall = resCall (ascii "is_err")
 
 -- a clause's own message is shared, not copied
 abbrev pub msgExpr : Clause → List ℕ → Make ℕ
-msgExpr clause default = pick (eqb (clause .message) 65535) (strLit default) (give (clause .message))
+msgExpr clause default = cond (eqb (clause .message) 65535) (strLit default) (give (clause .message))
 
 -- ---- deep_clone_expr: the children field by field, then the node with its kind, its span and what else it has. No kind has a node
 -- behind a list of nodes, so the list comes after all the children.
@@ -75,7 +74,7 @@ isNode Arm = false
 unfoldable pub cloneEntries : (ℕ → Make ℕ) → Target → Target → List ℕ → Make (List ℕ)
 cloneEntries clone l r [] = give []
 cloneEntries clone l r (n ∷ ns) = do
-  m ← pick (isNode l) (clone n) (give n)
+  m ← cond (isNode l) (clone n) (give n)
   ms ← cloneEntries clone r l ns
   give (m ∷ ms)
 
@@ -85,10 +84,10 @@ cloneField clone (Raw n) f = give f
 cloneField clone (Byte low high) f = give f
 cloneField clone Scalar f = give f
 cloneField clone Part f = give f
-cloneField clone (One t) f = pick (isNode t) (clone (first f) >>= λ n. give (num n)) (give f)
+cloneField clone (One t) f = cond (isNode t) (clone (first f) >>= λ n. give (num n)) (give f)
 cloneField clone (Maybe t) f = give f
 cloneField clone (Many l r n) f =
-    pick (isNode l || isNode r) (self >>= λ ctx. cloneEntries clone l r (entriesOf (ctx .image) f) >>= newList) (give f)
+    cond (isNode l || isNode r) (self >>= λ ctx. cloneEntries clone l r (entriesOf (ctx .image) f) >>= newList) (give f)
 cloneField clone (Range o) f = give f
 cloneField clone OperandSort f = give f
 cloneField clone Operand f = give f
@@ -107,7 +106,7 @@ isLambda kind = eqb kind 56 || eqb kind 57
 
 abbrev pub cloneRecord : (ℕ → Make ℕ) → ℕ → Rec → Make ℕ
 cloneRecord clone id r =
-    pick (isLambda (r .kind)) (give id)
+    cond (isLambda (r .kind)) (give id)
     (cloneFields clone (fieldsOf (r .kind)) (r .fields) >>= λ fs. append Expressions (made (r .kind) fs ∷ []))
 
 -- `fail` stands for a child that is no earlier node: there is none in a well-formed image
@@ -120,7 +119,7 @@ unfoldable pub violation : ℕ → Make ℕ
 violation msg = do
   err ← errLit msg
   ctx ← self
-  pick (ctx .isResult) (newStmt 66 (num err ∷ [])) (unwrapCall err >>= λ abort. newStmt 65 (num abort ∷ []))
+  cond (ctx .isResult) (newStmt 66 (num err ∷ [])) (unwrapCall err >>= λ abort. newStmt 65 (num abort ∷ []))
 
 -- `if (condition) { s }`: the list, the branch with needs_scope false, the conditional
 unfoldable pub onlyIf : ℕ → ℕ → Make ℕ
@@ -166,9 +165,9 @@ skipErr temp = do
 unfoldable pub wrapAs : List ℕ → Bool → ℕ → List Clause → Make (List ℕ)
 wrapAs temp isResult value ensures = do
   dec ← declare temp value
-  skip ← pick isResult (skipErr temp) (give [])
+  skip ← cond isResult (skipErr temp) (give [])
   n ← ident temp
-  inner ← pick isResult (unwrapCall n) (give n)
+  inner ← cond isResult (unwrapCall n) (give n)
   ret ← declare (ascii "ret") inner
   guards ← each (clauseGuard (ascii "ensures violated")) ensures
   s ← returnOf temp
@@ -192,7 +191,7 @@ tokenOf ne = 7
 abbrev pub operandExpr : Image → RefineOperand ℕ → Make ℕ
 operandExpr im (integer v) = expr 17 (num (bits64 v) ∷ [])
 operandExpr im (str s) = strLit (textOf im s)
-operandExpr im (bool b) = expr 26 (num (pick b 1 0) ∷ [])
+operandExpr im (bool b) = expr 26 (num (cond b 1 0) ∷ [])
 operandExpr im (param p) = ident (textOf im p)
 
 -- the right operand is made first
@@ -219,14 +218,14 @@ module _ (walk : ℕ → Make (List ℕ)) where
   -- a 68 as an else branch passes untouched; needs_scope is false
   abbrev pub transformBranchBy : ℕ → Rec → Make ℕ
   transformBranchBy s r =
-      pick (eqb (r .kind) 69)
+      cond (eqb (r .kind) 69)
       (transformList (fieldOf r 2) >>= λ body. stmt 69 (number r 0) (fieldOf r 1 ∷ body ∷ num 0 ∷ [])) (give s)
 
   unfoldable pub transformBranch : ℕ → Make ℕ
   transformBranch s = self >>= λ ctx. transformBranchBy s (recordOf (ctx .image) Statements s)
 
   abbrev pub transformElse : ℕ → Make ℕ
-  transformElse s = pick (eqb s 65535) (give s) (transformBranch s)
+  transformElse s = cond (eqb s 65535) (give s) (transformBranch s)
 
   -- an arm is finished before the next one is begun
   abbrev pub transformArmBy : Rec → Make ℕ
@@ -259,15 +258,15 @@ module _ (walk : ℕ → Make (List ℕ)) where
 
   abbrev pub transformStatementBy : List Clause → ℕ → Rec → Make (List ℕ)
   transformStatementBy ensures s r =
-      pick (eqb (r .kind) 66) (wrapReturn (number r 1) ensures)
-      (pick (eqb (r .kind) 67) (expr 16 [] >>= λ null. wrapReturn null ensures)
-      (pick (eqb (r .kind) 68) (only (conditional r))
-      (pick (eqb (r .kind) 70) (only (loop r (fieldOf r 1 ∷ []) (fieldOf r 2)))
-      (pick (eqb (r .kind) 71) (only (loop r [] (fieldOf r 1)))
-      (pick (eqb (r .kind) 72) (only (loop r (fieldOf r 1 ∷ fieldOf r 2 ∷ fieldOf r 3 ∷ []) (fieldOf r 4)))
-      (pick (eqb (r .kind) 73) (only (loop r (fieldOf r 1 ∷ fieldOf r 2 ∷ []) (fieldOf r 3)))
-      (pick (eqb (r .kind) 74) (only (loop r (fieldOf r 1 ∷ fieldOf r 2 ∷ []) (fieldOf r 3)))
-      (pick (eqb (r .kind) 75) (only (match r)) (give (s ∷ []))))))))))
+      cond (eqb (r .kind) 66) (wrapReturn (number r 1) ensures)
+      (cond (eqb (r .kind) 67) (expr 16 [] >>= λ null. wrapReturn null ensures)
+      (cond (eqb (r .kind) 68) (only (conditional r))
+      (cond (eqb (r .kind) 70) (only (loop r (fieldOf r 1 ∷ []) (fieldOf r 2)))
+      (cond (eqb (r .kind) 71) (only (loop r [] (fieldOf r 1)))
+      (cond (eqb (r .kind) 72) (only (loop r (fieldOf r 1 ∷ fieldOf r 2 ∷ fieldOf r 3 ∷ []) (fieldOf r 4)))
+      (cond (eqb (r .kind) 73) (only (loop r (fieldOf r 1 ∷ fieldOf r 2 ∷ []) (fieldOf r 3)))
+      (cond (eqb (r .kind) 74) (only (loop r (fieldOf r 1 ∷ fieldOf r 2 ∷ []) (fieldOf r 3)))
+      (cond (eqb (r .kind) 75) (only (match r)) (give (s ∷ []))))))))))
 
 unfoldable pub transformStatement : List Clause → ℕ → Make (List ℕ)
 transformStatement ensures =
@@ -291,7 +290,7 @@ lastOf im body = recordOf im Statements (getD body (length body - 1) 0)
 unfoldable pub wrapTrailing : List Clause → List ℕ → Make (List ℕ)
 wrapTrailing ensures body = do
   ctx ← self
-  pick (not (isEmpty body) && eqb (lastOf (ctx .image) body .kind) 65)
+  cond (not (isEmpty body) && eqb (lastOf (ctx .image) body .kind) 65)
       (wrapReturn (number (lastOf (ctx .image) body) 1) ensures >>= λ seq. give (seq ++ take (length body - 1) body))
       (give body)
 
@@ -305,7 +304,7 @@ desugarFnContracts params body requires ensures = do
   ctx ← self
   refined ← flatMap (λ p. refinementGuard (ctx .image) (p .name) (p .refinement)) params
   required ← each (clauseGuard (ascii "requires violated")) requires
-  rest ← pick (isEmpty ensures) (give body) (ensuredBody ensures body)
+  rest ← cond (isEmpty ensures) (give body) (ensuredBody ensures body)
   give (refined ++ required ++ rest)
 
 -- ---- THE LOWERED IMAGE
@@ -343,7 +342,7 @@ withBody im f list = withRecords im Functions (set (recordsOf im Functions) f (b
 
 -- the sixth limit, of the image's bytes, is tested on the finished image: nothing that is made takes bytes away
 unfoldable pub fitting : Image → Option Image
-fitting im = pick (ltb 65535 (length (encode im))) none (some im)
+fitting im = cond (ltb 65535 (length (encode im))) none (some im)
 
 abbrev pub finished : ℕ → Option (Field × Context) → Option Image
 finished f none = none
@@ -351,4 +350,4 @@ finished f (some r) = fitting (withBody (r .1 .image) f (r .0))
 
 -- of an accepted image and one of its functions; none is refusal 14
 unfoldable pub lowered : Image → ℕ → Option Image
-lowered im f = pick (hasContracts im f) (finished f (newBody im f (start im f))) (some im)
+lowered im f = cond (hasContracts im f) (finished f (newBody im f (start im f))) (some im)

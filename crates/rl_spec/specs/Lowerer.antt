@@ -1,6 +1,6 @@
 -- What lowering answers: reading first, then 11, 12, 13 and 14, else the bytes of the lowered image.
 use Prim.Native.Nat.{ℕ, _-_}
-use mathlib.Core.Bool.{Bool, false, not, _||_}
+use mathlib.Core.Bool.{Bool, false, not, cond, _||_}
 use mathlib.Core.List.{List, [], _∷_, _++_}
 use mathlib.Core.Option.{Option, none, some}
 use lib.Dec.{ltb}
@@ -12,7 +12,6 @@ use Rattle.rl_spec.specs.declared.Cause.the-variants.{NoSuchFunction, He
 use Rattle.rl_spec.specs.declared.Section.the-variants.{Expressions, Statements}
 use Rattle.rl_spec.specs.declared.LowerAnswer.{LowerAnswer}
 use Rattle.rl_spec.specs.declared.LowerAnswer.the-variants.{Lowered, Refused}
-use Rattle.rl_spec.specs.Bytes.{pick}
 use Rattle.rl_spec.specs.Read.{numberOf, answerOf}
 use Rattle.rl_spec.specs.Image.{Image, heights, encode, imageOf}
 use Rattle.rl_spec.specs.Lower.{lowered}
@@ -40,9 +39,9 @@ orLimit (some im) = made im
 
 abbrev pub lowerBy : List ℕ → ℕ → ℕ → Answer → Lowering
 lowerBy s f room (read.Accepted a c) =
-    pick (not (ltb f (c .functions))) (refused NoSuchFunction 0)
-    (pick (tooTall (imageOf s)) (refused HeightOverLimit 0)
-    (pick (ltb room 65535) (refused OutputTooShort 0) (orLimit (lowered (imageOf s) f))))
+    cond (not (ltb f (c .functions))) (refused NoSuchFunction 0)
+    (cond (tooTall (imageOf s)) (refused HeightOverLimit 0)
+    (cond (ltb room 65535) (refused OutputTooShort 0) (orLimit (lowered (imageOf s) f))))
 lowerBy s f room (read.Refused q n) = refused q n
 
 unfoldable pub lowerOf : List ℕ → ℕ → ℕ → ℕ → Lowering

@@ -1,13 +1,12 @@
 -- Making records: computations that append to an image, and stop where a limit would be passed.
 use Prim.Native.Nat.{ℕ, suc, _+_}
-use mathlib.Core.Bool.{Bool}
+use mathlib.Core.Bool.{Bool, cond}
 use mathlib.Core.List.{List, [], _∷_, _++_, map}
 use mathlib.Core.Option.{Option, none, some}
 use lib.Dec.{ltb}
 use lib.ListN.{length, getD, set}
 use Rattle.rl_spec.specs.declared.Section.{Section}
 use Rattle.rl_spec.specs.declared.Section.the-variants.{Texts, Lists, Statements}
-use Rattle.rl_spec.specs.Bytes.{pick}
 use Rattle.rl_spec.specs.Schema.{limits}
 use Rattle.rl_spec.specs.Image.{Field, num, pair, Rec, Image, orderOf, recordsOf, sizeOf, entryOf}
 use Rattle.rl_spec.specs.Ranges.{interval}
@@ -87,12 +86,12 @@ mostBytes = getD limits 0 0
 -- records at the end of a section; the number of the first
 unfoldable pub append : Section → List Rec → Make ℕ
 append o rs ctx =
-    pick (ltb (most o) (sizeOf (ctx .image) o + length rs)) none
+    cond (ltb (most o) (sizeOf (ctx .image) o + length rs)) none
     (some (sizeOf (ctx .image) o, withImage ctx (withRecords (ctx .image) o (recordsOf (ctx .image) o ++ rs))))
 
 unfoldable pub appendBytes : List ℕ → Make ℕ
 appendBytes s ctx =
-    pick (ltb mostBytes (length (ctx .image .bytes) + length s)) none
+    cond (ltb mostBytes (length (ctx .image .bytes) + length s)) none
     (some (length (ctx .image .bytes), withImage ctx (withBytes (ctx .image) (ctx .image .bytes ++ s))))
 
 abbrev pub made : ℕ → List Field → Rec

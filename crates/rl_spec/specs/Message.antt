@@ -1,13 +1,12 @@
 -- The text of a report, as rl-checker's contracts.rs makes it.
 use Prim.Native.Nat.{ℕ, zero, suc, _+_, _/_, _%_}
-use mathlib.Core.Bool.{Bool, true, false}
+use mathlib.Core.Bool.{Bool, true, false, cond}
 use mathlib.Core.List.{List, [], _∷_, _++_}
 use mathlib.Core.Option.{Option, none, some}
 use lib.Dec.{ltb}
 use lib.IntN.{ℤ, pos, negsuc}
 use Rattle.rl_spec.specs.declared.Violation.{Violation}
 use Rattle.rl_spec.specs.declared.Violation.the-variants.{Refinement, Requires}
-use Rattle.rl_spec.specs.Bytes.{pick}
 use Rattle.rl_spec.specs.Image.{Image, textOf}
 use Rattle.rl_spec.specs.Values as value
 use Rattle.rl_spec.specs.Values.{ConstVal, RefineOp, gt, ge, lt, le, eq, ne}
@@ -19,7 +18,7 @@ use Rattle.rl_spec.specs.Contracts.{RefineOperand, integer, str, bool, p
 
 unfoldable pub decimalBy : ℕ → ℕ → List ℕ
 decimalBy zero n = []
-decimalBy (suc k) n = pick (ltb n 10) ((48 + n) ∷ []) (decimalBy k (n / 10) ++ ((48 + n % 10) ∷ []))
+decimalBy (suc k) n = cond (ltb n 10) ((48 + n) ∷ []) (decimalBy k (n / 10) ++ ((48 + n % 10) ∷ []))
 
 unfoldable pub decimal : ℕ → List ℕ
 decimal n = decimalBy 20 n

@@ -1,6 +1,6 @@
 -- `prove_call` of rl-checker's contracts.rs, and what proving answers. T is the type of texts, and `bytes` gives a text's bytes.
 use Prim.Native.Nat.{ℕ, zero, suc, _+_, _-_, _/_}
-use mathlib.Core.Bool.{Bool, true, false}
+use mathlib.Core.Bool.{Bool, true, false, cond}
 use mathlib.Core.List.{List, [], _∷_, _++_}
 use mathlib.Core.Option.{Option, none, some}
 use lib.ListN.{length, replicate}
@@ -14,7 +14,6 @@ use Rattle.rl_spec.specs.declared.ProveAnswer.{ProveAnswer}
 use Rattle.rl_spec.specs.declared.ProveAnswer.the-variants.{Proved, Refused}
 use Rattle.rl_spec.specs.declared.Violation.{Violation}
 use Rattle.rl_spec.specs.declared.Violation.the-variants.{Refinement, Requires}
-use Rattle.rl_spec.specs.Bytes.{pick}
 use Rattle.rl_spec.specs.Read.{numberOf, countsOf, answerOf}
 use Rattle.rl_spec.specs.Image.{Image, textOf, imageOf}
 use Rattle.rl_spec.specs.Values as value
@@ -119,7 +118,7 @@ allEntries im (suc n) k = callEntries im k ++ allEntries im n (k + 1)
 
 -- the answer for the entries e and a slice of so many
 abbrev pub fitting : ℕ → List ℕ → ProveAnswer
-fitting room e = pick (ltb room (length e)) (Refused ReportsTooShort 0) (Proved (length e / 4))
+fitting room e = cond (ltb room (length e)) (Refused ReportsTooShort 0) (Proved (length e / 4))
 
 -- the slice: the entries, then zeros; all zero where something is refused
 abbrev pub sliceBy : ℕ → List ℕ → ProveAnswer → List ℕ
@@ -129,7 +128,7 @@ sliceBy room e (Refused q n) = replicate room 0
 -- one call
 abbrev pub proveFrom : List ℕ → ℕ → ℕ → Answer → ProveAnswer
 proveFrom s call room (read.Accepted a c) =
-    pick (ltb call (c .calls)) (fitting room (callEntries (imageOf s) call)) (Refused NoSuchCall 0)
+    cond (ltb call (c .calls)) (fitting room (callEntries (imageOf s) call)) (Refused NoSuchCall 0)
 proveFrom s call room (read.Refused q n) = Refused q n
 
 unfoldable pub proveOf : List ℕ → ℕ → ℕ → ℕ → ProveAnswer

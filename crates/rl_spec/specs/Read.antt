@@ -1,5 +1,6 @@
 -- What the reader answers for every image and length of the work slice, and what it leaves there.
 use Prim.Native.Nat.{ℕ, zero, suc, _+_, _*_, _^_}
+use mathlib.Core.Bool.{cond}
 use mathlib.Core.List.{List, [], _∷_}
 use lib.ListN.{length, getD, set, replicate}
 use lib.Dec.{ltb, eqb}
@@ -12,7 +13,7 @@ use Rattle.rl_spec.specs.declared.Section.{Section}
 use Rattle.rl_spec.specs.declared.Section.the-variants.{Texts, Lists, Expressions, Statements, Parameters, Clauses, Functions, Calls}
 use Rattle.rl_spec.specs.declared.Step.{Step}
 use Rattle.rl_spec.specs.declared.Step.the-variants.{Next, Stop}
-use Rattle.rl_spec.specs.Bytes.{pick, u16At, u32At, past}
+use Rattle.rl_spec.specs.Bytes.{u16At, u32At, past}
 use Rattle.rl_spec.specs.Schema.{limits, textBytesAt, sections, countOf}
 use Rattle.rl_spec.specs.Fields.{recordAt}
 
@@ -64,13 +65,13 @@ countsOf s =
 unfoldable pub countsFrom : List ℕ → List ℕ → ℕ → Step
 countsFrom s [] at = Next at 0
 countsFrom s (most ∷ ms) at =
-    pick (past s at 2) (Stop BytesEnd at)
-    (pick (ltb most (u16At s at)) (Stop CountOverLimit at) (countsFrom s ms (at + 2)))
+    cond (past s at 2) (Stop BytesEnd at)
+    (cond (ltb most (u16At s at)) (Stop CountOverLimit at) (countsFrom s ms (at + 2)))
 
 unfoldable pub headerOf : List ℕ → Step
 headerOf s =
-    pick (past s 0 1) (Stop BytesEnd 0)
-    (pick (eqb (getD s 0 0) 1) (pick (past s 1 4) (Stop BytesEnd 1) (countsFrom s limits 5)) (Stop WrongKind 0))
+    cond (past s 0 1) (Stop BytesEnd 0)
+    (cond (eqb (getD s 0 0) 1) (cond (past s 1 4) (Stop BytesEnd 1) (countsFrom s limits 5)) (Stop WrongKind 0))
 
 -- ---- the sections
 
@@ -147,13 +148,13 @@ sectionsFrom s c (o ∷ os) at w p =
 
 -- nothing may be left
 unfoldable pub endOf : List ℕ → Out → Out
-endOf s (good at w p) = pick (ltb at (length s)) (bad BytesLeft at) (good at w p)
+endOf s (good at w p) = cond (ltb at (length s)) (bad BytesLeft at) (good at w p)
 endOf s (bad c q) = bad c q
 
 -- after the header: the text bytes, the sections, the end
 unfoldable pub bodyOf : List ℕ → Counts → List ℕ → List ℕ → Out
 bodyOf s c w p =
-    pick (past s textBytesAt (c .bytes)) (bad BytesEnd textBytesAt)
+    cond (past s textBytesAt (c .bytes)) (bad BytesEnd textBytesAt)
     (endOf s (sectionsFrom s c sections (textBytesAt + c .bytes) w p))
 
 -- the header, and what follows it
@@ -167,8 +168,8 @@ mostStarts = 6144
 -- an image, and a work slice of k entries
 unfoldable pub readOf : List ℕ → ℕ → Out
 readOf s k =
-    pick (ltb 65535 (length s)) (bad ImageTooLong 0)
-    (pick (ltb k 8192) (bad WorkTooShort 0)
+    cond (ltb 65535 (length s)) (bad ImageTooLong 0)
+    (cond (ltb k 8192) (bad WorkTooShort 0)
     (contentOf s (replicate k 0) (replicate mostStarts 0)))
 
 abbrev pub answerBy : List ℕ → Out → Answer

@@ -1,5 +1,6 @@
 -- What the records of parameters, clauses, functions and calls say.
 use Prim.Native.Nat.{ℕ, _%_}
+use mathlib.Core.Bool.{cond}
 use mathlib.Core.List.{List}
 use lib.Dec.{eqb}
 use Rattle.rl_spec.specs.declared.Section.the-variants.{Parameters, Clauses, Functions, Calls}
@@ -14,7 +15,6 @@ use Rattle.rl_spec.specs.declared.Clause.{Clause}
 use Rattle.rl_spec.specs.declared.Interval.{Interval}
 use Rattle.rl_spec.specs.declared.Function.{Function}
 use Rattle.rl_spec.specs.declared.Call.{Call}
-use Rattle.rl_spec.specs.Bytes.{pick}
 use Rattle.rl_spec.specs.Image.{Field, Rec, Image, first, second, recordOf, fieldOf}
 use Rattle.rl_spec.specs.Ranges.{interval}
 use Rattle.rl_spec.specs.Tree.{signed, number}
@@ -22,15 +22,15 @@ use Rattle.rl_spec.specs.Tree.{signed, number}
 -- 1 Gt, 2 Ge, 3 Lt, 4 Le, 5 Eq, 6 Ne
 abbrev pub refineOp : ℕ → RefineOp
 refineOp n =
-    pick (eqb n 1) Gt (pick (eqb n 2) Ge (pick (eqb n 3) Lt (pick (eqb n 4) Le (pick (eqb n 5) Eq Ne))))
+    cond (eqb n 1) Gt (cond (eqb n 2) Ge (cond (eqb n 3) Lt (cond (eqb n 4) Le (cond (eqb n 5) Eq Ne))))
 
 -- by its sort: 1 Integer, 2 Str, 3 Bool, 4 Param; a text is in the first two bytes
 abbrev pub refineOperand : ℕ → ℕ → RefineOperand
 refineOperand sort x =
-    pick (eqb sort 1) (Integer (signed 64 x)) (pick (eqb sort 2) (Str (x % 65536)) (pick (eqb sort 3) (Bool (eqb x 1)) (Named (x % 65536))))
+    cond (eqb sort 1) (Integer (signed 64 x)) (cond (eqb sort 2) (Str (x % 65536)) (cond (eqb sort 3) (Bool (eqb x 1)) (Named (x % 65536))))
 
 abbrev pub refinementBy : ℕ → ℕ → ℕ → ParamRefinement
-refinementBy refinement sort x = pick (eqb refinement 0) Unrefined (Refined (refineOp refinement) (refineOperand sort x))
+refinementBy refinement sort x = cond (eqb refinement 0) Unrefined (Refined (refineOp refinement) (refineOperand sort x))
 
 -- name, type, refinement, operand's sort, operand
 abbrev pub paramBy : Rec → Param

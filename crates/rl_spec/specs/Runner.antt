@@ -1,6 +1,6 @@
 -- What the runner answers: reading first, then 11, 19, 20 and 21, else the run of the body; and values in words.
 use Prim.Native.Nat.{ℕ, _+_, _-_}
-use mathlib.Core.Bool.{Bool, true, _&&_, not}
+use mathlib.Core.Bool.{Bool, true, _&&_, not, cond}
 use mathlib.Core.List.{List, [], _∷_, map}
 use lib.Dec.{ltb, eqb}
 use lib.ListN.{take}
@@ -22,7 +22,6 @@ use Rattle.rl_spec.specs.declared.Outcome.{Outcome}
 use Rattle.rl_spec.specs.declared.Outcome.the-variants.{Returned, Stopped, Fault, Spent}
 use Rattle.rl_spec.specs.declared.RunAnswer.{RunAnswer}
 use Rattle.rl_spec.specs.declared.RunAnswer.the-variants.{Ran, Refused}
-use Rattle.rl_spec.specs.Bytes.{pick}
 use Rattle.rl_spec.specs.Read.{numberOf, answerOf}
 use Rattle.rl_spec.specs.Image.{Image, imageOf, textOf}
 use Rattle.rl_spec.specs.Folded.{constOf, asConst}
@@ -112,10 +111,10 @@ isFor count params = eqb count params && not (ltb 16 count)
 
 abbrev pub runBy : List ℕ → ℕ → Arguments → ℕ → Answer → RunAnswer
 runBy s f args budget (read.Accepted a c) =
-    pick (not (ltb f (c .functions))) (Refused NoSuchFunction 0)
-    (pick (not (isFor (args .count) (functionAt (imageOf s) f .params .count))) (Refused WrongValues 0)
-    (pick (not (allHave c (given args))) (Refused NoSuchText 0)
-    (pick (ltb 1000000 budget) (Refused BudgetOverLimit 0) (ranIn (imageOf s) f (given args) budget))))
+    cond (not (ltb f (c .functions))) (Refused NoSuchFunction 0)
+    (cond (not (isFor (args .count) (functionAt (imageOf s) f .params .count))) (Refused WrongValues 0)
+    (cond (not (allHave c (given args))) (Refused NoSuchText 0)
+    (cond (ltb 1000000 budget) (Refused BudgetOverLimit 0) (ranIn (imageOf s) f (given args) budget))))
 runBy s f args budget (read.Refused q n) = Refused q n
 
 unfoldable pub runOf : List ℕ → ℕ → ℕ → Arguments → ℕ → RunAnswer
@@ -157,5 +156,5 @@ plainOfWords sort payload = plainIn (wordsValue sort payload)
 -- the value of two words
 unfoldable pub valueOfWords : ℕ → ℕ → Value
 valueOfWords sort payload =
-    pick (ltb sort 8) (Bare (plainOfWords sort payload))
-    (pick (ltb sort 16) (Ok (plainOfWords (sort - 8) payload)) (Err (plainOfWords (sort - 16) payload)))
+    cond (ltb sort 8) (Bare (plainOfWords sort payload))
+    (cond (ltb sort 16) (Ok (plainOfWords (sort - 8) payload)) (Err (plainOfWords (sort - 16) payload)))

@@ -1,6 +1,6 @@
 -- The schema of the image: its sections, the kinds of record in each, and the fields of each kind.
 use Prim.Native.Nat.{ℕ}
-use mathlib.Core.Bool.{Bool, false}
+use mathlib.Core.Bool.{Bool, false, cond}
 use mathlib.Core.List.{List, [], _∷_}
 use lib.Dec.{eqb, ltb, leb}
 use Rattle.rl_spec.specs.declared.Counts.{Counts}
@@ -9,7 +9,6 @@ use Rattle.rl_spec.specs.declared.Section.the-variants.{Texts, Lists, Ex
 use Rattle.rl_spec.specs.declared.Target.the-variants.{Text, Expression, Statement, Branch, ElseBranch, Arm}
 use Rattle.rl_spec.specs.declared.Sort.{Sort}
 use Rattle.rl_spec.specs.declared.Sort.the-variants.{Raw, Byte, Scalar, Part, One, Maybe, Many, Range, OperandSort, Operand}
-use Rattle.rl_spec.specs.Bytes.{pick}
 
 -- ---- the header: the limits of its counts, in order
 
@@ -57,7 +56,7 @@ highest Functions = 82
 highest Calls = 83
 
 unfoldable pub inSection : Section → ℕ → Bool
-inSection o k = pick (ltb k (lowest o)) false (leb k (highest o))
+inSection o k = cond (ltb k (lowest o)) false (leb k (highest o))
 
 -- the greatest height; the records of the other sections have no children of their own section
 abbrev pub tallest : Section → ℕ
@@ -158,29 +157,29 @@ clauses = 25
 
 unfoldable pub sortOf : ℕ → Sort
 sortOf c =
-    pick (eqb c raw1) (Raw 1)
-    (pick (eqb c raw2) (Raw 2)
-    (pick (eqb c raw4) (Raw 4)
-    (pick (eqb c raw8) (Raw 8)
-    (pick (eqb c flag) (Byte 0 1)
-    (pick (eqb c operator) (Byte 1 63)
-    (pick (eqb c refinement) (Byte 0 6)
-    (pick (eqb c operandSort) OperandSort
-    (pick (eqb c operand) Operand
-    (pick (eqb c scalar) Scalar
-    (pick (eqb c part) Part
-    (pick (eqb c text) (One Text)
-    (pick (eqb c node) (One Expression)
-    (pick (eqb c nodeOrNone) (Maybe Expression)
-    (pick (eqb c statement) (One Statement)
-    (pick (eqb c branch) (One Branch)
-    (pick (eqb c elseBranch) (Maybe ElseBranch)
-    (pick (eqb c texts) (Many Text Text 1)
-    (pick (eqb c nodes) (Many Expression Expression 1)
-    (pick (eqb c nodePairs) (Many Expression Expression 2)
-    (pick (eqb c fieldPairs) (Many Text Expression 2)
-    (pick (eqb c body) (Many Statement Statement 1)
-    (pick (eqb c arms) (Many Arm Arm 1) (pick (eqb c parameters) (Range Parameters) (Range Clauses))))))))))))))))))))))))
+    cond (eqb c raw1) (Raw 1)
+    (cond (eqb c raw2) (Raw 2)
+    (cond (eqb c raw4) (Raw 4)
+    (cond (eqb c raw8) (Raw 8)
+    (cond (eqb c flag) (Byte 0 1)
+    (cond (eqb c operator) (Byte 1 63)
+    (cond (eqb c refinement) (Byte 0 6)
+    (cond (eqb c operandSort) OperandSort
+    (cond (eqb c operand) Operand
+    (cond (eqb c scalar) Scalar
+    (cond (eqb c part) Part
+    (cond (eqb c text) (One Text)
+    (cond (eqb c node) (One Expression)
+    (cond (eqb c nodeOrNone) (Maybe Expression)
+    (cond (eqb c statement) (One Statement)
+    (cond (eqb c branch) (One Branch)
+    (cond (eqb c elseBranch) (Maybe ElseBranch)
+    (cond (eqb c texts) (Many Text Text 1)
+    (cond (eqb c nodes) (Many Expression Expression 1)
+    (cond (eqb c nodePairs) (Many Expression Expression 2)
+    (cond (eqb c fieldPairs) (Many Text Expression 2)
+    (cond (eqb c body) (Many Statement Statement 1)
+    (cond (eqb c arms) (Many Arm Arm 1) (cond (eqb c parameters) (Range Parameters) (Range Clauses))))))))))))))))))))))))
 
 -- the bytes that a field takes
 abbrev pub widthOf : Sort → ℕ
@@ -336,7 +335,7 @@ schema =
 
 unfoldable pub fieldsIn : ℕ → List Row → List ℕ
 fieldsIn k [] = []
-fieldsIn k (r ∷ rs) = pick (eqb k (r .kind)) (r .fields) (fieldsIn k rs)
+fieldsIn k (r ∷ rs) = cond (eqb k (r .kind)) (r .fields) (fieldsIn k rs)
 
 unfoldable pub fieldsOf : ℕ → List ℕ
 fieldsOf k = fieldsIn k schema

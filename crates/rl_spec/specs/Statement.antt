@@ -1,5 +1,6 @@
 -- The trees that the statements of an image stand for. Forms that the runner does not take are one. T is the type of texts.
 use Prim.Native.Nat.{ℕ}
+use mathlib.Core.Bool.{cond}
 use mathlib.Core.List.{List, [], _∷_, map}
 use mathlib.Core.Option.{Option, none, some}
 use lib.Dec.{eqb}
@@ -7,7 +8,6 @@ use Rattle.rl_spec.specs.declared.Section.the-variants.{Statements}
 use Rattle.rl_spec.specs.declared.Interval.{Interval}
 use Rattle.rl_spec.specs.declared.StatementForm.{StatementForm}
 use Rattle.rl_spec.specs.declared.StatementForm.the-variants.{Declaration, Expression, Return, ReturnAlone, Conditional, Branch as ABranch, While, Loop, Break, Continue, Other}
-use Rattle.rl_spec.specs.Bytes.{pick}
 use Rattle.rl_spec.specs.Image.{Rec, Image, recordOf, fieldOf, entryOf}
 use Rattle.rl_spec.specs.Tree.{Expr, number, descend, exprTree}
 use Rattle.rl_spec.specs.Ranges.{interval}
@@ -81,25 +81,25 @@ bodyBy im item list = bodyFrom (map (λ k. item (entryOf im k)) (numbersIn list)
 
 -- 65,535 for none
 abbrev pub conditionBy : Image → ℕ → Option (Expr ℕ)
-conditionBy im n = pick (eqb n 65535) none (some (exprTree im n))
+conditionBy im n = cond (eqb n 65535) none (some (exprTree im n))
 
 abbrev pub elseBy : (ℕ → Item) → ℕ → Else ℕ
-elseBy item n = pick (eqb n 65535) noElse (asElse (item n))
+elseBy item n = cond (eqb n 65535) noElse (asElse (item n))
 
 -- ---- the form of a record; field 0 is the span
 
 unfoldable pub statementBy : Rec → StatementForm
 statementBy r =
-    pick (eqb (r .kind) 64) (Declaration (number r 1) (number r 3))
-    (pick (eqb (r .kind) 65) (Expression (number r 1))
-    (pick (eqb (r .kind) 66) (Return (number r 1))
-    (pick (eqb (r .kind) 67) ReturnAlone
-    (pick (eqb (r .kind) 68) (Conditional (number r 1) (number r 2))
-    (pick (eqb (r .kind) 69) (ABranch (number r 1) (interval (fieldOf r 2)))
-    (pick (eqb (r .kind) 70) (While (number r 1) (interval (fieldOf r 2)))
-    (pick (eqb (r .kind) 71) (Loop (interval (fieldOf r 1)))
-    (pick (eqb (r .kind) 77) Break
-    (pick (eqb (r .kind) 78) Continue Other)))))))))
+    cond (eqb (r .kind) 64) (Declaration (number r 1) (number r 3))
+    (cond (eqb (r .kind) 65) (Expression (number r 1))
+    (cond (eqb (r .kind) 66) (Return (number r 1))
+    (cond (eqb (r .kind) 67) ReturnAlone
+    (cond (eqb (r .kind) 68) (Conditional (number r 1) (number r 2))
+    (cond (eqb (r .kind) 69) (ABranch (number r 1) (interval (fieldOf r 2)))
+    (cond (eqb (r .kind) 70) (While (number r 1) (interval (fieldOf r 2)))
+    (cond (eqb (r .kind) 71) (Loop (interval (fieldOf r 1)))
+    (cond (eqb (r .kind) 77) Break
+    (cond (eqb (r .kind) 78) Continue Other)))))))))
 
 abbrev pub statementOf : Image → ℕ → StatementForm
 statementOf im i = statementBy (recordOf im Statements i)

@@ -3,7 +3,7 @@ use Prim.Native.Nat.{ℕ, zero, suc, _+_, _-_, _^_}
 use Prim.Native.Char.{code}
 use Prim.Native.String.{String}
 use Prim.Native.String.{[] as end, _∷_ as _▸_}
-use mathlib.Core.Bool.{Bool, true, false, _&&_}
+use mathlib.Core.Bool.{Bool, true, false, cond, _&&_}
 use mathlib.Core.List.{List, [], _∷_}
 use mathlib.Core.Option.{Option}
 use lib.Dec.{ltb, eqb}
@@ -15,7 +15,6 @@ use Rattle.rl_spec.specs.declared.Folded.{Folded}
 use Rattle.rl_spec.specs.declared.Folded.the-variants.{Value, Nothing}
 use Rattle.rl_spec.specs.declared.Form.{Form}
 use Rattle.rl_spec.specs.declared.Form.the-variants.{Null, Literal, Identifier, Unary, Binary, Grouping, Assign, OkLiteral, ErrLiteral, IsErr, ResultUnwrap, Other}
-use Rattle.rl_spec.specs.Bytes.{pick}
 use Rattle.rl_spec.specs.Image.{Field, Rec, Image, first, second, recordOf, fieldOf, entryOf, textOf}
 use Rattle.rl_spec.specs.Values.{ConstVal, sameText}
 use Rattle.rl_spec.specs.Folded.{foldedOf}
@@ -43,11 +42,11 @@ ascii (c ▸ s) = code c ∷ ascii s
 
 -- the number whose two's complement in w bits is n
 abbrev pub signed : ℕ → ℕ → ℤ
-signed w n = pick (ltb n (2 ^ (w - 1))) (pos n) (negsuc (2 ^ w - suc n))
+signed w n = cond (ltb n (2 ^ (w - 1))) (pos n) (negsuc (2 ^ w - suc n))
 
 -- a UInt folds where it is an i64
 abbrev pub unsigned : ℕ → Folded
-unsigned n = pick (ltb n (2 ^ 63)) (Value (Int (pos n))) Nothing
+unsigned n = cond (ltb n (2 ^ 63)) (Value (Int (pos n))) Nothing
 
 -- the number in a field, where field 0 is the span
 abbrev pub number : Rec → ℕ → ℕ
@@ -68,28 +67,28 @@ isResPath im path name =
 -- a Call, by its path and its arguments
 unfoldable pub callForm : Image → Field → Field → Form
 callForm im path args =
-    pick (eqb (second args) 1)
-    (pick (isResPath im path (ascii "is_err")) (IsErr (entryOf im (first args)))
-    (pick (isResPath im path (ascii "result_unwrap")) (ResultUnwrap (entryOf im (first args))) Other)) Other
+    cond (eqb (second args) 1)
+    (cond (isResPath im path (ascii "is_err")) (IsErr (entryOf im (first args)))
+    (cond (isResPath im path (ascii "result_unwrap")) (ResultUnwrap (entryOf im (first args))) Other)) Other
 
 unfoldable pub formBy : Image → Rec → Form
 formBy im r =
-    pick (eqb (r .kind) 16) Null
-    (pick (eqb (r .kind) 17) (Literal (Value (Int (signed 64 (number r 1)))))
-    (pick (eqb (r .kind) 18) (Literal (Value (Int (signed 32 (number r 1)))))
-    (pick (eqb (r .kind) 19) (Literal (unsigned (number r 1)))
-    (pick (eqb (r .kind) 25) (Literal (Value (Str (number r 1))))
-    (pick (eqb (r .kind) 26) (Literal (Value (Truth (eqb (number r 1) 1))))
-    (pick (eqb (r .kind) 27) (Literal (Value (Float (ofBits binary64 (number r 1)))))
-    (pick (eqb (r .kind) 28) (Literal (Value (Float (ofBits binary32 (number r 1)))))
-    (pick (eqb (r .kind) 30) (Identifier (number r 1))
-    (pick (eqb (r .kind) 32) (Binary (number r 1) (number r 2) (number r 3))
-    (pick (eqb (r .kind) 33) (Unary (number r 1) (number r 2))
-    (pick (eqb (r .kind) 34) (Grouping (number r 1))
-    (pick (eqb (r .kind) 39) (Assign (number r 1) (number r 2))
-    (pick (eqb (r .kind) 41) (callForm im (fieldOf r 1) (fieldOf r 2))
-    (pick (eqb (r .kind) 49) (OkLiteral (number r 1))
-    (pick (eqb (r .kind) 50) (ErrLiteral (number r 1)) Other)))))))))))))))
+    cond (eqb (r .kind) 16) Null
+    (cond (eqb (r .kind) 17) (Literal (Value (Int (signed 64 (number r 1)))))
+    (cond (eqb (r .kind) 18) (Literal (Value (Int (signed 32 (number r 1)))))
+    (cond (eqb (r .kind) 19) (Literal (unsigned (number r 1)))
+    (cond (eqb (r .kind) 25) (Literal (Value (Str (number r 1))))
+    (cond (eqb (r .kind) 26) (Literal (Value (Truth (eqb (number r 1) 1))))
+    (cond (eqb (r .kind) 27) (Literal (Value (Float (ofBits binary64 (number r 1)))))
+    (cond (eqb (r .kind) 28) (Literal (Value (Float (ofBits binary32 (number r 1)))))
+    (cond (eqb (r .kind) 30) (Identifier (number r 1))
+    (cond (eqb (r .kind) 32) (Binary (number r 1) (number r 2) (number r 3))
+    (cond (eqb (r .kind) 33) (Unary (number r 1) (number r 2))
+    (cond (eqb (r .kind) 34) (Grouping (number r 1))
+    (cond (eqb (r .kind) 39) (Assign (number r 1) (number r 2))
+    (cond (eqb (r .kind) 41) (callForm im (fieldOf r 1) (fieldOf r 2))
+    (cond (eqb (r .kind) 49) (OkLiteral (number r 1))
+    (cond (eqb (r .kind) 50) (ErrLiteral (number r 1)) Other)))))))))))))))
 
 abbrev pub formOf : Image → ℕ → Form
 formOf im i = formBy im (recordOf im Expressions i)
@@ -98,7 +97,7 @@ formOf im i = formBy im (recordOf im Expressions i)
 
 -- what `step` makes at an index of what is made at the smaller ones; d stands for the others
 abbrev pub below : {X : Type 0} → ℕ → X → (ℕ → X) → ℕ → X
-below i d g j = pick (ltb j i) (g j) d
+below i d g j = cond (ltb j i) (g j) d
 
 unfoldable pub descendBy : {X : Type 0} → X → (ℕ → (ℕ → X) → X) → ℕ → ℕ → X
 descendBy d step zero i = d

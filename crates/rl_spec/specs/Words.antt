@@ -9,7 +9,6 @@ use Rattle.rl_spec.specs.declared.ConstVal.{ConstVal}
 use Rattle.rl_spec.specs.declared.ConstVal.the-variants.{Int, Float, Str, Bool as Truth}
 use Rattle.rl_spec.specs.declared.Folded.{Folded}
 use Rattle.rl_spec.specs.declared.Folded.the-variants.{Value, Nothing}
-use Rattle.rl_spec.specs.Bytes.{pick}
 use Rattle.rl_spec.specs.Tree.{signed}
 
 -- two's complement in 64 bits
@@ -40,7 +39,7 @@ payloadWordOf Nothing = 0
 -- the value of two words; any other sort is none
 unfoldable pub wordsValue : ℕ → ℕ → Folded
 wordsValue sort payload =
-    pick (eqb sort 1) (Value (Int (signed 64 payload)))
-    (pick (eqb sort 2) (Value (Float (ofBits binary64 payload)))
-    (pick (eqb sort 3) (Value (Str (payload % 65536)))
-    (pick (eqb sort 4) (Value (Truth (eqb payload 1))) Nothing)))
+    cond (eqb sort 1) (Value (Int (signed 64 payload)))
+    (cond (eqb sort 2) (Value (Float (ofBits binary64 payload)))
+    (cond (eqb sort 3) (Value (Str (payload % 65536)))
+    (cond (eqb sort 4) (Value (Truth (eqb payload 1))) Nothing)))

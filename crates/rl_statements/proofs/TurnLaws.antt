@@ -15,7 +15,7 @@ use Rattle.rl_spec.specs.Run as run
 use Rattle.rl_spec.specs.Run.{Result, got, ended, Run, andThen, leaving, scoped}
 use Rattle.rl_spec.specs.Reading as reading
 use Rattle.rl_spec.specs.Reading.{plainly, turns, again, when, taken, body}
-use Rattle.rl_theorems.specs.Steps.{while-unfolds, loop-unfolds}
+use Rattle.rl_laws.specs.Steps.{while-unfolds, loop-unfolds}
 use Rattle.rl_machine.specs.declared.types.Flow.{Flow}
 use Rattle.rl_machine.specs.declared.types.Flow.the-variants.{Onward, Breaks, Continues, Skipped, Over}
 use Rattle.rl_machine.specs.declared.types.State.{State}

@@ -1,7 +1,7 @@
 -- Statements that hold statements: what their parts come to; and how a turn ends. Assumes nothing.
 use Prim.Native.Nat.{ℕ, _+_, _-_, _<_, _≤_}
 use mathlib.Core.Path.{_≡_, refl, ap, _∙_, sym, subst}
-use mathlib.Core.Bool.{Bool, true, false, not}
+use mathlib.Core.Bool.{Bool, true, false, not, cond}
 use mathlib.Core.List.{List, [], _∷_}
 use mathlib.Core.Option.{none, some}
 use native.Mathlib.Omega.{arith}
@@ -16,7 +16,6 @@ use Rattle.rl_spec.specs.declared.Outcome.{Outcome}
 use Rattle.rl_spec.specs.declared.StatementForm.{StatementForm}
 use Rattle.rl_spec.specs.declared.StatementForm.the-variants as form
 use Rattle.rl_spec.proofs.StatementForm as forms
-use Rattle.rl_spec.specs.Bytes.{pick}
 use Rattle.rl_spec.specs.Image.{Image, textOf}
 use Rattle.rl_spec.specs.Found.{imageFound}
 use Rattle.rl_spec.specs.Tree.{exprTree}
@@ -62,7 +61,7 @@ less-none n = omega arith
 whole-list : (im : Image) (b : ℕ) (list : Interval) → bodyLeft im b list 0 ≡ bodyBy im (itemUnder im b) list
 whole-list im b list = rw (plus-none (list .first), less-none (list .count)) refl
 
-condition-told : (im : Image) (n : ℕ) (t : Bool) → pick t none (some (exprTree im n)) ≡ conditionIf im (not t) n
+condition-told : (im : Image) (n : ℕ) (t : Bool) → cond t none (some (exprTree im n)) ≡ conditionIf im (not t) n
 condition-told im n true = refl
 condition-told im n false = refl
 
@@ -145,7 +144,7 @@ module _ (im : Image) (limit other : ℕ) where
   no-else e env n = ap (λ x. elseIn x env n) e
 
   else-some : (i : Item) → (other ≡ 65535 → ⊥) → itemUnder im limit other ≡ i → elseBy (itemUnder im limit) other ≡ asElse i
-  else-some i h e = ap (λ t. pick t noElse (asElse (itemUnder im limit other))) (ne-eqb other 65535 h) ∙ ap asElse e
+  else-some i h e = ap (λ t. cond t noElse (asElse (itemUnder im limit other))) (ne-eqb other 65535 h) ∙ ap asElse e
 
   else-is : (x : StatementForm) → (other ≡ 65535 → ⊥) → other < limit → statementOf im other ≡ x → ElseIs im limit other (elseOf x)
   unfolding reading.orElse stmt
@@ -208,7 +207,7 @@ module _ (b p : List ℕ) (c : Counts) where
   branch-view limit i x r h e f = subst (BranchIs here limit i) (sym f) (branch-is here limit i x h (sym e))
 
   pub no-other : (limit i : ℕ) → i ≡ 65535 → ElseIs here limit i elses.Missing
-  no-other limit i e = no-else here limit i (ap (λ t. pick t noElse (asElse (itemUnder here limit i))) (eq-eqb i 65535 e))
+  no-other limit i e = no-else here limit i (ap (λ t. cond t noElse (asElse (itemUnder here limit i))) (eq-eqb i 65535 e))
 
   pub other-late : (limit i : ℕ) → (i ≡ 65535 → ⊥) → limit ≤ i → ElseIs here limit i elses.Missing
   other-late limit i g h = no-else here limit i (else-some here limit i none-item g (under-later none-item (itemTree here) limit i h))

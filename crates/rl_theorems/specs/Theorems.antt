@@ -46,44 +46,44 @@ use Rattle.rl_spec.specs.Lowerer.{made, refused, tooTall, orLimit, lowerOf, low
 use Rattle.rl_spec.specs.Runner.{outcomeIn, allHave, given, valuesOf, runOf}
 use Rattle.rl_spec.specs.Run.{Value, Env, got, used, tick, _>>_, eval}
 use Rattle.rl_spec.specs.Reading.{Check, Function, Mode, repeat, loopTurn, whileTurn, checks, stmt, body, top, runFunction, entering, reading}
-use Rattle.rl_theorems.specs.Utf8 as Utf8
-use Rattle.rl_theorems.specs.Decode as Decode
-use Rattle.rl_theorems.specs.Accepted as Well
-use Rattle.rl_theorems.specs.Access as Access
-use Rattle.rl_theorems.specs.Found as Found
-use Rattle.rl_theorems.specs.Encoded as Encoded
-use Rattle.rl_theorems.specs.EncodedBytes as EncodedBytes
-use Rattle.rl_theorems.specs.Known.{counts}
-use Rattle.rl_theorems.specs.Starts as Starts
-use Rattle.rl_theorems.specs.Places as Places
-use Rattle.rl_theorems.specs.Outcome as Outcome
-use Rattle.rl_theorems.specs.Causes as Causes
-use Rattle.rl_theorems.specs.Distance.{Same, apart}
-use Rattle.rl_theorems.specs.Nearest as Nearest
-use Rattle.rl_theorems.specs.Answers as Answers
-use Rattle.rl_theorems.specs.LowerBodies as LowerBodies
-use Rattle.rl_theorems.specs.LowerFrame as LowerFrame
-use Rattle.rl_theorems.specs.LoweredTo as LoweredTo
-use Rattle.rl_theorems.specs.LoweredTrees as LoweredTrees
-use Rattle.rl_theorems.specs.Steps as Steps
-use Rattle.rl_theorems.specs.Budget as Budget
-use Rattle.rl_theorems.specs.Texts as Texts
-use Rattle.rl_theorems.specs.TextRuns as TextRuns
-use Rattle.rl_theorems.specs.RunExamples as RunExamples
-use Rattle.rl_theorems.specs.FoldsCalls as FoldsCalls
-use Rattle.rl_theorems.specs.FoldsEntry as FoldsEntry
-use Rattle.rl_theorems.specs.Heights as Heights
-use Rattle.rl_theorems.specs.LowerTrees as LowerTrees
-use Rattle.rl_theorems.specs.LoweredRuns as LoweredRuns
-use Rattle.rl_theorems.specs.Grows.{eight-sections}
-use Rattle.rl_theorems.specs.Followed as Followed
-use Rattle.rl_theorems.specs.FunctionReady.{Under}
-use Rattle.rl_theorems.specs.LoweredWellFormed as LoweredWellFormed
-use Rattle.rl_theorems.specs.LowerAnswers as LowerAnswers
-use Rattle.rl_theorems.specs.LoweredBytes as LoweredBytes
-use Rattle.rl_theorems.specs.FirstHalf as FirstHalf
-use Rattle.rl_theorems.specs.SecondHalf as SecondHalf
-use Rattle.rl_theorems.specs.Marked as Marked
+use Rattle.rl_images.specs.Reading.Utf8 as Utf8
+use Rattle.rl_images.specs.Reading.Decode as Decode
+use Rattle.rl_images.specs.Encoding.Accepted as Well
+use Rattle.rl_theorems.specs.Reading.Access as Access
+use Rattle.rl_images.specs.Reading.Found as Found
+use Rattle.rl_images.specs.Encoding.Encoded as Encoded
+use Rattle.rl_images.specs.Encoding.EncodedBytes as EncodedBytes
+use Rattle.rl_images.specs.Encoding.ReaderKnows.{counts}
+use Rattle.rl_images.specs.Reading.Starts as Starts
+use Rattle.rl_images.specs.Reading.Places as Places
+use Rattle.rl_images.specs.Reading.ReadOutcome as Outcome
+use Rattle.rl_images.specs.Reading.Causes as Causes
+use Rattle.rl_theorems.specs.Values.Distance.{Same, apart}
+use Rattle.rl_theorems.specs.Values.Nearest as Nearest
+use Rattle.rl_theorems.specs.Reading.EncodedAnswers as Answers
+use Rattle.rl_theorems.specs.Lowering.LowerBodies as LowerBodies
+use Rattle.rl_theorems.specs.Lowering.LowerFrame as LowerFrame
+use Rattle.rl_theorems.specs.Lowering.LoweredTo as LoweredTo
+use Rattle.rl_theorems.specs.Lowering.LoweredFunctions as LoweredTrees
+use Rattle.rl_laws.specs.Steps as Steps
+use Rattle.rl_theorems.specs.Runs.Budget as Budget
+use Rattle.rl_theorems.specs.Runs.Texts as Texts
+use Rattle.rl_theorems.specs.Runs.TextRuns as TextRuns
+use Rattle.rl_examples.specs.RunExamples as RunExamples
+use Rattle.rl_theorems.specs.DemandThree.FoldsCalls as FoldsCalls
+use Rattle.rl_theorems.specs.DemandThree.FoldsEntry as FoldsEntry
+use Rattle.rl_images.specs.Images.Heights as Heights
+use Rattle.rl_theorems.specs.Lowering.LowerTrees as LowerTrees
+use Rattle.rl_theorems.specs.Lowering.LoweredRuns as LoweredRuns
+use Rattle.rl_images.specs.Lowering.Grows.{eight-sections}
+use Rattle.rl_images.specs.Lowering.Followed as Followed
+use Rattle.rl_theorems.specs.Images.FunctionReady.{Under}
+use Rattle.rl_theorems.specs.Images.LoweredWellFormed as LoweredWellFormed
+use Rattle.rl_theorems.specs.DemandThree.LowerAnswers as LowerAnswers
+use Rattle.rl_theorems.specs.DemandThree.LoweredBytes as LoweredBytes
+use Rattle.rl_theorems.specs.DemandThree.FirstHalf as FirstHalf
+use Rattle.rl_theorems.specs.DemandThree.SecondHalf as SecondHalf
+use Rattle.rl_theorems.specs.DemandThree.Marked as Marked
 use Rattle.rl_laws.specs.Heights.{exprHeight}
 
 -- ---- text (Utf8): the syntax of RFC 3629 admits the encodings of scalars and nothing else

@@ -2,7 +2,7 @@
 -- Assumes nothing.
 use Prim.Native.Nat.{ℕ, zero, suc, _+_, _*_, _/_, _%_, _≤_, _<_}
 use mathlib.Core.Path.{_≡_, refl, ap, ap₂, sym, _∙_, subst}
-use mathlib.Core.Bool.{Bool, true, false}
+use mathlib.Core.Bool.{Bool, true, false, cond}
 use mathlib.Core.List.{List, [], _∷_, _++_, map}
 use mathlib.Core.Logic.{_⊎_, inl, inr}
 use mathlib.Core.Option.{Option, none, some}
@@ -17,7 +17,7 @@ use Rattle.rl_spec.specs.declared.Target.{Target}
 use Rattle.rl_spec.specs.declared.Target.the-variants.{Arm}
 use Rattle.rl_spec.specs.declared.Interval.{Interval}
 use Rattle.rl_spec.specs.declared.Section.the-variants.{Lists, Statements}
-use Rattle.rl_spec.specs.Bytes.{pick, numAt, u16At}
+use Rattle.rl_spec.specs.Bytes.{numAt, u16At}
 use Rattle.rl_spec.specs.Schema.{limits, sections, sortOf, schema, fieldsIn, fieldsOf}
 use Rattle.rl_spec.specs.Image.{Field, num, pair, Rec, Image, recordsOf, sizeOf, noRecord, recordOf, fieldOf, first, second, entryOf, fieldsAt, FieldsFit, Refers, Entries, WellFormed}
 use Rattle.rl_spec.specs.Found.{recordAs, imageFound}
@@ -32,12 +32,12 @@ use Rattle.rl_laws.specs.Found.{size-found}
 use Rattle.rl_laws.specs.Tests.{by-eqb}
 use Rattle.rl_transform.proofs.Rebuilding.{statement-is}
 use Rattle.rl_encode.specs.Words.{wordField}
-use Rattle.rl_theorems.specs.Making.{gives}
+use Rattle.rl_images.specs.Lowering.Gives.{gives}
 use Rattle.rl_context.specs.declared.Ctx.{Ctx}
 use Rattle.rl_context.specs.Additions.{Live}
 use Rattle.rl_context.specs.Does.{State, at, nothing, one, all, Does, Pushes, Listed}
 use Rattle.rl_context.proofs.Composed.{Keeps, not-both, does-then, does-bind, does-give, does-same, does-push, does-list}
-use Rattle.rl_context.proofs.More.{More, more-bind, more-give, more-pick, more-append, keeps-more}
+use Rattle.rl_context.proofs.More.{More, more-bind, more-give, more-cond, more-append, keeps-more}
 use Rattle.rl_context.proofs.MoreLower.{more-fail, more-expr, more-wrap, more-body, more-branch, more-else, more-arm, more-conditional, more-match, more-statement}
 use Rattle.rl_context.proofs.Appends.{stops-does}
 use Rattle.rl_copy.proofs.Copying.{old-entries}
@@ -52,7 +52,7 @@ last-loop k a b d e f g = omega arith
 -- ---- the walk
 
 pub more-walk : (ensures : List Clause) (id j : ℕ) → More (walkBelow ensures id j)
-more-walk ensures id j = more-pick (ltb j id) (more-statement ensures j) more-fail
+more-walk ensures id j = more-cond (ltb j id) (more-statement ensures j) more-fail
 
 module _ (s p : List ℕ) (c : Counts) (ensured : Interval) where
   abbrev im : Image
@@ -63,10 +63,10 @@ module _ (s p : List ℕ) (c : Counts) (ensured : Interval) where
 
   pub below-stopped : (limit x : ℕ) (t u : State) → limit ≤ x → u .ctx .full ≡ true → Below s p c ensured limit x t u
   below-stopped limit x t u h f =
-      ([], subst (λ m. Does im 0 0 all m t [] u) (sym (ap (λ b. pick b (transformStatement es x) fail) (le-ltb x limit h))) (stops-does all f more-fail (λ y ws v l. refl)))
+      ([], subst (λ m. Does im 0 0 all m t [] u) (sym (ap (λ b. cond b (transformStatement es x) fail) (le-ltb x limit h))) (stops-does all f more-fail (λ y ws v l. refl)))
 
   pub below-done : (limit x : ℕ) (t u : State) → x < limit → OneStatement s p c ensured x t u → Below s p c ensured limit x t u
-  below-done limit x t u h d = (d .0, subst (λ m. Does im 0 0 all m t (d .0) u) (sym (ap (λ b. pick b (transformStatement es x) fail) (lt-ltb x limit h))) (d .1))
+  below-done limit x t u h d = (d .0, subst (λ m. Does im 0 0 all m t (d .0) u) (sym (ap (λ b. cond b (transformStatement es x) fail) (lt-ltb x limit h))) (d .1))
 
   -- ---- the record at hand
 
@@ -269,12 +269,12 @@ module _ (s p : List ℕ) (c : Counts) (rows : List ℕ) (ensured : Interval) (r
     branch-by u n m h k e d =
         does-same (transformElse walk x) (keeps-more nothing (λ _. more-else walk (more-walk clauses limit) x))
         (λ y ws l.
-        ap (λ b. pick b (give x) (transformBranch walk x) y) (ne-eqb x 65535 k)
+        ap (λ b. cond b (give x) (transformBranch walk x) y) (ne-eqb x 65535 k)
         ∙ ap (λ r. transformBranchBy walk x r y) (old-statement s p c ensured {t = t} x l h)
         ∙ ap (λ z. z y) e) d
 
     pub branch-none : x ≡ 65535 → Otherwise s p c ensured limit x t x t
-    branch-none e = subst (λ m. Makes of m t x t) (sym (ap (λ b. pick b (give x) (transformBranch walk x)) (eq-eqb x 65535 e))) (does-give of 0 x t)
+    branch-none e = subst (λ m. Makes of m t x t) (sym (ap (λ b. cond b (give x) (transformBranch walk x)) (eq-eqb x 65535 e))) (does-give of 0 x t)
 
     module _ (start kind : ℕ) (h : (x ≡ 65535 → ⊥) → x < c .statements) (k : x ≡ 65535 → ⊥) (e : start ≡ getD p (c .expressions + x) 0) (q : kind ≡ getD s start 0) where
       pub branch-body : (u : State) (n : ℕ) → kind ≡ 69 → Body s p c ensured limit x t n u → Otherwise s p c ensured limit x t n u
@@ -286,7 +286,7 @@ module _ (s p : List ℕ) (c : Counts) (rows : List ℕ) (ensured : Interval) (r
       pub branch-kept : (kind ≡ 69 → ⊥) → Otherwise s p c ensured limit x t x t
       unfolding recordAs
       branch-kept g =
-          branch-by t x (give x) (h k) k (ap (transformBranchBy walk x) (statement-is s p c x start kind (h k) e q) ∙ ap (λ b. pick b (transformList walk (fieldOf (recordAs s kind start) 2) >>= λ body. stmt 69 (number (recordAs s kind start) 0) (fieldOf (recordAs s kind start) 1 ∷ body ∷ num 0 ∷ [])) (give x)) (ne-eqb kind 69 g)) (does-give of 0 x t)
+          branch-by t x (give x) (h k) k (ap (transformBranchBy walk x) (statement-is s p c x start kind (h k) e q) ∙ ap (λ b. cond b (transformList walk (fieldOf (recordAs s kind start) 2) >>= λ body. stmt 69 (number (recordAs s kind start) 0) (fieldOf (recordAs s kind start) 1 ∷ body ∷ num 0 ∷ [])) (give x)) (ne-eqb kind 69 g)) (does-give of 0 x t)
 
   pub branch-list : (x start kind : ℕ) (h : x < c .statements) → start ≡ getD p (c .expressions + x) 0 → kind ≡ getD s start 0 → kind ≡ 69 → listField (recordOf of Statements x .kind) ≡ 0 → ⊥
   unfolding recordAs
@@ -331,7 +331,7 @@ module _ (s p : List ℕ) (c : Counts) (rows : List ℕ) (ensured : Interval) (r
     unfolding recordAs fieldsAt fieldsOf fieldsIn schema sortOf stmt
     conditional-done t u v z a b m n index f g d o r =
         subst (λ y. Makes of (conditional (walkBelow clauses id) y) t index z) (sym is-68)
-        (does-bind (subst (λ y. Makes of y t m u) (ap (λ y. pick y (give a) (transformBranch (walkBelow clauses id) a)) (ne-eqb a 65535 (λ y. omega (arith, branch-earlier a f, few-statements, y))) ∙ ap (transformBranch (walkBelow clauses id)) (sym (first-is a f))) d)
+        (does-bind (subst (λ y. Makes of y t m u) (ap (λ y. cond y (give a) (transformBranch (walkBelow clauses id) a)) (ne-eqb a 65535 (λ y. omega (arith, branch-earlier a f, few-statements, y))) ∙ ap (transformBranch (walkBelow clauses id)) (sym (first-is a f))) d)
         (keeps-more nothing (λ y. more-bind (more-else (walkBelow clauses id) (more-walk clauses id) (number (recordAs s 68 start) 2)) (λ w. more-append Statements _)))
         (does-bind (subst (λ y. Makes of (transformElse (walkBelow clauses id) y) u n v) (sym (second-is b g)) o) (keeps-more nothing (λ w. more-append Statements _))
         (subst (λ y. Makes of (append Statements (rebuilt y 1 m 2 n ∷ [])) v index z) is-68 r)))
@@ -433,7 +433,7 @@ module _ (s p : List ℕ) (c : Counts) (rows : List ℕ) (ensured : Interval) (r
 pub field-low : (kind j : ℕ) → j ≡ listField kind → j < 8
 field-low kind j e = rw e (low (eqb kind 69) (eqb kind 70) (eqb kind 71) (eqb kind 72) (eqb kind 73) (eqb kind 74) (eqb kind 76))
   where
-    low : (a b d f g h i : Bool) → pick a 2 (pick b 2 (pick d 1 (pick f 4 (pick g 3 (pick h 3 (pick i 2 0)))))) < 8
+    low : (a b d f g h i : Bool) → cond a 2 (cond b 2 (cond d 1 (cond f 4 (cond g 3 (cond h 3 (cond i 2 0)))))) < 8
     low true b d f g h i = omega arith
     low false true d f g h i = omega arith
     low false false true f g h i = omega arith
@@ -446,14 +446,14 @@ field-low kind j e = rw e (low (eqb kind 69) (eqb kind 70) (eqb kind 71) (eqb ki
 pub flag-low : (kind k : ℕ) → k ≡ flagField kind → k < 8
 flag-low kind k e = rw e (low (eqb kind 69))
   where
-    low : (a : Bool) → pick a 3 7 < 8
+    low : (a : Bool) → cond a 3 7 < 8
     low true = omega arith
     low false = omega arith
 
 pub place-fits : (start kind place : ℕ) → start < 65536 → place ≡ listPlace kind → Fits w64 (start + place)
 place-fits start kind place h e = omega (arith, subst (λ z. z ≤ 11) (sym e) (low (eqb kind 69) (eqb kind 70) (eqb kind 71) (eqb kind 72) (eqb kind 73) (eqb kind 74) (eqb kind 76)))
   where
-    low : (a b d f g h i : Bool) → pick a 7 (pick b 7 (pick d 5 (pick f 11 (pick g 9 (pick h 9 (pick i 7 0)))))) ≤ 11
+    low : (a b d f g h i : Bool) → cond a 7 (cond b 7 (cond d 5 (cond f 11 (cond g 9 (cond h 9 (cond i 7 0)))))) ≤ 11
     low true b d f g h i = omega arith
     low false true d f g h i = omega arith
     low false false true f g h i = omega arith

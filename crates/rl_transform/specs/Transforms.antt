@@ -1,6 +1,7 @@
 -- What transforming promises.
 use Prim.Native.Nat.{ℕ, _+_, _<_}
 use mathlib.Core.Path.{_≡_}
+use mathlib.Core.Bool.{cond}
 use mathlib.Core.List.{List, [], _∷_, map}
 use lib.ListN.{getD, set}
 use lib.Dec.{eqb}
@@ -8,7 +9,6 @@ use Rattle.rl_spec.specs.declared.Section.the-variants.{Statements}
 use Rattle.rl_spec.specs.declared.Counts.{Counts}
 use Rattle.rl_spec.specs.declared.Interval.{Interval}
 use Rattle.rl_spec.specs.declared.Clause.{Clause}
-use Rattle.rl_spec.specs.Bytes.{pick}
 use Rattle.rl_spec.specs.Schema.{sortOf, fieldsOf}
 use Rattle.rl_spec.specs.Image.{Field, num, Rec, Image, recordOf, fieldOf, entryOf, WellFormed}
 use Rattle.rl_spec.specs.Tree.{below}
@@ -36,17 +36,17 @@ rebuilt r j w k v = made (r .kind) (set (set (r .fields) j (fieldOfWord (r .kind
 -- the list among the fields of a kind that holds statements: its number, and its place behind the record's start
 abbrev pub listField : ℕ → ℕ
 listField kind =
-    pick (eqb kind 69) 2
-    (pick (eqb kind 70) 2 (pick (eqb kind 71) 1 (pick (eqb kind 72) 4 (pick (eqb kind 73) 3 (pick (eqb kind 74) 3 (pick (eqb kind 76) 2 0))))))
+    cond (eqb kind 69) 2
+    (cond (eqb kind 70) 2 (cond (eqb kind 71) 1 (cond (eqb kind 72) 4 (cond (eqb kind 73) 3 (cond (eqb kind 74) 3 (cond (eqb kind 76) 2 0))))))
 
 abbrev pub listPlace : ℕ → ℕ
 listPlace kind =
-    pick (eqb kind 69) 7
-    (pick (eqb kind 70) 7 (pick (eqb kind 71) 5 (pick (eqb kind 72) 11 (pick (eqb kind 73) 9 (pick (eqb kind 74) 9 (pick (eqb kind 76) 7 0))))))
+    cond (eqb kind 69) 7
+    (cond (eqb kind 70) 7 (cond (eqb kind 71) 5 (cond (eqb kind 72) 11 (cond (eqb kind 73) 9 (cond (eqb kind 74) 9 (cond (eqb kind 76) 7 0))))))
 
 -- needs_scope of a branch
 abbrev pub flagField : ℕ → ℕ
-flagField kind = pick (eqb kind 69) 3 7
+flagField kind = cond (eqb kind 69) 3 7
 
 -- a record with its list transformed
 abbrev pub bodyOf : (ℕ → Make (List ℕ)) → Rec → Make ℕ

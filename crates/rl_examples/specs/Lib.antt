@@ -1,0 +1,10 @@
+-- Closed examples of the definitions, by computation. They stand on rl_spec alone, so that a wrong definition is refused here first.
+-- ---- text and values
+pub mod Utf8Examples
+pub mod ValueExamples
+-- ---- runs and readings
+pub mod RunExamples
+-- ---- small images, and what lowering makes of them
+pub mod MarkedImages
+pub mod LowerExamples
+pub mod LowerLimitExamples

@@ -1,0 +1,1 @@
+// Laws of images that the code needs; specs/ has them.

@@ -1,0 +1,177 @@
+-- A report of a call is an entry check that folds to false under the names that the call's arguments give.
+use Prim.Native.Nat.{ℕ, _+_}
+use mathlib.Core.Path.{_≡_, refl, ap, ap₂, _∙_}
+use mathlib.Core.Bool.{Bool, true, false, false≢true}
+use mathlib.Core.List.{List, [], _∷_, _++_, map}
+use mathlib.Core.Option.{Option, none, some}
+use Rattle.rl_spec.specs.declared.Violation.{Violation}
+use Rattle.rl_spec.specs.declared.Violation.the-variants.{Refinement, Requires}
+use Rattle.rl_spec.specs.Image.{Image, textOf}
+use Rattle.rl_spec.specs.Values as value
+use Rattle.rl_spec.specs.Values.{ConstVal, RefineOp, gt, ge, lt, le, eq, ne, compareValues}
+use Rattle.rl_spec.specs.Fold.{Binding, boolean, binaryValue, binaryFolded, lookup, constEval}
+use Rattle.rl_spec.specs.Tree.{Expr, null, literal, identifier, unary, binary, grouping, assign, okLiteral, errLiteral, isErr, resultUnwrap, other}
+use Rattle.rl_spec.specs.Contracts.{RefineOperand, integer, str, bool, param, ParamRefinement, Param, ContractClause, clauseOf}
+use Rattle.rl_spec.specs.Prove.{isNo, isFalse, report, refineBound, refutes, failsAt, failedRefinements, failedRequires}
+use Rattle.rl_spec.specs.Functions.{mapExpr, Text, operatorOf, operandNode, refinementCheck, checkFirst, refinementChecks, clauseCheck}
+use Rattle.rl_spec.specs.Reading.{Check}
+use Rattle.rl_theorems.specs.Runs.Texts.{same, mapMaybe}
+use Rattle.rl_theorems.specs.Runs.FoldsTexts.{mapNames, lookup-same, binary-folds, const-same}
+use Rattle.rl_theorems.specs.DemandThree.FoldsChecks.{NoAssign, Fails, here, there}
+
+-- ---- reports
+
+abbrev pub NonEmpty : {A : Type 0} → List A → Type 0
+NonEmpty [] = ⊥
+NonEmpty (a ∷ l) = Unit {0}
+
+pub either : {A C : Type 0} (l k : List A) → (NonEmpty l → C) → (NonEmpty k → C) → NonEmpty (l ++ k) → C
+either [] k p q h = q h
+either (a ∷ l) k p q h = p tt
+
+reported : {C : Type 0} (b : Bool) (v : Violation) (vs : List Violation) → (b ≡ true → C) → (NonEmpty vs → C) → NonEmpty (report b v vs) → C
+reported true v vs p q h = p refl
+reported false v vs p q h = q h
+
+no-verdict : {T : Type 0} (o : Option Bool) → isNo o ≡ true → boolean {T = T} o ≡ some (value.bool false)
+no-verdict none e = absurd (false≢true e)
+no-verdict (some true) e = absurd (false≢true e)
+no-verdict (some false) e = refl
+
+false-value : {T : Type 0} (o : Option (ConstVal T)) → isFalse o ≡ true → o ≡ some (value.bool false)
+false-value none e = absurd (false≢true e)
+false-value (some (value.int x)) e = absurd (false≢true e)
+false-value (some (value.float x)) e = absurd (false≢true e)
+false-value (some (value.str x)) e = absurd (false≢true e)
+false-value (some (value.bool true)) e = absurd (false≢true e)
+false-value (some (value.bool false)) e = refl
+
+-- ---- refinements
+
+module _ {T : Type 0} (bytes : T → List ℕ) where
+  operator-value : (op : RefineOp) (x y : ConstVal T) → binaryValue bytes (operatorOf op) x y ≡ boolean (compareValues bytes op x y)
+  unfolding binaryValue
+  operator-value gt x y = refl
+  operator-value ge x y = refl
+  operator-value lt x y = refl
+  operator-value le x y = refl
+  operator-value eq x y = refl
+  operator-value ne x y = refl
+
+  -- what a value provably fails folds to false
+  pub refuted : (op : RefineOp) (o q : Option (ConstVal T)) → refutes bytes op o q ≡ true → binaryFolded bytes (operatorOf op) o q ≡ some (value.bool false)
+  unfolding refutes binaryFolded
+  refuted op none q e = absurd (false≢true e)
+  refuted op (some x) none e = absurd (false≢true e)
+  refuted op (some x) (some y) e = operator-value op x y ∙ no-verdict (compareValues bytes op x y) e
+
+  refuted-is : (op : RefineOp) (o q l : Option (ConstVal T)) → ((u : ConstVal T) → o ≡ some u → l ≡ some u) → refutes bytes op o q ≡ true → l ≡ o
+  unfolding refutes
+  refuted-is op none q l h e = absurd (false≢true e)
+  refuted-is op (some x) q l h e = h x refl
+
+  -- each parameter's name has the value that its argument folds to
+  abbrev pub Paired : List (Binding T) → List (Param T) → List (Expr T) → Type 0
+  Paired names [] args = Unit {0}
+  Paired names (p ∷ ps) [] = Unit {0}
+  Paired names (p ∷ ps) (a ∷ args) =
+      ((u : ConstVal T) → constEval bytes names a ≡ some u → lookup bytes names (p .name) ≡ some u) × Paired names ps args
+
+-- no assignment in any condition
+abbrev pub Clean : {T : Type 0} → List (ContractClause T) → Type 0
+Clean [] = Unit {0}
+Clean (c ∷ cs) = NoAssign (c .condition) × Clean cs
+
+pub mapped-clean : {A B : Type 0} (f : A → B) (e : Expr A) → NoAssign e → NoAssign (mapExpr f e)
+unfolding mapExpr
+mapped-clean f null h = tt
+mapped-clean f (literal v) h = tt
+mapped-clean f (identifier x) h = tt
+mapped-clean f (unary op e) h = mapped-clean f e h
+mapped-clean f (binary l op r) h = (mapped-clean f l (h .0), mapped-clean f r (h .1))
+mapped-clean f (grouping e) h = mapped-clean f e h
+mapped-clean f (assign x e) h = absurd h
+mapped-clean f (okLiteral e) h = mapped-clean f e h
+mapped-clean f (errLiteral e) h = mapped-clean f e h
+mapped-clean f (isErr e) h = mapped-clean f e h
+mapped-clean f (resultUnwrap e) h = mapped-clean f e h
+mapped-clean f other h = tt
+
+module _ (im : Image) (names : List (Binding ℕ)) where
+  operand-folds : (x : RefineOperand ℕ) → constEval same (mapNames (textOf im) names) (operandNode im x) ≡ mapMaybe (textOf im) (refineBound (textOf im) names x)
+  unfolding constEval refineBound
+  operand-folds (integer x) = refl
+  operand-folds (str x) = refl
+  operand-folds (bool x) = refl
+  operand-folds (param x) = lookup-same (textOf im) names x
+
+  operand-clean : (x : RefineOperand ℕ) → NoAssign (operandNode im x)
+  operand-clean (integer x) = tt
+  operand-clean (str x) = tt
+  operand-clean (bool x) = tt
+  operand-clean (param x) = tt
+
+  -- A REFINEMENT THAT A NAME'S VALUE FAILS IS A CHECK THAT FOLDS TO FALSE
+  pub refinement-folds : (name : ℕ) (r : ParamRefinement ℕ) → refutes (textOf im) (r .op) (lookup (textOf im) names name) (refineBound (textOf im) names (r .operand)) ≡ true →
+      constEval same (mapNames (textOf im) names) (refinementCheck im name r .condition) ≡ some (value.bool false)
+  unfolding constEval
+  refinement-folds name r e =
+      ap₂ (binaryFolded same (operatorOf (r .op))) (lookup-same (textOf im) names name) (operand-folds (r .operand))
+      ∙ (binary-folds (textOf im) (operatorOf (r .op)) (lookup (textOf im) names name) (refineBound (textOf im) names (r .operand))
+      ∙ ap (mapMaybe (textOf im)) (refuted (textOf im) (r .op) (lookup (textOf im) names name) (refineBound (textOf im) names (r .operand)) e))
+
+  first-fails : (name : ℕ) (q : Option (ParamRefinement ℕ)) (a : Expr ℕ) (v : Violation) (vs : List Violation) (rest : List (Check Text)) →
+      ((u : ConstVal ℕ) → constEval (textOf im) names a ≡ some u → lookup (textOf im) names name ≡ some u) →
+      (NonEmpty vs → Fails same (mapNames (textOf im) names) rest) → NonEmpty (report (failsAt (textOf im) names q a) v vs) →
+      Fails same (mapNames (textOf im) names) (checkFirst im name q rest)
+  unfolding failsAt
+  first-fails name none a v vs rest h back z = back z
+  first-fails name (some r) a v vs rest h back z =
+      let bound : Option (ConstVal ℕ) = refineBound (textOf im) names (r .operand) in
+      reported (refutes (textOf im) (r .op) (constEval (textOf im) names a) bound) v vs
+      (λ e. here (refinement-folds name r (ap (λ l. refutes (textOf im) (r .op) l bound) (refuted-is (textOf im) (r .op) (constEval (textOf im) names a) bound (lookup (textOf im) names name) h e) ∙ e)))
+      (λ y. there {c = refinementCheck im name r} (tt, operand-clean (r .operand)) (back y)) z
+
+  pub refinements-fail : (n : ℕ) (ps : List (Param ℕ)) (args : List (Expr ℕ)) → Paired (textOf im) names ps args →
+      NonEmpty (failedRefinements (textOf im) names n ps args) → Fails same (mapNames (textOf im) names) (refinementChecks im ps)
+  unfolding failedRefinements refinementChecks
+  refinements-fail n [] args h z = absurd z
+  refinements-fail n (p ∷ ps) [] h z = absurd z
+  refinements-fail n (p ∷ ps) (a ∷ args) h z =
+      first-fails (p .name) (p .refinement) a (Refinement n) (failedRefinements (textOf im) names (n + 1) ps args) (refinementChecks im ps) (h .0) (refinements-fail (n + 1) ps args (h .1)) z
+
+  -- ---- requires
+
+  pub requires-fail : (d : Text) (n : ℕ) (is : List ℕ) → Clean (map (clauseOf im) is) → NonEmpty (failedRequires (textOf im) names n (map (clauseOf im) is)) →
+      Fails same (mapNames (textOf im) names) (map (λ i. clauseCheck im d (clauseOf im i)) is)
+  unfolding failedRequires
+  requires-fail d n [] h z = absurd z
+  requires-fail d n (i ∷ is) h z =
+      reported (isFalse (constEval (textOf im) names (clauseOf im i .condition))) (Requires n) (failedRequires (textOf im) names (n + 1) (map (clauseOf im) is))
+      (λ e. here (const-same (textOf im) names (clauseOf im i .condition) ∙ ap (mapMaybe (textOf im)) (false-value (constEval (textOf im) names (clauseOf im i .condition)) e)))
+      (λ y. there (mapped-clean (textOf im) (clauseOf im i .condition) (h .0)) (requires-fail d (n + 1) is (h .1) y)) z
+
+  -- ---- both
+
+  ahead : {l : List (Check Text)} (k : List (Check Text)) → Fails same (mapNames (textOf im) names) l → Fails same (mapNames (textOf im) names) (l ++ k)
+  ahead k (here e) = here e
+  ahead k (there s f) = there s (ahead k f)
+
+  behind-first : (name : ℕ) (q : Option (ParamRefinement ℕ)) (rest k : List (Check Text)) → Fails same (mapNames (textOf im) names) (rest ++ k) →
+      Fails same (mapNames (textOf im) names) (checkFirst im name q rest ++ k)
+  behind-first name none rest k f = f
+  behind-first name (some r) rest k f = there {c = refinementCheck im name r} (tt, operand-clean (r .operand)) f
+
+  behind-refinements : (ps : List (Param ℕ)) (k : List (Check Text)) → Fails same (mapNames (textOf im) names) k → Fails same (mapNames (textOf im) names) (refinementChecks im ps ++ k)
+  unfolding refinementChecks
+  behind-refinements [] k f = f
+  behind-refinements (p ∷ ps) k f = behind-first (p .name) (p .refinement) (refinementChecks im ps) k (behind-refinements ps k f)
+
+  -- A REPORT IS AN ENTRY CHECK THAT FAILS
+  pub entry-fails : (d : Text) (ps : List (Param ℕ)) (args : List (Expr ℕ)) (is : List ℕ) → Paired (textOf im) names ps args → Clean (map (clauseOf im) is) →
+      NonEmpty (failedRefinements (textOf im) names 0 ps args ++ failedRequires (textOf im) names 0 (map (clauseOf im) is)) →
+      Fails same (mapNames (textOf im) names) (refinementChecks im ps ++ map (λ i. clauseCheck im d (clauseOf im i)) is)
+  entry-fails d ps args is h c z =
+      either (failedRefinements (textOf im) names 0 ps args) (failedRequires (textOf im) names 0 (map (clauseOf im) is))
+      (λ y. ahead (map (λ i. clauseCheck im d (clauseOf im i)) is) (refinements-fail 0 ps args h y))
+      (λ y. behind-refinements ps (map (λ i. clauseCheck im d (clauseOf im i)) is) (requires-fail d 0 is c y)) z

@@ -1,0 +1,9 @@
+-- Records and the trees that they stand for: the relation (Denotes), that it is the tree of the definitions (DenotedTrees), that each
+-- expression and each statement of a well-formed image is in it (DenotingExpressions, DenotingStatements), and what a function leads to
+-- (FunctionTrees); what the trees of an image depend on (SameTrees).
+pub mod Denotes
+pub mod DenotedTrees
+pub mod DenotingExpressions
+pub mod DenotingStatements
+pub mod FunctionTrees
+pub mod SameTrees
