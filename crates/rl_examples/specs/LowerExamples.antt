@@ -19,7 +19,7 @@ use Rattle.rl_spec.specs.Image.{Field, num, pair, Rec, Image, noRecord, records
 use Rattle.rl_spec.specs.Tree.{ascii, descendBy, descend, formBy, callForm, isResPath, exprTree}
 use Rattle.rl_spec.specs.Records.{paramAt, clauseAt, functionAt}
 use Rattle.rl_spec.specs.Ranges.{upFrom}
-use Rattle.rl_spec.specs.Contracts.{paramOf, clauseOf, isSome, anyRefined}
+use Rattle.rl_spec.specs.Contracts.{paramOf, clauseOf, contractsOf, isSome, anyRefined}
 use Rattle.rl_spec.specs.Message.{decimalBy, decimal}
 use Rattle.rl_spec.specs.Make.{Context, each, flatMap, append, appendBytes, made, newText, newList, stmt, absent}
 use Rattle.rl_spec.specs.Lower.{expr, ident, strLit, errLit, resCall, cloneEntries, cloneFields, deepCloneExpr, violation, onlyIf, guard, declare, returnOf, wrapAs, wrapReturn, refinePredicate, transformBranch, transformArm, transformStatement, wrapTrailing, desugarFnContracts, hasContracts, newBody, fitting, lowered}
@@ -30,7 +30,8 @@ use Rattle.rl_spec.specs.Statement.{statementBy, itemTree}
 use Rattle.rl_spec.specs.Run.{folded, Value, ok, folds, Outcome, returned, stopped, fault, spent, used, find, update, eval}
 use Rattle.rl_spec.specs.Reading as reading
 use Rattle.rl_spec.specs.Reading.{checks, turns, top, runFunction}
-use Rattle.rl_spec.specs.Functions.{mapExpr, mapStmt, mapBody, mapBranch, mapElse, refinementChecks, contractFunction}
+use Rattle.rl_spec.specs.Mapped.{mapExpr, mapStmt, mapBody, mapBranch, mapElse}
+use Rattle.rl_spec.specs.Functions.{refinementChecks, contractFunction}
 use Rattle.rl_examples.specs.MarkedImages.{bool, identifier, clause, textBytes, textRecords, build, flow}
 
 -- ---- records
@@ -378,7 +379,7 @@ unfolding lowering decoding
 accepted = refl
 
 unfoldable pub running : Unit {0}
-unfolding clauseOf sameText compareValues bang formBy callForm isResPath exprTree unaryValue binaryValue statementBy itemTree find update eval checks turns reading.stmt reading.body reading.branchOr reading.orElse top runFunction reading.reading mapExpr mapStmt mapBody mapBranch mapElse refinementChecks contractFunction
+unfolding clauseOf contractsOf sameText compareValues bang formBy callForm isResPath exprTree unaryValue binaryValue statementBy itemTree find update eval checks turns reading.stmt reading.body reading.branchOr reading.orElse top runFunction reading.reading mapExpr mapStmt mapBody mapBranch mapElse refinementChecks contractFunction
 running = tt
 
 -- the run of a function's body, and the reading of its contracts

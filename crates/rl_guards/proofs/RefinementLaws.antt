@@ -3,7 +3,7 @@
 use Prim.Native.Nat.{ℕ, _+_, _≤_}
 use mathlib.Core.Path.{_≡_, refl, ap, sym, _∙_, subst}
 use mathlib.Core.List.{List, [], _∷_}
-use mathlib.Core.Option.{some}
+use mathlib.Core.Option.{some, Option·map}
 use native.Mathlib.Omega.{arith}
 use lib.ListN.{length, take, drop}
 use Rattle.rl_spec.specs.declared.Function.{Function}
@@ -16,6 +16,7 @@ use Rattle.rl_spec.specs.declared.Section.the-variants.{Expressions}
 use Rattle.rl_spec.specs.Image.{num, Image, textOf}
 use Rattle.rl_spec.specs.Contracts.{RefineOperand, integer, str, bool, param, ParamRefinement, refinementOf, paramOf}
 use Rattle.rl_spec.specs.Records.{paramAt, functionAt}
+use Rattle.rl_spec.specs.Mapped.{mapRefinement}
 use Rattle.rl_spec.specs.Message.{refinementText, defaultText}
 use Rattle.rl_spec.specs.Make.{Context, Make, andThen, _>>=_, give, append, made, newText}
 use Rattle.rl_spec.specs.Lower.{expr, ident, strLit, guard, tokenOf, operandExpr, refinePredicate, refinementGuard}
@@ -192,9 +193,11 @@ module _ (image : Image) (f n : ℕ) (function : Function) (p : decl.Param) (e :
   pub unrefined-done : (im : Image) (s : State) → p .refinement ≡ Unrefined → Gathers im 0 (guardIn image f n) s s
   unrefined-done im s h = subst (λ m. Gathers im 0 m s s) (ap (λ z. refinementGuard image (p .name) (refinementOf z)) (sym h) ∙ sym guard-is) ([], does-none s)
 
-  default-is : (o : op.RefineOp) (x : operand.RefineOperand) → p .refinement ≡ Refined o x → defaultText image f (Refinement n) ≡ refinementText image (p .name) (some (refinedAs o x))
+  default-is : (o : op.RefineOp) (x : operand.RefineOperand) → p .refinement ≡ Refined o x → defaultText image f (Refinement n) ≡ refinementText (textOf image (p .name)) (some (mapRefinement (textOf image) (refinedAs o x)))
   unfolding paramOf
-  default-is o x h = ap (λ z. refinementText image (z .name) (refinementOf (z .refinement))) (sym at-number) ∙ ap (λ z. refinementText image (p .name) (refinementOf z)) h
+  default-is o x h =
+      ap (λ z. refinementText (textOf image (z .name)) (Option·map (mapRefinement (textOf image)) (refinementOf (z .refinement)))) (sym at-number)
+      ∙ ap (λ z. refinementText (textOf image (p .name)) (Option·map (mapRefinement (textOf image)) (refinementOf z))) h
 
   pub refinement-done : {im : Image} {s t : State} (o : op.RefineOp) (x : operand.RefineOperand) (room w text : List ℕ) (size : ℕ) → p .refinement ≡ Refined o x → 16385 ≤ length room →
       size ≡ afterText room 0 (defaultText image f (Refinement n)) → w ≡ withText room 0 (defaultText image f (Refinement n)) → text ≡ take size (drop 0 w) →

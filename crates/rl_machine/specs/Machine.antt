@@ -52,7 +52,7 @@ flows r = andThen r (λ f. give (asFlow f))
 abbrev pub treeUnder : Image → ℕ → ℕ → Expr ℕ
 treeUnder im limit n = below limit other (exprTree im) n
 
-abbrev pub itemUnder : Image → ℕ → ℕ → Item
+abbrev pub itemUnder : Image → ℕ → ℕ → Item ℕ
 itemUnder im limit n = below limit (aStatement otherStatement) (itemTree im) n
 
 -- the last bare expression of a body gives the value: it is a return

@@ -4,6 +4,7 @@ use Prim.Native.Nat.{ℕ, _+_}
 use mathlib.Core.Path.{_≡_, refl, sym, ap, _∙_}
 use mathlib.Core.Bool.{Bool, true, false}
 use mathlib.Core.List.{List, [], _++_}
+use mathlib.Core.Option.{Option·map}
 use native.Mathlib.Omega.{arith}
 use lib.IntN.{ℤ, pos, negsuc, natAbs}
 use lib.Signed.{ltZ}
@@ -28,6 +29,7 @@ use Rattle.rl_spec.specs.Tree.{ascii}
 use Rattle.rl_spec.specs.Records.{paramAt, functionAt}
 use Rattle.rl_spec.specs.Contracts.{operandOf, refinementOf, paramOf}
 use Rattle.rl_spec.specs.Found.{imageFound}
+use Rattle.rl_spec.specs.Mapped.{mapOperand, mapRefinement}
 use Rattle.rl_spec.specs.Message.{decimal, integerText, refineOpText, boolText, operandText, refinementText, defaultText}
 use Rattle.rl_text_out.specs.Put.{withText, afterText}
 use Rattle.rl_text_out.proofs.Joined.{after-nothing, with-nothing, after-after, with-with}
@@ -129,7 +131,7 @@ module _ (s : List ℕ) (c : Counts) (out : List ℕ) (at : ℕ) where
 
   module _ (o : RefineOperand) (w : List ℕ) (r : ℕ) where
     abbrev text : Image → List ℕ
-    text im = operandText im (operandOf o)
+    text im = operandText (mapOperand (textOf im) (operandOf o))
 
     abbrev PutsOperand : Type 0
     PutsOperand = PutsIn s c out at text w r
@@ -152,11 +154,11 @@ module _ (s : List ℕ) (c : Counts) (out : List ℕ) (at : ℕ) where
 module _ (s : List ℕ) (c : Counts) (out : List ℕ) (name : ℕ) (op : RefineOp) (o : RefineOperand) where
   pub puts-refinement : (t w₁ w₂ w₃ w₄ w₅ w : List ℕ) (e₁ e₂ e₃ e₄ e₅ r : ℕ) → ((p : List ℕ) → t ≡ textOf (imageFound s p c) name)
       → Puts out 0 (ascii "refinement failed: ") w₁ e₁ → Puts w₁ e₁ t w₂ e₂ → Puts w₂ e₂ (ascii " ") w₃ e₃
-      → Puts w₃ e₃ (refineOpText (opOf op)) w₄ e₄ → Puts w₄ e₄ (ascii " ") w₅ e₅ → PutsIn s c w₅ e₅ (λ im. operandText im (operandOf o)) w r
-      → PutsIn s c out 0 (λ im. refinementText im name (refinementOf (Refined op o))) w r
+      → Puts w₃ e₃ (refineOpText (opOf op)) w₄ e₄ → Puts w₄ e₄ (ascii " ") w₅ e₅ → PutsIn s c w₅ e₅ (λ im. operandText (mapOperand (textOf im) (operandOf o))) w r
+      → PutsIn s c out 0 (λ im. refinementText (textOf im name) (Option·map (mapRefinement (textOf im)) (refinementOf (Refined op o)))) w r
   puts-refinement t w₁ w₂ w₃ w₄ w₅ w e₁ e₂ e₃ e₄ e₅ r f a b d g h k = (λ p. whole p .0, λ p. whole p .1)
     where
-      whole : (p : List ℕ) → Puts out 0 (refinementText (imageFound s p c) name (refinementOf (Refined op o))) w r
+      whole : (p : List ℕ) → Puts out 0 (refinementText (textOf (imageFound s p c) name) (Option·map (mapRefinement (textOf (imageFound s p c))) (refinementOf (Refined op o)))) w r
       whole p =
           puts-then out 0 _ _ w₅ w e₅ r
           (puts-then out 0 _ _ w₄ w₅ e₄ e₅
@@ -180,7 +182,7 @@ module _ (s : List ℕ) (c : Counts) (f : ℕ) where
 
     module _ (n : ℕ) (q : Param) (x : ParamRefinement) (e : v ≡ Refinement n) (g : (p : List ℕ) → q ≡ paramAt (imageFound s p c) (functionAt (imageFound s p c) f .params .first + n)) (h : q .refinement ≡ x) where
       abbrev text-of : Image → List ℕ
-      text-of im = refinementText im (q .name) (refinementOf x)
+      text-of im = refinementText (textOf im (q .name)) (Option·map (mapRefinement (textOf im)) (refinementOf x))
 
       by-param : (p : List ℕ) → text-of (imageFound s p c) ≡ default (imageFound s p c)
       unfolding paramOf
@@ -189,5 +191,5 @@ module _ (s : List ℕ) (c : Counts) (f : ℕ) where
       pub puts-unrefined : x ≡ Unrefined → PutsIn s c out 0 default out 0
       puts-unrefined u = puts-in s c out 0 default [] out 0 (puts-nothing out) (λ p. rw u at (by-param p))
 
-      pub puts-refined : (op : RefineOp) (o : RefineOperand) (w : List ℕ) (r : ℕ) → x ≡ Refined op o → PutsIn s c out 0 (λ im. refinementText im (q .name) (refinementOf (Refined op o))) w r → PutsIn s c out 0 default w r
+      pub puts-refined : (op : RefineOp) (o : RefineOperand) (w : List ℕ) (r : ℕ) → x ≡ Refined op o → PutsIn s c out 0 (λ im. refinementText (textOf im (q .name)) (Option·map (mapRefinement (textOf im)) (refinementOf (Refined op o)))) w r → PutsIn s c out 0 default w r
       puts-refined op o w r u a = puts-same s c out 0 default text-of w r (rw u a) by-param

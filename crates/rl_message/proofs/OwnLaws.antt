@@ -3,7 +3,7 @@
 use Prim.Native.Nat.{ℕ, _+_}
 use mathlib.Core.Path.{_≡_, refl, ap, _∙_}
 use mathlib.Core.List.{List, [], _∷_}
-use mathlib.Core.Option.{Option, none, some}
+use mathlib.Core.Option.{Option, none, some, Option·map}
 use types.Run.{OneOf, miss}
 use denote.Enum.Declared.{tagOf}
 use borrow.Author.Tests.{ne-eqb}
@@ -91,8 +91,8 @@ module _ (s : List ℕ) (c : Counts) (f : ℕ) where
 -- ---- the message
 
 module _ (s : List ℕ) (c : Counts) (p d : List ℕ) (o : Option ℕ) (own : OwnText) (e : textOption own ≡ o) where
-  pub by-own : (t : ℕ) (r : List ℕ) → own ≡ Text t → ((q : List ℕ) → r ≡ textOf (imageFound s q c) t) → r ≡ orDefault (imageFound s p c) o d
+  pub by-own : (t : ℕ) (r : List ℕ) → own ≡ Text t → ((q : List ℕ) → r ≡ textOf (imageFound s q c) t) → r ≡ orDefault (Option·map (textOf (imageFound s p c)) o) d
   by-own t r h g = rw (← e, h) (g p)
 
-  pub by-default : own ≡ Default → d ≡ orDefault (imageFound s p c) o d
+  pub by-default : own ≡ Default → d ≡ orDefault (Option·map (textOf (imageFound s p c)) o) d
   by-default h = rw (← e, h) refl

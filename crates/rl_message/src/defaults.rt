@@ -19,6 +19,9 @@ ghost use Rattle.rl_spec.specs.Tree.{ascii};
 ghost use Rattle.rl_spec.specs.Records.{paramAt, functionAt};
 ghost use Rattle.rl_spec.specs.Contracts.{operandOf, refinementOf};
 ghost use Rattle.rl_spec.specs.Found.{imageFound};
+ghost use mathlib.Core.Option.{Option·map};
+ghost use Rattle.rl_spec.specs.Image.{textOf};
+ghost use Rattle.rl_spec.specs.Mapped.{mapOperand, mapRefinement};
 ghost use Rattle.rl_spec.specs.Message.{refineOpText, boolText, integerText, operandText, refinementText, defaultText};
 ghost use Rattle.rl_text_out.specs.Put.{afterText, withText};
 
@@ -74,8 +77,8 @@ fn put_operand(
     out: &mut [u8],
     at: usize,
 ) -> usize
-    ensures { λ r. ⌜ ((p : List ℕ) → r ≡ afterText (now (out .entry)) at (operandText (imageFound (now (image .entry)) p counts) (operandOf operand))) ⌝ }
-    ensures { λ r. ⌜ ((p : List ℕ) → now (out .exit) ≡ withText (now (out .entry)) at (operandText (imageFound (now (image .entry)) p counts) (operandOf operand))) ⌝ }
+    ensures { λ r. ⌜ ((p : List ℕ) → r ≡ afterText (now (out .entry)) at (operandText (mapOperand (textOf (imageFound (now (image .entry)) p counts)) (operandOf operand)))) ⌝ }
+    ensures { λ r. ⌜ ((p : List ℕ) → now (out .exit) ≡ withText (now (out .entry)) at (operandText (mapOperand (textOf (imageFound (now (image .entry)) p counts)) (operandOf operand)))) ⌝ }
 {
     match operand {
         RefineOperand::Integer(x) => put_integer(out, at, x),
@@ -94,8 +97,8 @@ fn put_refinement(
     operand: RefineOperand,
     out: &mut [u8],
 ) -> usize
-    ensures { λ r. ⌜ ((p : List ℕ) → r ≡ afterText (now (out .entry)) 0 (refinementText (imageFound (now (image .entry)) p counts) name (refinementOf (ParamRefinement.Refined op operand)))) ⌝ }
-    ensures { λ r. ⌜ ((p : List ℕ) → now (out .exit) ≡ withText (now (out .entry)) 0 (refinementText (imageFound (now (image .entry)) p counts) name (refinementOf (ParamRefinement.Refined op operand)))) ⌝ }
+    ensures { λ r. ⌜ ((p : List ℕ) → r ≡ afterText (now (out .entry)) 0 (refinementText (textOf (imageFound (now (image .entry)) p counts) name) (Option·map (mapRefinement (textOf (imageFound (now (image .entry)) p counts))) (refinementOf (ParamRefinement.Refined op operand))))) ⌝ }
+    ensures { λ r. ⌜ ((p : List ℕ) → now (out .exit) ≡ withText (now (out .entry)) 0 (refinementText (textOf (imageFound (now (image .entry)) p counts) name) (Option·map (mapRefinement (textOf (imageFound (now (image .entry)) p counts))) (refinementOf (ParamRefinement.Refined op operand))))) ⌝ }
 {
     let mut at = put_text(out, 0, b"refinement failed: ");
     at = put_text(out, at, text_at(image, counts, name));

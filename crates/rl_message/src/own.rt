@@ -13,7 +13,8 @@ use rl_spec::Violation;
 ghost use mathlib.Core.Path.{_≡_};
 ghost use mathlib.Core.List.{List};
 ghost use Prim.Native.Nat.{ℕ, _+_};
-ghost use Rattle.rl_spec.specs.Image.{Image};
+ghost use mathlib.Core.Option.{Option·map};
+ghost use Rattle.rl_spec.specs.Image.{Image, textOf};
 ghost use Rattle.rl_spec.specs.Tree.{Expr, treeBy};
 ghost use Rattle.rl_spec.specs.Records.{clauseAt, functionAt};
 ghost use Rattle.rl_spec.specs.Contracts.{messageNode};
@@ -83,7 +84,7 @@ pub fn message<'a>(
     violation: Violation,
     default: &'a [u8],
 ) -> &'a [u8]
-    ensures { λ r. ⌜ now r ≡ orDefault (imageFound (now (image .entry)) (now (starts .entry)) counts) (ownText (imageFound (now (image .entry)) (now (starts .entry)) counts) function violation) (now (default .entry)) ⌝ }
+    ensures { λ r. ⌜ now r ≡ orDefault (Option·map (textOf (imageFound (now (image .entry)) (now (starts .entry)) counts)) (ownText (imageFound (now (image .entry)) (now (starts .entry)) counts) function violation)) (now (default .entry)) ⌝ }
 {
     let own = own_text(image, starts, counts, function, violation);
     match own {

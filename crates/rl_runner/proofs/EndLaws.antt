@@ -161,7 +161,7 @@ entry-small s p c h k =
     (λ l. subst (λ (x : ℕ). x < 65536) (sym (entry-found s p c k l)) (small s h _))
     (λ l. subst (λ (x : ℕ). x < 65536) (sym (entry-missing s p c k l)) (omega arith))
 
-same-map : (f g : ℕ → Item) → ((k : ℕ) → f k ≡ g k) → (l : List ℕ) → map f l ≡ map g l
+same-map : (f g : ℕ → Item ℕ) → ((k : ℕ) → f k ≡ g k) → (l : List ℕ) → map f l ≡ map g l
 same-map f g h [] = refl
 same-map f g h (k ∷ l) = ap (λ x. x ∷ map f l) (h k) ∙ ap (λ y. g k ∷ y) (same-map f g h l)
 
@@ -171,7 +171,7 @@ whole-body im h list =
     ∙ ap (λ n. bodyFrom (map under (upFrom (list .first) n))) (count-is (list .count))
     ∙ ap bodyFrom (same-map under (λ k. itemTree im (entryOf im k)) (λ k. under-earlier (aStatement otherStatement) (itemTree im) 65536 (entryOf im k) (h k)) (upFrom (list .first) (list .count)))
   where
-    under : ℕ → Item
+    under : ℕ → Item ℕ
     under k = itemUnder im 65536 (entryOf im k)
 
     first-is : (n : ℕ) → n + 0 ≡ n

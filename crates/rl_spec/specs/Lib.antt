@@ -13,11 +13,12 @@ pub mod Found
 pub mod Records
 pub mod Contracts
 pub mod Prove
-pub mod Message
 pub mod Words
 pub mod Statement
 pub mod Run
 pub mod Reading
+pub mod Mapped
+pub mod Message
 pub mod Functions
 pub mod Runner
 pub mod Make

@@ -20,6 +20,7 @@ use Rattle.rl_spec.specs.Words.{bits64}
 use Rattle.rl_spec.specs.Records.{clauseAt, functionAt}
 use Rattle.rl_spec.specs.Ranges.{numbersIn}
 use Rattle.rl_spec.specs.Contracts.{RefineOperand, integer, str, bool, param, ParamRefinement, Param, paramOf, anyRefined, isEmpty}
+use Rattle.rl_spec.specs.Mapped.{mapRefinement}
 use Rattle.rl_spec.specs.Message.{decimal, refinementText}
 use Rattle.rl_spec.specs.Make.{Context, Make, _>>=_, give, fail, self, takeTemp, each, flatMap, withRecords, append, made, newText, newList, stmt, newStmt, absent, entriesOf}
 
@@ -278,7 +279,7 @@ abbrev pub refinementGuard : Image → ℕ → Option (ParamRefinement ℕ) → 
 refinementGuard im name none = give []
 refinementGuard im name (some refinement) = do
   pred ← refinePredicate im name refinement
-  msg ← strLit (refinementText im name (some refinement))
+  msg ← strLit (refinementText (textOf im name) (some (mapRefinement (textOf im) refinement)))
   s ← guard pred msg
   give (s ∷ [])
 

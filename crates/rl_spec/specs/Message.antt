@@ -2,7 +2,7 @@
 use Prim.Native.Nat.{ℕ, zero, suc, _+_, _/_, _%_}
 use mathlib.Core.Bool.{Bool, true, false, cond}
 use mathlib.Core.List.{List, [], _∷_, _++_}
-use mathlib.Core.Option.{Option, none, some}
+use mathlib.Core.Option.{Option, none, some, Option·map}
 use lib.Dec.{ltb}
 use lib.IntN.{ℤ, pos, negsuc}
 use Rattle.rl_spec.specs.declared.Violation.{Violation}
@@ -12,6 +12,7 @@ use Rattle.rl_spec.specs.Values as value
 use Rattle.rl_spec.specs.Values.{ConstVal, RefineOp, gt, ge, lt, le, eq, ne}
 use Rattle.rl_spec.specs.Tree.{Expr, null, literal, identifier, unary, binary, grouping, assign, okLiteral, errLiteral, isErr, resultUnwrap, other, ascii}
 use Rattle.rl_spec.specs.Records.{functionAt}
+use Rattle.rl_spec.specs.Mapped.{Text, mapParam}
 use Rattle.rl_spec.specs.Contracts.{RefineOperand, integer, str, bool, param, ParamRefinement, Param, paramOf, clauseOf, calleeOf}
 
 -- ---- decimal digits; a number of 64 bits has at most 20
@@ -42,28 +43,30 @@ boolText true = ascii "true"
 boolText false = ascii "false"
 
 -- a text stands in quotes as it is
-abbrev pub operandText : Image → RefineOperand ℕ → List ℕ
-operandText im (integer x) = integerText x
-operandText im (str t) = ascii "\"" ++ textOf im t ++ ascii "\""
-operandText im (bool b) = boolText b
-operandText im (param t) = textOf im t
+abbrev pub operandText : RefineOperand Text → Text
+operandText (integer x) = integerText x
+operandText (str t) = ascii "\"" ++ t ++ ascii "\""
+operandText (bool b) = boolText b
+operandText (param t) = t
 
-abbrev pub refinementText : Image → ℕ → Option (ParamRefinement ℕ) → List ℕ
-refinementText im name none = []
-refinementText im name (some r) =
-    ascii "refinement failed: " ++ textOf im name ++ ascii " " ++ refineOpText (r .op) ++ ascii " "
-    ++ operandText im (r .operand)
+abbrev pub refinementText : Text → Option (ParamRefinement Text) → Text
+refinementText name none = []
+refinementText name (some r) =
+    ascii "refinement failed: " ++ name ++ ascii " " ++ refineOpText (r .op) ++ ascii " " ++ operandText (r .operand)
+
+abbrev pub paramText : Param Text → Text
+paramText p = refinementText (p .name) (p .refinement)
 
 -- ---- a clause: its own text, where its message is a String
 
-abbrev pub stringOf : Option (ConstVal ℕ) → Option ℕ
+abbrev pub stringOf : {T : Type 0} → Option (ConstVal T) → Option T
 stringOf none = none
 stringOf (some (value.int x)) = none
 stringOf (some (value.float x)) = none
 stringOf (some (value.str t)) = some t
 stringOf (some (value.bool x)) = none
 
-abbrev pub stringIn : Expr ℕ → Option ℕ
+abbrev pub stringIn : {T : Type 0} → Expr T → Option T
 stringIn null = none
 stringIn (literal v) = stringOf v
 stringIn (identifier t) = none
@@ -77,7 +80,7 @@ stringIn (isErr e) = none
 stringIn (resultUnwrap e) = none
 stringIn other = none
 
-abbrev pub ownString : Option (Expr ℕ) → Option ℕ
+abbrev pub ownString : {T : Type 0} → Option (Expr T) → Option T
 ownString none = none
 ownString (some e) = stringIn e
 
@@ -88,17 +91,16 @@ abbrev pub ownText : Image → ℕ → Violation → Option ℕ
 ownText im f (Refinement n) = none
 ownText im f (Requires n) = ownString (clauseOf im (functionAt im f .required .first + n) .message)
 
-abbrev pub defaultText : Image → ℕ → Violation → List ℕ
-defaultText im f (Refinement n) =
-    refinementText im (paramOf im (functionAt im f .params .first + n) .name) (paramOf im (functionAt im f .params .first + n) .refinement)
+abbrev pub defaultText : Image → ℕ → Violation → Text
+defaultText im f (Refinement n) = paramText (mapParam (textOf im) (paramOf im (functionAt im f .params .first + n)))
 defaultText im f (Requires n) = ascii "requires violated"
 
-abbrev pub orDefault : Image → Option ℕ → List ℕ → List ℕ
-orDefault im none text = text
-orDefault im (some t) text = textOf im t
+abbrev pub orDefault : Option Text → Text → Text
+orDefault none text = text
+orDefault (some t) text = t
 
-unfoldable pub messageBy : Image → ℕ → Violation → List ℕ
-messageBy im f v = orDefault im (ownText im f v) (defaultText im f v)
+unfoldable pub messageBy : Image → ℕ → Violation → Text
+messageBy im f v = orDefault (Option·map (textOf im) (ownText im f v)) (defaultText im f v)
 
 unfoldable pub opening : List ℕ
 opening = ascii "contract violation (proven at compile time): "

@@ -29,7 +29,8 @@ use Rattle.rl_spec.specs.Words.{sortWordOf, payloadWordOf, wordsValue}
 use Rattle.rl_spec.specs.Records.{functionAt}
 use Rattle.rl_spec.specs.Run as run
 use Rattle.rl_spec.specs.Reading.{runFunction}
-use Rattle.rl_spec.specs.Functions.{mapOutcome, Text, plainFunction}
+use Rattle.rl_spec.specs.Mapped.{mapOutcome, Text}
+use Rattle.rl_spec.specs.Functions.{plainFunction}
 
 -- ---- the declared values and outcomes, as those of the definitions; a text is its index
 

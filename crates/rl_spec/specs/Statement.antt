@@ -42,20 +42,20 @@ mutual
 -- ---- those of an image
 
 -- a record of the section of statements is a statement or a branch
-pub data Item : Type 0 where
-  aStatement : Stmt ℕ → Item
-  aBranch : Branch ℕ → Item
+pub data Item (T : Type 0) : Type 0 where
+  aStatement : Stmt T → Item T
+  aBranch : Branch T → Item T
 
 -- a branch among statements is a form that is not taken
-abbrev pub asStatement : Item → Stmt ℕ
+abbrev pub asStatement : {T : Type 0} → Item T → Stmt T
 asStatement (aStatement s) = s
 asStatement (aBranch b) = otherStatement
 
-abbrev pub asBranch : Item → Branch ℕ
+abbrev pub asBranch : {T : Type 0} → Item T → Branch T
 asBranch (aStatement s) = branch none nil
 asBranch (aBranch b) = b
 
-abbrev pub elseOf : Stmt ℕ → Else ℕ
+abbrev pub elseOf : {T : Type 0} → Stmt T → Else T
 elseOf (declaration x e) = noElse
 elseOf (expression e) = noElse
 elseOf (return e) = noElse
@@ -67,23 +67,23 @@ elseOf break = noElse
 elseOf continue = noElse
 elseOf otherStatement = noElse
 
-abbrev pub asElse : Item → Else ℕ
+abbrev pub asElse : {T : Type 0} → Item T → Else T
 asElse (aStatement s) = elseOf s
 asElse (aBranch b) = elseBranch b
 
-abbrev pub bodyFrom : List Item → Body ℕ
+abbrev pub bodyFrom : {T : Type 0} → List (Item T) → Body T
 bodyFrom [] = nil
 bodyFrom (x ∷ xs) = asStatement x ▸ bodyFrom xs
 
 -- the body of a list, by the items that its entries stand for
-abbrev pub bodyBy : Image → (ℕ → Item) → Interval → Body ℕ
+abbrev pub bodyBy : {T : Type 0} → Image → (ℕ → Item T) → Interval → Body T
 bodyBy im item list = bodyFrom (map (λ k. item (entryOf im k)) (numbersIn list))
 
 -- 65,535 for none
 abbrev pub conditionBy : Image → ℕ → Option (Expr ℕ)
 conditionBy im n = cond (eqb n 65535) none (some (exprTree im n))
 
-abbrev pub elseBy : (ℕ → Item) → ℕ → Else ℕ
+abbrev pub elseBy : {T : Type 0} → (ℕ → Item T) → ℕ → Else T
 elseBy item n = cond (eqb n 65535) noElse (asElse (item n))
 
 -- ---- the form of a record; field 0 is the span
@@ -105,7 +105,7 @@ abbrev pub statementOf : Image → ℕ → StatementForm
 statementOf im i = statementBy (recordOf im Statements i)
 
 -- a form with the items of the statements before it
-abbrev pub itemBy : Image → StatementForm → (ℕ → Item) → Item
+abbrev pub itemBy : Image → StatementForm → (ℕ → Item ℕ) → Item ℕ
 itemBy im (Declaration x n) item = aStatement (declaration x (exprTree im n))
 itemBy im (Expression n) item = aStatement (expression (exprTree im n))
 itemBy im (Return n) item = aStatement (return (exprTree im n))
@@ -118,7 +118,7 @@ itemBy im Break item = aStatement break
 itemBy im Continue item = aStatement continue
 itemBy im Other item = aStatement otherStatement
 
-unfoldable pub itemTree : Image → ℕ → Item
+unfoldable pub itemTree : Image → ℕ → Item ℕ
 itemTree im = descend (aStatement otherStatement) (λ i item. itemBy im (statementOf im i) item)
 
 abbrev pub bodyTree : Image → Interval → Body ℕ

@@ -41,7 +41,7 @@ use Rattle.rl_statements.specs.Views.{branchOf, elseOf, compoundOf, orEl
 
 -- ---- the parts of a form
 
-abbrev none-item : Item
+abbrev none-item : Item ℕ
 none-item = aStatement otherStatement
 
 item-at : (im : Image) (limit b : ℕ) (x : StatementForm) → b < limit → statementOf im b ≡ x → itemUnder im limit b ≡ itemBy im x (itemUnder im b)
@@ -75,12 +75,12 @@ nothing-done : (im : Image) (env : Env ℕ) (n : ℕ) → guarded im none nil en
 unfolding body
 nothing-done im env n = ap (λ k. got Onward (drop k env) n) (all-less (length env))
 
-abbrev branchIn : Image → Item → Run ℕ Flow
+abbrev branchIn : Image → Item ℕ → Run ℕ Flow
 branchIn im i = lists.branchOf im (asBranch i)
 
 module _ (im : Image) (limit b : ℕ) where
   -- no branch stands there
-  no-branch : (i : Item) → itemUnder im limit b ≡ i → asBranch i ≡ branch none nil → BranchIs im limit b branches.Missing
+  no-branch : (i : Item ℕ) → itemUnder im limit b ≡ i → asBranch i ≡ branch none nil → BranchIs im limit b branches.Missing
   no-branch i e f env n = ap (λ j. branchIn im j env n) e ∙ ap (λ p. lists.branchOf im p env n) f ∙ nothing-done im env n
 
   branch-is : (x : StatementForm) → b < limit → statementOf im b ≡ x → BranchIs im limit b (branchOf x)
@@ -143,7 +143,7 @@ module _ (im : Image) (limit other : ℕ) where
   unfolding reading.orElse
   no-else e env n = ap (λ x. elseIn x env n) e
 
-  else-some : (i : Item) → (other ≡ 65535 → ⊥) → itemUnder im limit other ≡ i → elseBy (itemUnder im limit) other ≡ asElse i
+  else-some : (i : Item ℕ) → (other ≡ 65535 → ⊥) → itemUnder im limit other ≡ i → elseBy (itemUnder im limit) other ≡ asElse i
   else-some i h e = ap (λ t. cond t noElse (asElse (itemUnder im limit other))) (ne-eqb other 65535 h) ∙ ap asElse e
 
   else-is : (x : StatementForm) → (other ≡ 65535 → ⊥) → other < limit → statementOf im other ≡ x → ElseIs im limit other (elseOf x)

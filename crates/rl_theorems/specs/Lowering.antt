@@ -23,3 +23,4 @@ pub mod LoweredFunctionsExample
 pub mod LoweredArguments
 pub mod LoweredOthers
 pub mod LoweredAll
+pub mod LoweredAllExample

@@ -1,6 +1,7 @@
 -- A larger budget changes no run that was not spent (Budget); another account of the texts that keeps their bytes changes no fold
--- (FoldsTexts) and no run (Texts, TextRuns).
+-- (FoldsTexts), no report (ProvesTexts) and no run (Texts, TextRuns).
 pub mod Budget
 pub mod Texts
 pub mod TextRuns
 pub mod FoldsTexts
+pub mod ProvesTexts

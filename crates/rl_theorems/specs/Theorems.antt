@@ -37,10 +37,11 @@ use Rattle.rl_spec.specs.Found.{imageFound}
 use Rattle.rl_spec.specs.Folded.{asFolded}
 use Rattle.rl_spec.specs.Tree.{Expr, ascii, exprTree}
 use Rattle.rl_spec.specs.Fold.{constEval, foldOf}
-use Rattle.rl_spec.specs.Prove.{callEntries, allEntries, fitting, sliceBy, proveOf, reportsOf, proveAllOf, allReportsOf, violationsOf}
+use Rattle.rl_spec.specs.Prove.{proveCall, callEntries, allEntries, fitting, sliceBy, proveOf, reportsOf, proveAllOf, allReportsOf, violationsOf}
 use Rattle.rl_spec.specs.Statement.{Stmt, Body}
-use Rattle.rl_spec.specs.Contracts.{calleeOf, argumentsOf}
-use Rattle.rl_spec.specs.Functions.{mapValue, mapExpr, mapStmt, mapBody, plainFunction, contractFunction, readingIn}
+use Rattle.rl_spec.specs.Contracts.{FnContracts, calleeOf, argumentsOf}
+use Rattle.rl_spec.specs.Mapped.{mapValue, mapExpr, mapStmt, mapBody, mapContracts}
+use Rattle.rl_spec.specs.Functions.{plainFunction, contractFunction, readingIn}
 use Rattle.rl_spec.specs.Lower.{lowered}
 use Rattle.rl_spec.specs.Lowerer.{made, refused, tooTall, orLimit, lowerOf, lowerOut}
 use Rattle.rl_spec.specs.Runner.{outcomeIn, allHave, given, valuesOf, runOf}
@@ -56,25 +57,28 @@ use Rattle.rl_images.specs.Encoding.EncodedBytes as EncodedBytes
 use Rattle.rl_images.specs.Encoding.ReaderKnows.{counts}
 use Rattle.rl_images.specs.Reading.Starts as Starts
 use Rattle.rl_images.specs.Reading.Places as Places
-use Rattle.rl_images.specs.Reading.ReadOutcome as Outcome
+use Rattle.rl_images.specs.Reading.ReadOutcome as ReadOutcome
 use Rattle.rl_images.specs.Reading.Causes as Causes
 use Rattle.rl_theorems.specs.Values.Distance.{Same, apart}
 use Rattle.rl_theorems.specs.Values.Nearest as Nearest
-use Rattle.rl_theorems.specs.Reading.EncodedAnswers as Answers
+use Rattle.rl_theorems.specs.Reading.EncodedAnswers as EncodedAnswers
 use Rattle.rl_theorems.specs.Lowering.LowerBodies as LowerBodies
 use Rattle.rl_theorems.specs.Lowering.LowerFrame as LowerFrame
 use Rattle.rl_theorems.specs.Lowering.LoweredTo as LoweredTo
-use Rattle.rl_theorems.specs.Lowering.LoweredFunctions as LoweredTrees
+use Rattle.rl_theorems.specs.Lowering.LoweredFunctions as LoweredFunctions
 use Rattle.rl_laws.specs.Steps as Steps
 use Rattle.rl_theorems.specs.Runs.Budget as Budget
 use Rattle.rl_theorems.specs.Runs.Texts as Texts
 use Rattle.rl_theorems.specs.Runs.TextRuns as TextRuns
+use Rattle.rl_theorems.specs.Runs.ProvesTexts as ProvesTexts
 use Rattle.rl_examples.specs.RunExamples as RunExamples
 use Rattle.rl_theorems.specs.DemandThree.FoldsCalls as FoldsCalls
 use Rattle.rl_theorems.specs.DemandThree.FoldsEntry as FoldsEntry
 use Rattle.rl_images.specs.Images.Heights as Heights
 use Rattle.rl_theorems.specs.Lowering.LowerTrees as LowerTrees
 use Rattle.rl_theorems.specs.Lowering.LoweredRuns as LoweredRuns
+use Rattle.rl_theorems.specs.Lowering.LoweredOthers as LoweredOthers
+use Rattle.rl_theorems.specs.Lowering.LoweredAll as LoweredAll
 use Rattle.rl_images.specs.Lowering.Grows.{eight-sections}
 use Rattle.rl_images.specs.Lowering.Followed as Followed
 use Rattle.rl_theorems.specs.Images.FunctionReady.{Under}
@@ -158,14 +162,14 @@ module _ (s : List ℕ) (k : ℕ) (a : ArenaNo) (c : Counts) (e : answerOf s k �
 pub found-is-image : (s : List ℕ) (k : ℕ) (a : ArenaNo) (c : Counts) → answerOf s k ≡ Accepted a c → imageFound s (startsOf s k) c ≡ imageOf s
 found-is-image = Found.found-is-image
 
--- ---- a refusal names a place in the image and a cause that holds (Places, Outcome, Causes)
+-- ---- a refusal names a place in the image and a cause that holds (Places, ReadOutcome, Causes)
 
 pub place-within : (s : List ℕ) (k : ℕ) (q : Cause) (n : ℕ) → answerOf s k ≡ Refused q n → n ≤ length s
 place-within = Places.place-within
 
 -- the whole answer: which check refuses, and what stands before it
-pub refused-for : (s : List ℕ) (k : ℕ) (q : Cause) (n : ℕ) → answerOf s k ≡ Refused q n → Outcome.Refusal s k q n
-refused-for = Outcome.refused-for
+pub refused-for : (s : List ℕ) (k : ℕ) (q : Cause) (n : ℕ) → answerOf s k ≡ Refused q n → ReadOutcome.Refusal s k q n
+refused-for = ReadOutcome.refused-for
 
 -- what a number means for one record, which starts at `at`: 3, 6, 8, 9
 module _ (s w p : List ℕ) (seen : Counts) (own : Section) (at : ℕ) where
@@ -200,29 +204,29 @@ module _ (i : ℤ) (h : mag i < 2 ^ 63) where
     pub nearest-even : apart i (ofInt binary64 i) * den x ≡ apart i x * den (ofInt binary64 i) → (Same x (ofInt binary64 i) → ⊥) → Nearest.LastDigit 53 0 (ofInt binary64 i) × Nearest.LastDigit 53 1 x
     nearest-even = Nearest.nearest-even i h x finite-x fits-x
 
--- ---- what folding, proving and lowering answer for the bytes of a well-formed image (Answers)
+-- ---- what folding, proving and lowering answer for the bytes of a well-formed image (EncodedAnswers)
 
 module _ (im : Image) (wf : WellFormed im) (k : ℕ) (long : 8192 ≤ k) where
   pub folded-encoded : (n : ℕ) → n < sizeOf im Expressions → foldOf (encode im) k (record { arena = record { 0 = im .arena }; node = record { 0 = n } }) ≡ Found (asFolded (constEval (textOf im) [] (exprTree im n)))
-  folded-encoded = Answers.folded-encoded im wf k long
+  folded-encoded = EncodedAnswers.folded-encoded im wf k long
 
   -- one call, and what is left in a slice of so many entries
   pub proved-encoded : (call room : ℕ) → call < sizeOf im Calls → proveOf (encode im) k call room ≡ fitting room (callEntries im call)
-  proved-encoded = Answers.proved-encoded im wf k long
+  proved-encoded = EncodedAnswers.proved-encoded im wf k long
 
   pub reports-encoded : (call room : ℕ) → call < sizeOf im Calls → reportsOf (encode im) k call room ≡ sliceBy room (callEntries im call) (fitting room (callEntries im call))
-  reports-encoded = Answers.reports-encoded im wf k long
+  reports-encoded = EncodedAnswers.reports-encoded im wf k long
 
   -- all calls
   pub all-proved-encoded : (room : ℕ) → proveAllOf (encode im) k room ≡ fitting room (allEntries im (sizeOf im Calls) 0)
-  all-proved-encoded = Answers.all-proved-encoded im wf k long
+  all-proved-encoded = EncodedAnswers.all-proved-encoded im wf k long
 
   pub all-reports-encoded : (room : ℕ) → allReportsOf (encode im) k room ≡ sliceBy room (allEntries im (sizeOf im Calls) 0) (fitting room (allEntries im (sizeOf im Calls) 0))
-  all-reports-encoded = Answers.all-reports-encoded im wf k long
+  all-reports-encoded = EncodedAnswers.all-reports-encoded im wf k long
 
   -- lowering a function of an image that is not too tall, with an output slice that is long enough
   pub lowered-encoded : (f room : ℕ) → f < sizeOf im Functions → tooTall im ≡ false → 65535 ≤ room → lowerOf (encode im) k f room ≡ orLimit (lowered im f)
-  lowered-encoded = Answers.lowered-encoded im wf k long
+  lowered-encoded = EncodedAnswers.lowered-encoded im wf k long
 
 -- ---- the steps of a run (Steps). Spends: what is left is at most the budget that was given, and nothing where that is spent
 
@@ -303,6 +307,10 @@ module _ {A B : Type 0} (f : A → B) (bytesA : A → List ℕ) (bytesB : B → 
   pub reading-mapped : (ret : A) (g : Function A) (vs : List (Value A)) (budget : ℕ) → reading bytesB (f ret) (TextRuns.mapFunction f g) (map (mapValue f) vs) budget ≡ TextRuns.mapEnded f (reading bytesA ret g vs budget)
   reading-mapped = TextRuns.reading-mapped f bytesA bytesB keeps
 
+  -- a call with mapped contracts and arguments has the reports that it had (ProvesTexts)
+  pub prove-mapped : (c : FnContracts A) (args : List (Expr A)) → proveCall bytesB (mapContracts f c) (map (mapExpr f) args) ≡ proveCall bytesA c args
+  prove-mapped = ProvesTexts.prove-mapped f bytesA bytesB keeps
+
 -- ---- closed runs and readings (RunExamples has the list): each statement kind, each fault, each outcome, and marked case 14
 
 pub runs-end-so : map RunExamples.actual RunExamples.cases ≡ map RunExamples.expected RunExamples.cases
@@ -331,16 +339,27 @@ module _ (im im′ : Image) (f : ℕ) (wf : WellFormed im) (there : f < sizeOf i
   lowered-accepted k = LoweredWellFormed.lowered-accepted im im′ f k wf there low lower e
 
 -- ---- on records, the function of a lowered image, its texts as bytes, is what the function's tree is lowered to, and so its plain run is the
--- contract reading (LoweredTrees; LoweredTo says when a tree is lowered to another, whatever the temporaries are called;
--- LoweredTreesExample has a function that meets the premises)
+-- contract reading (LoweredFunctions; LoweredTo says when a tree is lowered to another, whatever the temporaries are called;
+-- LoweredFunctionsExample has a function that meets the premises)
 
 module _ (im im′ : Image) (f : ℕ) (wf : WellFormed im) (there : f < sizeOf im Functions) (e : lowered im f ≡ some im′)
     (ensured : LowerBodies.Ensured (contractFunction im f .ensures) (contractFunction im f .body)) where
   pub lowered-trees : LoweredTo.LoweredTo (contractFunction im f) (contractFunction im′ f)
-  lowered-trees = LoweredTrees.lowered-trees im im′ f wf there e ensured
+  lowered-trees = LoweredFunctions.lowered-trees im im′ f wf there e ensured
 
   pub lowered-reads : LowerFrame.CleanChecks (contractFunction im f .ensures) → (vs : List (Value (List ℕ))) (budget : ℕ) → runFunction (λ t. t) (contractFunction im′ f) vs budget ≡ reading (λ t. t) (ascii "ret") (contractFunction im f) vs budget
-  lowered-reads = LoweredTrees.lowered-reads im im′ f wf there e ensured
+  lowered-reads = LoweredFunctions.lowered-reads im im′ f wf there e ensured
+
+-- ---- where one function is lowered, every other one is as it was: name, parameters, clauses and body, texts by bytes (LoweredOthers)
+
+pub others-same : (im im′ : Image) (f : ℕ) → WellFormed im → lowered im f ≡ some im′ → (g : ℕ) → g < sizeOf im Functions → (g ≡ f → ⊥) → contractFunction im′ g ≡ contractFunction im g
+others-same = LoweredOthers.others-same
+
+-- ---- all functions lowered in order, the first n of them in `LoweredInOrder im n im′`, none of the images being too tall: each runs as it
+-- was read before the first lowering, under its premises then (LoweredAll; LoweredAllExample has two functions that meet them)
+
+pub all-lowered : (im im′ : Image) → WellFormed im → LoweredAll.LoweredInOrder im (sizeOf im Functions) im′ → (f : ℕ) → f < sizeOf im Functions → LoweredRuns.Premises (contractFunction im f) → (vs : List (Value (List ℕ))) (budget : ℕ) → runFunction (λ t. t) (contractFunction im′ f) vs budget ≡ reading (λ t. t) (ascii "ret") (contractFunction im f) vs budget
+all-lowered im im′ wf o = LoweredAll.all-lowered im wf o
 
 -- ---- a call that has a report never passes its callee's entry checks (FoldsCalls; SecondHalfExamples has two such calls). `Asked`: the callee's
 -- parameter names are distinct, no identifier stands in the arguments and no assignment in its conditions, and a parameter whose argument

@@ -24,18 +24,18 @@ use Rattle.rl_spec.specs.Message.{decimal}
 use Rattle.rl_spec.specs.Make.{Context, Make, andThen, give, fail, each, flatMap, made, newText, entriesOf}
 use Rattle.rl_spec.specs.Lower as lower
 use Rattle.rl_images.specs.Lowering.Grows.{Longer, as-long, Grows, Eight, records-own, records-other}
-use Rattle.rl_images.specs.Lowering.GrowsTo.{Good, good-is, given, stopped, test, append-good, text-good, list-good, stmt-good, expr-good, temp-good, _▷_, _▹_}
+use Rattle.rl_images.specs.Lowering.GrowsTo.{GrowsTo, good-is, given, stopped, test, append-good, text-good, list-good, stmt-good, expr-good, temp-good, _▷_, _▹_}
 
 infixr 1 _⇒_
 -- ---- under each step of lowering the image grows
 
 abbrev pub Grown : {A : Type 0} → Context → Option (A × Context) → Type 0
-Grown ctx o = Good ctx (λ a c. Unit {0}) o
+Grown ctx o = GrowsTo ctx (λ a c. Unit {0}) o
 
-grown : {A : Type 0} {ctx : Context} {P : A → Context → Type 0} {o : Option (A × Context)} → Good ctx P o → Grown ctx o
+grown : {A : Type 0} {ctx : Context} {P : A → Context → Type 0} {o : Option (A × Context)} → GrowsTo ctx P o → Grown ctx o
 grown g = g ▹ λ a c l p. tt
 
-_⇒_ : {A B : Type 0} {ctx : Context} {P : A → Context → Type 0} {o : Option (A × Context)} {f : A → Make B} → Good ctx P o →
+_⇒_ : {A B : Type 0} {ctx : Context} {P : A → Context → Type 0} {o : Option (A × Context)} {f : A → Make B} → GrowsTo ctx P o →
     ((a : A) (c : Context) → Grown c (f a c)) → Grown ctx (andThen o f)
 _⇒_ g k = g ▷ λ a c l p. k a c
 

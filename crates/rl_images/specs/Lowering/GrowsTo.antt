@@ -33,44 +33,44 @@ eight-later p e = p .image .sections ∙ e
 
 -- ---- what is given, and the context then, which is a later one
 
-pub record Good {A : Type 0} (ctx : Context) (Q : A → Context → Type 0) (o : Option (A × Context)) : Type 0 where
+pub record GrowsTo {A : Type 0} (ctx : Context) (Q : A → Context → Type 0) (o : Option (A × Context)) : Type 0 where
   pub makes : Eight (ctx .image) → Gives (λ a c. Later ctx c × Q a c) o
 
 pub _▷_ : {A B : Type 0} {ctx : Context} {P : A → Context → Type 0} {Q : B → Context → Type 0} {o : Option (A × Context)} {f : A → Make B} →
-    Good ctx P o → ((a : A) (c : Context) → Later ctx c → P a c → Good c Q (f a c)) → Good ctx Q (andThen o f)
+    GrowsTo ctx P o → ((a : A) (c : Context) → Later ctx c → P a c → GrowsTo c Q (f a c)) → GrowsTo ctx Q (andThen o f)
 _▷_ g k =
     record { makes = λ e. after (g .makes e) λ a c p. weaker (k a c (p .0) (p .1) .makes (eight-later (p .0) e)) λ b d q. (p .0 ⊕ q .0, q .1) }
 
 pub _▹_ : {A : Type 0} {ctx : Context} {P Q : A → Context → Type 0} {o : Option (A × Context)} →
-    Good ctx P o → ((a : A) (c : Context) → Later ctx c → P a c → Q a c) → Good ctx Q o
+    GrowsTo ctx P o → ((a : A) (c : Context) → Later ctx c → P a c → Q a c) → GrowsTo ctx Q o
 _▹_ g k = record { makes = λ e. weaker (g .makes e) λ a c p. (p .0, k a c (p .0) (p .1)) }
 
-pub given : {A : Type 0} {ctx : Context} {Q : A → Context → Type 0} {a : A} → Q a ctx → Good ctx Q (some (a, ctx))
+pub given : {A : Type 0} {ctx : Context} {Q : A → Context → Type 0} {a : A} → Q a ctx → GrowsTo ctx Q (some (a, ctx))
 given q = record { makes = λ e. gives (now, q) }
 
-pub stopped : {A : Type 0} {ctx : Context} {Q : A → Context → Type 0} → Good ctx Q none
+pub stopped : {A : Type 0} {ctx : Context} {Q : A → Context → Type 0} → GrowsTo ctx Q none
 stopped = record { makes = λ e. stops }
 
 -- a case distinction
 pub test : {A : Type 0} {Q : A → Context → Type 0} (b : Bool) (m n : Make A) (ctx : Context) →
-    (b ≡ true → Good ctx Q (m ctx)) → (b ≡ false → Good ctx Q (n ctx)) → Good ctx Q (cond b m n ctx)
+    (b ≡ true → GrowsTo ctx Q (m ctx)) → (b ≡ false → GrowsTo ctx Q (n ctx)) → GrowsTo ctx Q (cond b m n ctx)
 test true m n ctx p q = p refl
 test false m n ctx p q = q refl
 
 pub good-is : {A : Type 0} {ctx : Context} {Q : A → Context → Type 0} {o : Option (A × Context)} {a : A} {c : Context} →
-    Good ctx Q o → Eight (ctx .image) → o ≡ some (a, c) → Later ctx c × Q a c
+    GrowsTo ctx Q o → Eight (ctx .image) → o ≡ some (a, c) → Later ctx c × Q a c
 good-is g e h = given-is (g .makes e) h
 
 -- nothing but growth
 abbrev pub Anything : {A : Type 0} → A → Context → Type 0
 Anything a c = Unit {0}
 
-pub only-grows : {A : Type 0} {ctx : Context} {P : A → Context → Type 0} {o : Option (A × Context)} → Good ctx P o → Good ctx Anything o
+pub only-grows : {A : Type 0} {ctx : Context} {P : A → Context → Type 0} {o : Option (A × Context)} → GrowsTo ctx P o → GrowsTo ctx Anything o
 only-grows g = g ▹ λ a c k p. tt
 
 -- what holds under a premise
 pub under : {A X : Type 0} {ctx : Context} {Q : X → A → Context → Type 0} {o : Option (A × Context)} →
-    Good ctx Anything o → ((x : X) → Good ctx (Q x) o) → Good ctx (λ a c. (x : X) → Q x a c) o
+    GrowsTo ctx Anything o → ((x : X) → GrowsTo ctx (Q x) o) → GrowsTo ctx (λ a c. (x : X) → Q x a c) o
 under {A} {X} {ctx} {Q} g f = record { makes = λ e. go (g .makes e) (λ x. f x .makes e) }
   where
     go : {o : Option (A × Context)} → Gives (λ a c. Later ctx c × Unit {0}) o → ((x : X) → Gives (λ a c. Later ctx c × Q x a c) o) →
@@ -83,18 +83,18 @@ under {A} {X} {ctx} {Q} g f = record { makes = λ e. go (g .makes e) (λ x. f x 
 with-later : {ctx : Context} {im : Image} → Grows (ctx .image) im → Later ctx (withImage ctx im)
 with-later g = record { image = g; span = refl; isResult = refl }
 
-pub append-good : (o : Section) → Growing o → (rs : List Rec) (ctx : Context) → Good ctx (Appended ctx o rs) (append o rs ctx)
+pub append-good : (o : Section) → Growing o → (rs : List Rec) (ctx : Context) → GrowsTo ctx (Appended ctx o rs) (append o rs ctx)
 append-good o k rs ctx =
     record { makes = λ e. weaker (append-gives o rs ctx) λ n c h. (rw (h .is) (with-later (appended-grows (ctx .image) o rs k e)), h) }
 
-pub text-good : (s : List ℕ) (ctx : Context) → Good ctx (NewText ctx s) (newText s ctx)
+pub text-good : (s : List ℕ) (ctx : Context) → GrowsTo ctx (NewText ctx s) (newText s ctx)
 text-good s ctx = record {
   makes = λ e. weaker (text-gives s ctx) λ n c h.
       let texts = appended-grows (withBytes (ctx .image) (ctx .image .bytes ++ s)) Texts (textRecords (ctx .image) s) tt e in
       (rw (h .is) (with-later (grows-on (bytes-grow (ctx .image) s) texts)), h);
 }
 
-pub list-good : (ns : List ℕ) (ctx : Context) → Good ctx (NewList ctx ns) (newList ns ctx)
+pub list-good : (ns : List ℕ) (ctx : Context) → GrowsTo ctx (NewList ctx ns) (newList ns ctx)
 list-good ns ctx =
     record {
       makes = λ e. weaker (list-gives ns ctx) λ n c h.
@@ -102,17 +102,17 @@ list-good ns ctx =
     }
 
 pub stmt-good : (kind span : ℕ) (fields : List Field) (ctx : Context) →
-    Good ctx (Appended ctx Statements (made kind (num span ∷ fields) ∷ [])) (stmt kind span fields ctx)
+    GrowsTo ctx (Appended ctx Statements (made kind (num span ∷ fields) ∷ [])) (stmt kind span fields ctx)
 unfolding stmt
 stmt-good kind span fields ctx = append-good Statements tt _ ctx
 
 pub expr-good : (kind : ℕ) (fields : List Field) (ctx : Context) →
-    Good ctx (Appended ctx Expressions (made kind (num (ctx .span) ∷ fields) ∷ [])) (expr kind fields ctx)
+    GrowsTo ctx (Appended ctx Expressions (made kind (num (ctx .span) ∷ fields) ∷ [])) (expr kind fields ctx)
 unfolding expr
 expr-good kind fields ctx = append-good Expressions tt _ ctx
 
 -- a temporary's number
-pub temp-good : (ctx : Context) → Good ctx (λ n c. (n ≡ ctx .tempCounter) × (c ≡ counted ctx)) (takeTemp ctx)
+pub temp-good : (ctx : Context) → GrowsTo ctx (λ n c. (n ≡ ctx .tempCounter) × (c ≡ counted ctx)) (takeTemp ctx)
 temp-good ctx = record { makes = λ e. gives (record { image = grows-same; span = refl; isResult = refl }, (refl, refl)) }
 
 -- ---- one after the other: P is asked of each input, and Q holds of it and its output; growth keeps both
@@ -129,12 +129,12 @@ abbrev pub Kept : {A : Type 0} → (A → Context → Type 0) → Type 0
 Kept {A} P = (a : A) (c d : Context) → Later c d → P a c → P a d
 
 module _ {A B : Type 0} (P : A → Context → Type 0) (Q : A → B → Context → Type 0) (keepP : Kept P) (keepQ : (a : A) → Kept (Q a))
-    (f : A → Make B) (step : (a : A) (c : Context) → P a c → Good c (Q a) (f a c)) where
+    (f : A → Make B) (step : (a : A) (c : Context) → P a c → GrowsTo c (Q a) (f a c)) where
   keep-every : {c d : Context} {l : List A} → Later c d → Every P c l → Every P d l
   keep-every k noMore = noMore
   keep-every {c} {d} k (more {a = a} p ps) = more (keepP a c d k p) (keep-every k ps)
 
-  pub each-good : (l : List A) (c : Context) → Every P c l → Good c (λ m d. Pairs Q d l m) (each f l c)
+  pub each-good : (l : List A) (c : Context) → Every P c l → GrowsTo c (λ m d. Pairs Q d l m) (each f l c)
   unfolding each
   each-good [] c noMore = given noPairs
   each-good (a ∷ l) c (more p ps) =

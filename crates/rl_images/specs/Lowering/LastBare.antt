@@ -20,7 +20,7 @@ use Rattle.rl_spec.specs.Lower.{returnOf, wrapAs, wrapReturn, conditional, matc
 use Rattle.rl_laws.specs.Descend.{descend-is}
 use Rattle.rl_images.specs.Lowering.Gives.{Gives, gives, weaker}
 use Rattle.rl_images.specs.Lowering.Grows.{Grows, size-grows, record-kept, Eight}
-use Rattle.rl_images.specs.Lowering.GrowsTo.{Good, _▷_, _▹_, given, stopped, test, list-good, expr-good, temp-good}
+use Rattle.rl_images.specs.Lowering.GrowsTo.{GrowsTo, _▷_, _▹_, given, stopped, test, list-good, expr-good, temp-good}
 use Rattle.rl_images.specs.Lowering.Followed.{AllGrow, gives-grow, by-test, each-grow, ident-grow, call-grow, clause-grow, declare-grow, skip-grow, list-grow, branch-grow, arm-grow, transform-grow}
 use Rattle.rl_images.specs.Lowering.NewRecords.{record-ok}
 
@@ -64,22 +64,22 @@ Other n c = (n < sizeOf (c .image) Statements) × (bareAt (c .image) n ≡ false
 abbrev OtherLast : List ℕ → Context → Type 0
 OtherLast ns c = (n : ℕ) × EndsIn n ns × Other n c
 
-other-made : (kind span : ℕ) (fields : List Field) (ctx : Context) → (kind ≡ 65 → ⊥) → Good ctx Other (stmt kind span fields ctx)
+other-made : (kind span : ℕ) (fields : List Field) (ctx : Context) → (kind ≡ 65 → ⊥) → GrowsTo ctx Other (stmt kind span fields ctx)
 unfolding stmt
 other-made kind span fields ctx h =
     record-ok Statements tt (made kind (num span ∷ fields)) ctx ▹ λ n c k a.
     (a .1 .inside, ne-eqb (recordOf (c .image) Statements n .kind) 65 (λ e. h (sym (ap (λ r. r .kind) (a .1 .is)) ∙ e)))
 
-only-other : {ctx : Context} {o : Option (ℕ × Context)} → Good ctx Other o → Good ctx OtherLast (andThen o (λ n. give (n ∷ [])))
+only-other : {ctx : Context} {o : Option (ℕ × Context)} → GrowsTo ctx Other o → GrowsTo ctx OtherLast (andThen o (λ n. give (n ∷ [])))
 only-other g = g ▷ λ n c k h. given (n, end, h)
 
 -- a wrapped return ends in a return
-return-other : (temp : List ℕ) (ctx : Context) → Good ctx Other (returnOf temp ctx)
+return-other : (temp : List ℕ) (ctx : Context) → GrowsTo ctx Other (returnOf temp ctx)
 unfolding returnOf
 return-other temp ctx = ident-grow temp ctx ▷ λ n c k h. other-made 66 (c .span) (num n ∷ []) c λ e. omega arith
 
 wrap-as-other : (temp : List ℕ) (isResult : Bool) (value : ℕ) (ensures : List Clause) (ctx : Context) →
-    Good ctx OtherLast (wrapAs temp isResult value ensures ctx)
+    GrowsTo ctx OtherLast (wrapAs temp isResult value ensures ctx)
 unfolding wrapAs
 wrap-as-other temp isResult value ensures ctx =
     declare-grow temp value ctx ▷ λ dec c₁ k₁ h₁. by-test isResult (skip-grow temp) (gives-grow []) c₁ ▷ λ skip c₂ k₂ h₂.
@@ -87,7 +87,7 @@ wrap-as-other temp isResult value ensures ctx =
     declare-grow (ascii "ret") inner c₄ ▷ λ ret c₅ k₅ h₅. each-grow _ (clause-grow _) ensures c₅ ▷ λ guards c₆ k₆ h₆.
     return-other temp c₆ ▷ λ s c₇ k₇ h₇. given (s, ends-append ((dec ∷ skip) ++ (ret ∷ guards)) end, h₇)
 
-wrap-other : (value : ℕ) (ensures : List Clause) (ctx : Context) → Good ctx OtherLast (wrapReturn value ensures ctx)
+wrap-other : (value : ℕ) (ensures : List Clause) (ctx : Context) → GrowsTo ctx OtherLast (wrapReturn value ensures ctx)
 unfolding wrapReturn
 wrap-other value ensures ctx =
     temp-good ctx ▷ λ n c k h. wrap-as-other (ascii "__ensure_ret_" ++ decimal n) (c .isResult) value ensures c
@@ -102,23 +102,23 @@ record Ends (im : Image) (s : ℕ) (ns : List ℕ) (im′ : Image) : Type 0 wher
   pub number : bareAt im s ≡ true → last ≡ s
 
 module _ (walk : ℕ → Make (List ℕ)) (grow : (n : ℕ) → AllGrow (walk n)) where
-  conditional-other : (r : Rec) (ctx : Context) → Good ctx Other (conditional walk r ctx)
+  conditional-other : (r : Rec) (ctx : Context) → GrowsTo ctx Other (conditional walk r ctx)
   conditional-other r ctx =
       branch-grow walk grow (number r 1) ctx ▷ λ branch c₁ k₁ h₁.
       by-test (eqb (number r 2) 65535) (gives-grow (number r 2)) (branch-grow walk grow (number r 2)) c₁ ▷ λ other c₂ k₂ h₂.
       other-made 68 (number r 0) (num branch ∷ num other ∷ []) c₂ λ e. omega arith
 
-  match-other : (r : Rec) (ctx : Context) → Good ctx Other (match walk r ctx)
+  match-other : (r : Rec) (ctx : Context) → GrowsTo ctx Other (match walk r ctx)
   match-other r ctx =
       each-grow _ (arm-grow walk grow) (entriesOf (ctx .image) (fieldOf r 2)) ctx ▷ λ ss c₁ k₁ h₁. list-good ss c₁ ▷ λ arms c₂ k₂ h₂.
       other-made 75 (number r 0) (fieldOf r 1 ∷ arms ∷ []) c₂ λ e. omega arith
 
-  loop-other : (r : Rec) (kept : List Field) (list : Field) (ctx : Context) → (r .kind ≡ 65 → ⊥) → Good ctx Other (loop walk r kept list ctx)
+  loop-other : (r : Rec) (kept : List Field) (list : Field) (ctx : Context) → (r .kind ≡ 65 → ⊥) → GrowsTo ctx Other (loop walk r kept list ctx)
   loop-other r kept list ctx h =
       list-grow walk grow list ctx ▷ λ body c k p. other-made (r .kind) (number r 0) (kept ++ body ∷ []) c h
 
   statement-ends : (ensures : List Clause) (s : ℕ) (ctx : Context) → s < sizeOf (ctx .image) Statements →
-      Good ctx (λ ns c. Ends (ctx .image) s ns (c .image))
+      GrowsTo ctx (λ ns c. Ends (ctx .image) s ns (c .image))
       (transformStatementBy walk ensures s (recordOf (ctx .image) Statements s) ctx)
   statement-ends ensures s ctx l =
       by-kind 66 _ _ (λ e. omega arith) (λ h. wrap-other (number r 1) ensures ctx)
@@ -135,15 +135,15 @@ module _ (walk : ℕ → Make (List ℕ)) (grow : (n : ℕ) → AllGrow (walk n)
       r : Rec
       r = recordOf (ctx .image) Statements s
 
-      a-loop : (kept : List Field) (list : Field) → (r .kind ≡ 65 → ⊥) → Good ctx OtherLast (only walk (loop walk r kept list) ctx)
+      a-loop : (kept : List Field) (list : Field) → (r .kind ≡ 65 → ⊥) → GrowsTo ctx OtherLast (only walk (loop walk r kept list) ctx)
       a-loop kept list h = only-other (loop-other r kept list ctx h)
 
-      by-kind : (k : ℕ) (m n : Make (List ℕ)) → (k ≡ 65 → ⊥) → ((r .kind ≡ 65 → ⊥) → Good ctx OtherLast (m ctx)) →
-          Good ctx (λ ns c. Ends (ctx .image) s ns (c .image)) (n ctx) →
-          Good ctx (λ ns c. Ends (ctx .image) s ns (c .image)) (cond (eqb (r .kind) k) m n ctx)
+      by-kind : (k : ℕ) (m n : Make (List ℕ)) → (k ≡ 65 → ⊥) → ((r .kind ≡ 65 → ⊥) → GrowsTo ctx OtherLast (m ctx)) →
+          GrowsTo ctx (λ ns c. Ends (ctx .image) s ns (c .image)) (n ctx) →
+          GrowsTo ctx (λ ns c. Ends (ctx .image) s ns (c .image)) (cond (eqb (r .kind) k) m n ctx)
       by-kind k m n d p q = test (eqb (r .kind) k) m n ctx other (λ e. q)
         where
-          other : eqb (r .kind) k ≡ true → Good ctx (λ ns c. Ends (ctx .image) s ns (c .image)) (m ctx)
+          other : eqb (r .kind) k ≡ true → GrowsTo ctx (λ ns c. Ends (ctx .image) s ns (c .image)) (m ctx)
           other e =
               let not-bare : r .kind ≡ 65 → ⊥ = (λ f. d (sym (eqb-true (r .kind) k e) ∙ f)) in
               let is-other : bareAt (ctx .image) s ≡ false = ne-eqb (r .kind) 65 not-bare in
@@ -156,7 +156,7 @@ module _ (walk : ℕ → Make (List ℕ)) (grow : (n : ℕ) → AllGrow (walk n)
               }
 
 transform-ends : (ensures : List Clause) (s : ℕ) (ctx : Context) → s < sizeOf (ctx .image) Statements →
-    Good ctx (λ ns c. Ends (ctx .image) s ns (c .image)) (transformStatement ensures s ctx)
+    GrowsTo ctx (λ ns c. Ends (ctx .image) s ns (c .image)) (transformStatement ensures s ctx)
 unfolding transformStatement
 transform-ends ensures s ctx l = rw (descend-is fail step s)
     (statement-ends (below s fail (transformStatement ensures))
@@ -180,7 +180,7 @@ ends-later {a} {b} {s = s} ms g l p =
     }
 
 body-ends : (ensures : List Clause) {s : ℕ} {body : List ℕ} (ctx : Context) → EndsIn s body → s < sizeOf (ctx .image) Statements →
-    Good ctx (λ ss c. Ends (ctx .image) s ss (c .image)) (flatMap (transformStatement ensures) body ctx)
+    GrowsTo ctx (λ ss c. Ends (ctx .image) s ss (c .image)) (flatMap (transformStatement ensures) body ctx)
 unfolding flatMap
 body-ends ensures {s} ctx end l = transform-ends ensures s ctx l ▷ λ ns c k h. given (rw (append-nil ns) h)
 body-ends ensures {s} ctx (before {m} p) l =

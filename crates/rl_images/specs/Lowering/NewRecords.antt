@@ -13,7 +13,7 @@ use Rattle.rl_spec.specs.Image.{Rec, Image, recordsOf, sizeOf, noRecord, record
 use Rattle.rl_spec.specs.Make.{Context, most, append}
 use Rattle.rl_images.specs.Lowering.Gives.{weaker}
 use Rattle.rl_images.specs.Lowering.Grows.{Eight, records-own, Growing, appended, Appended}
-use Rattle.rl_images.specs.Lowering.GrowsTo.{Good, append-good}
+use Rattle.rl_images.specs.Lowering.GrowsTo.{GrowsTo, append-good}
 
 -- the record at an index, which no field takes for none
 pub record At (im : Image) (o : Section) (i : ℕ) (r : Rec) : Type 0 where
@@ -46,6 +46,6 @@ at-end o ctx r n c e h = rw (h .is, h .at) (record {
 
 -- its number is the old size
 pub record-ok : (o : Section) → Growing o → (r : Rec) (ctx : Context) →
-    Good ctx (λ n c. (n ≡ sizeOf (ctx .image) o) × At (c .image) o n r) (append o (r ∷ []) ctx)
+    GrowsTo ctx (λ n c. (n ≡ sizeOf (ctx .image) o) × At (c .image) o n r) (append o (r ∷ []) ctx)
 record-ok o k r ctx =
     record { makes = λ e. weaker (append-good o k (r ∷ []) ctx .makes e) λ n c h. (h .0, (h .1 .at, at-end o ctx r n c e (h .1))) }

@@ -23,7 +23,8 @@ use Rattle.rl_spec.specs.Tree.{ascii}
 use Rattle.rl_spec.specs.Records.{functionAt}
 use Rattle.rl_spec.specs.Run as run
 use Rattle.rl_spec.specs.Reading.{Function, runFunction}
-use Rattle.rl_spec.specs.Functions.{mapValue, mapOutcome, Text, plainFunction, contractFunction, readingIn}
+use Rattle.rl_spec.specs.Mapped.{mapValue, mapOutcome, Text}
+use Rattle.rl_spec.specs.Functions.{plainFunction, contractFunction, readingIn}
 use Rattle.rl_spec.specs.Lowerer.{made, lowerOf}
 use Rattle.rl_spec.specs.Runner.{plainOf, valueOf, asPlain, asValue, asOutcome, outcomeOf, outcomeIn, allHave, given, valuesOf, ranIn, isFor, runOf}
 use Rattle.rl_images.specs.Encoding.ReaderKnows.{counts}

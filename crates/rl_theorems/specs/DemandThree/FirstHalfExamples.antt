@@ -26,7 +26,8 @@ use Rattle.rl_spec.specs.Tree.{ascii}
 use Rattle.rl_spec.specs.Run as run
 use Rattle.rl_spec.specs.Run.{returned, fault, folds}
 use Rattle.rl_spec.specs.Reading.{Function}
-use Rattle.rl_spec.specs.Functions.{Text, plainFunction, contractFunction, readingIn}
+use Rattle.rl_spec.specs.Mapped.{Text}
+use Rattle.rl_spec.specs.Functions.{plainFunction, contractFunction, readingIn}
 use Rattle.rl_spec.specs.Lower.{lowered}
 use Rattle.rl_spec.specs.Lowerer.{made, orLimit, lowerOf}
 use Rattle.rl_spec.specs.Runner.{outcomeIn, allHave, given, valuesOf, ranIn, runOf}

@@ -8,11 +8,11 @@ use mathlib.Core.Option.{Option, some}
 use Rattle.rl_spec.specs.Image.{Image, textOf}
 use Rattle.rl_spec.specs.Fold.{Binding, lookup}
 use Rattle.rl_spec.specs.Tree.{Expr, ascii}
-use Rattle.rl_spec.specs.Records.{paramAt, functionAt}
-use Rattle.rl_spec.specs.Ranges.{numbersIn}
-use Rattle.rl_spec.specs.Contracts.{Param, paramOf, clauseOf, contractsOf, calleeOf, argumentsOf}
+use Rattle.rl_spec.specs.Records.{functionAt}
+use Rattle.rl_spec.specs.Contracts.{Param, contractsOf, calleeOf, argumentsOf}
 use Rattle.rl_spec.specs.Prove.{bindArguments, proveCall, violationsBy, violationsOf}
-use Rattle.rl_spec.specs.Functions.{Text, refinementChecks, clauseCheck, contractFunction}
+use Rattle.rl_spec.specs.Mapped.{Text, mapParam}
+use Rattle.rl_spec.specs.Functions.{contractFunction}
 use Rattle.rl_spec.specs.Run.{Value, Env, Result, got, andThen}
 use Rattle.rl_spec.specs.Reading.{Check, bindAll, checks, entering}
 use Rattle.rl_theorems.specs.Runs.Texts.{same}
@@ -22,10 +22,9 @@ use Rattle.rl_theorems.specs.Runs.FoldsTexts.{mapNames}
 use Rattle.rl_theorems.specs.DemandThree.FoldsEntry.{NonEmpty, Clean, entry-fails}
 use Rattle.rl_theorems.specs.DemandThree.FoldsNames.{AllNoNames, Distinct, Values, fresh-none, paired, Enters, entered, refused, enters}
 
-param-names : (im : Image) (is : List ℕ) → map (λ i. textOf im (paramAt im i .name)) is ≡ map (λ p. textOf im (p .name)) (map (paramOf im) is)
-unfolding paramOf
-param-names im [] = refl
-param-names im (i ∷ is) = ap (λ l. textOf im (paramAt im i .name) ∷ l) (param-names im is)
+param-names : (f : ℕ → Text) (ps : List (Param ℕ)) → map (λ p. p .name) (map (mapParam f) ps) ≡ map (λ p. f (p .name)) ps
+param-names f [] = refl
+param-names f (p ∷ ps) = ap (λ l. f (p .name) ∷ l) (param-names f ps)
 
 -- no name is known before the first argument
 nothing-known : (f : ℕ → Text) → Agrees same (mapNames f []) []
@@ -49,18 +48,16 @@ module _ (im : Image) where
 
   pub entering-over : (f : ℕ) (args : List (Expr ℕ)) (vs : List (Value Text)) → Asked f args vs → NonEmpty (proveCall (textOf im) (contractsOf im f) args) →
       (budget : ℕ) → Over (entering same (contractFunction im f) vs [] budget)
-  unfolding contractsOf contractFunction proveCall
+  unfolding contractFunction proveCall
   entering-over f args vs h z budget =
-      let is : List ℕ = numbersIn (functionAt im f .params) in
-      let js : List ℕ = numbersIn (functionAt im f .required) in
-      let ps : List (Param ℕ) = map (paramOf im) is in
+      let ps : List (Param ℕ) = contractsOf im f .params in
       let names : List (Binding ℕ) = bindArguments (textOf im) [] ps args in
-      let cs : List (Check Text) = refinementChecks im ps ++ map (λ i. clauseCheck im (ascii "requires violated") (clauseOf im i)) js in
+      let cs : List (Check Text) = contractFunction im f .entry in
       let fails : Fails same (mapNames (textOf im) names) cs =
-      entry-fails im names (ascii "requires violated") ps args js (paired (textOf im) [] ps args (h .distinct) (h .closed)) (h .clean) z in
+      entry-fails (textOf im) names (ascii "requires violated") ps args (contractsOf im f .requires) (paired (textOf im) [] ps args (h .distinct) (h .closed)) (h .clean) z in
       let goes : Enters (textOf im) names (bindAll (map (λ p. textOf im (p .name)) ps) vs [] budget) =
       enters (textOf im) [] ps args vs (h .distinct) (fresh-none (textOf im) ps) (h .closed) (h .values) [] budget (nothing-known (textOf im)) in
-      subst⁻¹ (λ l. Over (andThen (bindAll l vs [] budget) (λ _. checks same (functionAt im f .result) cs))) (param-names im is)
+      subst⁻¹ (λ l. Over (andThen (bindAll l vs [] budget) (λ _. checks same (functionAt im f .result) cs))) (param-names (textOf im) ps)
       (checked (textOf im) (functionAt im f .result) cs names goes fails)
 
   by-callee : (call : ℕ) (o : Option ℕ) (f : ℕ) → o ≡ some f → NonEmpty (violationsBy im call o) → NonEmpty (proveCall (textOf im) (contractsOf im f) (argumentsOf im call))

@@ -3,17 +3,17 @@ use Prim.Native.Nat.{ℕ, _+_}
 use mathlib.Core.Path.{_≡_, refl, ap, ap₂, _∙_}
 use mathlib.Core.Bool.{Bool, true, false, false≢true}
 use mathlib.Core.List.{List, [], _∷_, _++_, map}
-use mathlib.Core.Option.{Option, none, some}
+use mathlib.Core.Option.{Option, none, some, Option·map}
 use Rattle.rl_spec.specs.declared.Violation.{Violation}
 use Rattle.rl_spec.specs.declared.Violation.the-variants.{Refinement, Requires}
-use Rattle.rl_spec.specs.Image.{Image, textOf}
 use Rattle.rl_spec.specs.Values as value
 use Rattle.rl_spec.specs.Values.{ConstVal, RefineOp, gt, ge, lt, le, eq, ne, compareValues}
 use Rattle.rl_spec.specs.Fold.{Binding, boolean, binaryValue, binaryFolded, lookup, constEval}
 use Rattle.rl_spec.specs.Tree.{Expr, null, literal, identifier, unary, binary, grouping, assign, okLiteral, errLiteral, isErr, resultUnwrap, other}
-use Rattle.rl_spec.specs.Contracts.{RefineOperand, integer, str, bool, param, ParamRefinement, Param, ContractClause, clauseOf}
+use Rattle.rl_spec.specs.Contracts.{RefineOperand, integer, str, bool, param, ParamRefinement, Param, ContractClause}
 use Rattle.rl_spec.specs.Prove.{isNo, isFalse, report, refineBound, refutes, failsAt, failedRefinements, failedRequires}
-use Rattle.rl_spec.specs.Functions.{mapExpr, Text, operatorOf, operandNode, refinementCheck, checkFirst, refinementChecks, clauseCheck}
+use Rattle.rl_spec.specs.Mapped.{Text, mapExpr, mapOperand, mapRefinement, mapParam, mapClause}
+use Rattle.rl_spec.specs.Functions.{operatorOf, operandNode, refinementCheck, checkFirst, refinementChecks, clauseCheck}
 use Rattle.rl_spec.specs.Reading.{Check}
 use Rattle.rl_theorems.specs.Runs.Texts.{same, mapMaybe}
 use Rattle.rl_theorems.specs.Runs.FoldsTexts.{mapNames, lookup-same, binary-folds, const-same}
@@ -97,81 +97,82 @@ mapped-clean f (isErr e) h = mapped-clean f e h
 mapped-clean f (resultUnwrap e) h = mapped-clean f e h
 mapped-clean f other h = tt
 
-module _ (im : Image) (names : List (Binding ℕ)) where
-  operand-folds : (x : RefineOperand ℕ) → constEval same (mapNames (textOf im) names) (operandNode im x) ≡ mapMaybe (textOf im) (refineBound (textOf im) names x)
+-- f gives the bytes of a text
+module _ (f : ℕ → Text) (names : List (Binding ℕ)) where
+  operand-folds : (x : RefineOperand ℕ) → constEval same (mapNames f names) (operandNode (mapOperand f x)) ≡ mapMaybe f (refineBound f names x)
   unfolding constEval refineBound
   operand-folds (integer x) = refl
   operand-folds (str x) = refl
   operand-folds (bool x) = refl
-  operand-folds (param x) = lookup-same (textOf im) names x
+  operand-folds (param x) = lookup-same f f same (λ t. refl) names x
 
-  operand-clean : (x : RefineOperand ℕ) → NoAssign (operandNode im x)
+  operand-clean : (x : RefineOperand ℕ) → NoAssign (operandNode (mapOperand f x))
   operand-clean (integer x) = tt
   operand-clean (str x) = tt
   operand-clean (bool x) = tt
   operand-clean (param x) = tt
 
   -- A REFINEMENT THAT A NAME'S VALUE FAILS IS A CHECK THAT FOLDS TO FALSE
-  pub refinement-folds : (name : ℕ) (r : ParamRefinement ℕ) → refutes (textOf im) (r .op) (lookup (textOf im) names name) (refineBound (textOf im) names (r .operand)) ≡ true →
-      constEval same (mapNames (textOf im) names) (refinementCheck im name r .condition) ≡ some (value.bool false)
+  pub refinement-folds : (name : ℕ) (r : ParamRefinement ℕ) → refutes f (r .op) (lookup f names name) (refineBound f names (r .operand)) ≡ true →
+      constEval same (mapNames f names) (refinementCheck (f name) (mapRefinement f r) .condition) ≡ some (value.bool false)
   unfolding constEval
   refinement-folds name r e =
-      ap₂ (binaryFolded same (operatorOf (r .op))) (lookup-same (textOf im) names name) (operand-folds (r .operand))
-      ∙ (binary-folds (textOf im) (operatorOf (r .op)) (lookup (textOf im) names name) (refineBound (textOf im) names (r .operand))
-      ∙ ap (mapMaybe (textOf im)) (refuted (textOf im) (r .op) (lookup (textOf im) names name) (refineBound (textOf im) names (r .operand)) e))
+      ap₂ (binaryFolded same (operatorOf (r .op))) (lookup-same f f same (λ t. refl) names name) (operand-folds (r .operand))
+      ∙ (binary-folds f f same (λ t. refl) (operatorOf (r .op)) (lookup f names name) (refineBound f names (r .operand))
+      ∙ ap (mapMaybe f) (refuted f (r .op) (lookup f names name) (refineBound f names (r .operand)) e))
 
   first-fails : (name : ℕ) (q : Option (ParamRefinement ℕ)) (a : Expr ℕ) (v : Violation) (vs : List Violation) (rest : List (Check Text)) →
-      ((u : ConstVal ℕ) → constEval (textOf im) names a ≡ some u → lookup (textOf im) names name ≡ some u) →
-      (NonEmpty vs → Fails same (mapNames (textOf im) names) rest) → NonEmpty (report (failsAt (textOf im) names q a) v vs) →
-      Fails same (mapNames (textOf im) names) (checkFirst im name q rest)
+      ((u : ConstVal ℕ) → constEval f names a ≡ some u → lookup f names name ≡ some u) →
+      (NonEmpty vs → Fails same (mapNames f names) rest) → NonEmpty (report (failsAt f names q a) v vs) →
+      Fails same (mapNames f names) (checkFirst (f name) (Option·map (mapRefinement f) q) rest)
   unfolding failsAt
   first-fails name none a v vs rest h back z = back z
   first-fails name (some r) a v vs rest h back z =
-      let bound : Option (ConstVal ℕ) = refineBound (textOf im) names (r .operand) in
-      reported (refutes (textOf im) (r .op) (constEval (textOf im) names a) bound) v vs
-      (λ e. here (refinement-folds name r (ap (λ l. refutes (textOf im) (r .op) l bound) (refuted-is (textOf im) (r .op) (constEval (textOf im) names a) bound (lookup (textOf im) names name) h e) ∙ e)))
-      (λ y. there {c = refinementCheck im name r} (tt, operand-clean (r .operand)) (back y)) z
+      let bound : Option (ConstVal ℕ) = refineBound f names (r .operand) in
+      reported (refutes f (r .op) (constEval f names a) bound) v vs
+      (λ e. here (refinement-folds name r (ap (λ l. refutes f (r .op) l bound) (refuted-is f (r .op) (constEval f names a) bound (lookup f names name) h e) ∙ e)))
+      (λ y. there {c = refinementCheck (f name) (mapRefinement f r)} (tt, operand-clean (r .operand)) (back y)) z
 
-  pub refinements-fail : (n : ℕ) (ps : List (Param ℕ)) (args : List (Expr ℕ)) → Paired (textOf im) names ps args →
-      NonEmpty (failedRefinements (textOf im) names n ps args) → Fails same (mapNames (textOf im) names) (refinementChecks im ps)
+  pub refinements-fail : (n : ℕ) (ps : List (Param ℕ)) (args : List (Expr ℕ)) → Paired f names ps args →
+      NonEmpty (failedRefinements f names n ps args) → Fails same (mapNames f names) (refinementChecks (map (mapParam f) ps))
   unfolding failedRefinements refinementChecks
   refinements-fail n [] args h z = absurd z
   refinements-fail n (p ∷ ps) [] h z = absurd z
   refinements-fail n (p ∷ ps) (a ∷ args) h z =
-      first-fails (p .name) (p .refinement) a (Refinement n) (failedRefinements (textOf im) names (n + 1) ps args) (refinementChecks im ps) (h .0) (refinements-fail (n + 1) ps args (h .1)) z
+      first-fails (p .name) (p .refinement) a (Refinement n) (failedRefinements f names (n + 1) ps args) (refinementChecks (map (mapParam f) ps)) (h .0) (refinements-fail (n + 1) ps args (h .1)) z
 
   -- ---- requires
 
-  pub requires-fail : (d : Text) (n : ℕ) (is : List ℕ) → Clean (map (clauseOf im) is) → NonEmpty (failedRequires (textOf im) names n (map (clauseOf im) is)) →
-      Fails same (mapNames (textOf im) names) (map (λ i. clauseCheck im d (clauseOf im i)) is)
+  pub requires-fail : (d : Text) (n : ℕ) (cs : List (ContractClause ℕ)) → Clean cs → NonEmpty (failedRequires f names n cs) →
+      Fails same (mapNames f names) (map (clauseCheck d) (map (mapClause f) cs))
   unfolding failedRequires
   requires-fail d n [] h z = absurd z
-  requires-fail d n (i ∷ is) h z =
-      reported (isFalse (constEval (textOf im) names (clauseOf im i .condition))) (Requires n) (failedRequires (textOf im) names (n + 1) (map (clauseOf im) is))
-      (λ e. here (const-same (textOf im) names (clauseOf im i .condition) ∙ ap (mapMaybe (textOf im)) (false-value (constEval (textOf im) names (clauseOf im i .condition)) e)))
-      (λ y. there (mapped-clean (textOf im) (clauseOf im i .condition) (h .0)) (requires-fail d (n + 1) is (h .1) y)) z
+  requires-fail d n (c ∷ cs) h z =
+      reported (isFalse (constEval f names (c .condition))) (Requires n) (failedRequires f names (n + 1) cs)
+      (λ e. here (const-same f f same (λ t. refl) names (c .condition) ∙ ap (mapMaybe f) (false-value (constEval f names (c .condition)) e)))
+      (λ y. there (mapped-clean f (c .condition) (h .0)) (requires-fail d (n + 1) cs (h .1) y)) z
 
   -- ---- both
 
-  ahead : {l : List (Check Text)} (k : List (Check Text)) → Fails same (mapNames (textOf im) names) l → Fails same (mapNames (textOf im) names) (l ++ k)
+  ahead : {l : List (Check Text)} (k : List (Check Text)) → Fails same (mapNames f names) l → Fails same (mapNames f names) (l ++ k)
   ahead k (here e) = here e
-  ahead k (there s f) = there s (ahead k f)
+  ahead k (there s z) = there s (ahead k z)
 
-  behind-first : (name : ℕ) (q : Option (ParamRefinement ℕ)) (rest k : List (Check Text)) → Fails same (mapNames (textOf im) names) (rest ++ k) →
-      Fails same (mapNames (textOf im) names) (checkFirst im name q rest ++ k)
-  behind-first name none rest k f = f
-  behind-first name (some r) rest k f = there {c = refinementCheck im name r} (tt, operand-clean (r .operand)) f
+  behind-first : (name : ℕ) (q : Option (ParamRefinement ℕ)) (rest k : List (Check Text)) → Fails same (mapNames f names) (rest ++ k) →
+      Fails same (mapNames f names) (checkFirst (f name) (Option·map (mapRefinement f) q) rest ++ k)
+  behind-first name none rest k z = z
+  behind-first name (some r) rest k z = there {c = refinementCheck (f name) (mapRefinement f r)} (tt, operand-clean (r .operand)) z
 
-  behind-refinements : (ps : List (Param ℕ)) (k : List (Check Text)) → Fails same (mapNames (textOf im) names) k → Fails same (mapNames (textOf im) names) (refinementChecks im ps ++ k)
+  behind-refinements : (ps : List (Param ℕ)) (k : List (Check Text)) → Fails same (mapNames f names) k → Fails same (mapNames f names) (refinementChecks (map (mapParam f) ps) ++ k)
   unfolding refinementChecks
-  behind-refinements [] k f = f
-  behind-refinements (p ∷ ps) k f = behind-first (p .name) (p .refinement) (refinementChecks im ps) k (behind-refinements ps k f)
+  behind-refinements [] k z = z
+  behind-refinements (p ∷ ps) k z = behind-first (p .name) (p .refinement) (refinementChecks (map (mapParam f) ps)) k (behind-refinements ps k z)
 
   -- A REPORT IS AN ENTRY CHECK THAT FAILS
-  pub entry-fails : (d : Text) (ps : List (Param ℕ)) (args : List (Expr ℕ)) (is : List ℕ) → Paired (textOf im) names ps args → Clean (map (clauseOf im) is) →
-      NonEmpty (failedRefinements (textOf im) names 0 ps args ++ failedRequires (textOf im) names 0 (map (clauseOf im) is)) →
-      Fails same (mapNames (textOf im) names) (refinementChecks im ps ++ map (λ i. clauseCheck im d (clauseOf im i)) is)
-  entry-fails d ps args is h c z =
-      either (failedRefinements (textOf im) names 0 ps args) (failedRequires (textOf im) names 0 (map (clauseOf im) is))
-      (λ y. ahead (map (λ i. clauseCheck im d (clauseOf im i)) is) (refinements-fail 0 ps args h y))
-      (λ y. behind-refinements ps (map (λ i. clauseCheck im d (clauseOf im i)) is) (requires-fail d 0 is c y)) z
+  pub entry-fails : (d : Text) (ps : List (Param ℕ)) (args : List (Expr ℕ)) (cs : List (ContractClause ℕ)) → Paired f names ps args → Clean cs →
+      NonEmpty (failedRefinements f names 0 ps args ++ failedRequires f names 0 cs) →
+      Fails same (mapNames f names) (refinementChecks (map (mapParam f) ps) ++ map (clauseCheck d) (map (mapClause f) cs))
+  entry-fails d ps args cs h c z =
+      either (failedRefinements f names 0 ps args) (failedRequires f names 0 cs)
+      (λ y. ahead (map (clauseCheck d) (map (mapClause f) cs)) (refinements-fail 0 ps args h y))
+      (λ y. behind-refinements ps (map (clauseCheck d) (map (mapClause f) cs)) (requires-fail d 0 cs c y)) z

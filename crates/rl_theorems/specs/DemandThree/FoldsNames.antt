@@ -13,7 +13,7 @@ use Rattle.rl_spec.specs.Fold.{Binding, unaryFolded, binaryFolded, lookup, cons
 use Rattle.rl_spec.specs.Tree.{Expr, null, literal, identifier, unary, binary, grouping, assign, okLiteral, errLiteral, isErr, resultUnwrap, other}
 use Rattle.rl_spec.specs.Contracts.{Param}
 use Rattle.rl_spec.specs.Prove.{bound, bindArguments}
-use Rattle.rl_spec.specs.Functions.{mapConst, Text}
+use Rattle.rl_spec.specs.Mapped.{mapConst, Text}
 use Rattle.rl_spec.specs.Run.{Value, named, Env, Outcome, fault, Result, got, ended, Run, andThen, folds, find}
 use Rattle.rl_spec.specs.Reading.{bindAll}
 use Rattle.rl_theorems.specs.Runs.Texts.{same, mapMaybe}
@@ -133,7 +133,7 @@ module _ (f : ℕ → Text) where
       (x : Text) (w : ConstVal Text) (b : Bool) → sameText (f y) x ≡ b → lookup same (mapNames f names) x ≡ some w → cond b (some v) (find same env x) ≡ some (folds w)
   shadowed names env y v fresh g x w true s e =
       let at : lookup same (mapNames f names) (f y) ≡ some w = subst⁻¹ (λ z. lookup same (mapNames f names) z ≡ some w) (same-eq (f y) x s) e in
-      absurd (none≢some (sym (lookup-same f names y ∙ ap (mapMaybe f) fresh) ∙ at))
+      absurd (none≢some (sym (lookup-same f f same (λ t. refl) names y ∙ ap (mapMaybe f) fresh) ∙ at))
   shadowed names env y v fresh g x w false s e = g x w e
 
   chosen : (names : List (Binding ℕ)) (env : Env Text) (u : ConstVal Text) (v : Value Text) → v ≡ folds u → Agrees same (mapNames f names) env →

@@ -37,7 +37,8 @@ use Rattle.rl_spec.specs.Prove.{bindArguments, refineBound, refutes, failsAt, f
 use Rattle.rl_spec.specs.Statement.{statementBy, itemTree}
 use Rattle.rl_spec.specs.Run.{folded, plain, Outcome, returned, find, eval}
 use Rattle.rl_spec.specs.Reading.{checks, stmt, top, reading}
-use Rattle.rl_spec.specs.Functions.{mapExpr, mapBody, refinementChecks, contractFunction, readingIn}
+use Rattle.rl_spec.specs.Mapped.{mapExpr, mapBody}
+use Rattle.rl_spec.specs.Functions.{refinementChecks, contractFunction, readingIn}
 use Rattle.rl_spec.specs.Message.{decimalBy, decimal, messageBy, opening, messageOf}
 use Rattle.rl_spec.specs.Lower.{lowered}
 use Rattle.rl_spec.specs.Lowerer.{made, anyOver, tooTall, orLimit, lowerOf}

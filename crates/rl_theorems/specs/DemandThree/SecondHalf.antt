@@ -19,7 +19,8 @@ use Rattle.rl_spec.specs.Image.{Image, imageOf}
 use Rattle.rl_spec.specs.Tree.{ascii}
 use Rattle.rl_spec.specs.Contracts.{calleeOf, argumentsOf}
 use Rattle.rl_spec.specs.Prove.{violationsBy, violationsOf, reportEntries, callEntries, fitting, proveFrom, proveOf}
-use Rattle.rl_spec.specs.Functions.{Text, contractFunction}
+use Rattle.rl_spec.specs.Mapped.{Text}
+use Rattle.rl_spec.specs.Functions.{contractFunction}
 use Rattle.rl_spec.specs.Run.{Value, Env, got}
 use Rattle.rl_spec.specs.Reading.{entering}
 use Rattle.rl_theorems.specs.DemandThree.FoldsEntry.{NonEmpty}

@@ -14,7 +14,8 @@ use Rattle.rl_spec.specs.Values.{ConstVal}
 use Rattle.rl_spec.specs.Tree.{ascii}
 use Rattle.rl_spec.specs.Contracts.{contractsOf, argumentsOf}
 use Rattle.rl_spec.specs.Prove.{proveOf}
-use Rattle.rl_spec.specs.Functions.{mapConst, mapExpr, refinementChecks, Text, contractFunction}
+use Rattle.rl_spec.specs.Mapped.{mapConst, mapExpr, Text}
+use Rattle.rl_spec.specs.Functions.{refinementChecks, contractFunction}
 use Rattle.rl_spec.specs.Run.{nothing, Value, plain, named, Env, Result, got, folds, find, update, eval}
 use Rattle.rl_spec.specs.Reading.{checks, entering}
 use Rattle.rl_theorems.specs.DemandThree.Folds.{none≢some}

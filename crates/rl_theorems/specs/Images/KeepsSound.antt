@@ -20,7 +20,7 @@ use Rattle.rl_spec.specs.Image.{Field, num, pair, noRecord, Rec, Image, records
 use Rattle.rl_spec.specs.Make.{Context, Make, andThen, withImage, withBytes, append, made, newText, newList, most, mostBytes}
 use Rattle.rl_images.specs.Encoding.Header.{bounded}
 use Rattle.rl_images.specs.Lowering.Grows.{size-grows, appended, withText, textRecords, listRecords, records-own, Growing}
-use Rattle.rl_images.specs.Lowering.GrowsTo.{Later, Good, given, stopped, append-good, text-good, list-good, _⊕_, _▷_, _▹_}
+use Rattle.rl_images.specs.Lowering.GrowsTo.{Later, GrowsTo, given, stopped, append-good, text-good, list-good, _⊕_, _▷_, _▹_}
 use Rattle.rl_theorems.specs.Images.KeptHeights.{Flat, flat-height}
 use Rattle.rl_theorems.specs.Images.ProperTexts.{Proper}
 use Rattle.rl_theorems.specs.Images.SoundImages.{Sound, longer-grows, own, new-height, appended-sound, one-sound, bytes-sound}
@@ -44,31 +44,31 @@ pub _then_ : {a b c : Context} → Onward a b → Onward b c → Onward a c
 _then_ p q = record { was = p .was; later = p .later ⊕ q .later; ready = q .ready }
 
 -- where a sound image is given, what is made is as Q says and the image then is sound
-pub record Sure {A : Type 0} (c : Context) (Q : A → Context → Type 0) (o : Option (A × Context)) : Type 0 where
-  pub good : Ready c → Good c (λ a d. Ready d × Q a d) o
+pub record KeepsSound {A : Type 0} (c : Context) (Q : A → Context → Type 0) (o : Option (A × Context)) : Type 0 where
+  pub good : Ready c → GrowsTo c (λ a d. Ready d × Q a d) o
 
 -- one computation, and then another; and what it gives, said more weakly
 pub _⇝_ : {A B : Type 0} {c : Context} {P : A → Context → Type 0} {Q : B → Context → Type 0} {o : Option (A × Context)} {f : A → Make B} →
-    Sure c P o → ((a : A) (d : Context) → Onward c d → P a d → Sure d Q (f a d)) → Sure c Q (andThen o f)
+    KeepsSound c P o → ((a : A) (d : Context) → Onward c d → P a d → KeepsSound d Q (f a d)) → KeepsSound c Q (andThen o f)
 _⇝_ g k = record { good = λ r. g .good r ▷ λ a d l p. k a d (record { was = r; later = l; ready = p .0 }) (p .1) .good (p .0) }
 
 pub _↠_ : {A : Type 0} {c : Context} {P Q : A → Context → Type 0} {o : Option (A × Context)} →
-    Sure c P o → ((a : A) (d : Context) → Onward c d → P a d → Q a d) → Sure c Q o
+    KeepsSound c P o → ((a : A) (d : Context) → Onward c d → P a d → Q a d) → KeepsSound c Q o
 _↠_ g k = record { good = λ r. g .good r ▹ λ a d l p. (p .0, k a d (record { was = r; later = l; ready = p .0 }) (p .1)) }
 
-pub sure-given : {A : Type 0} {c : Context} {Q : A → Context → Type 0} {a : A} → Q a c → Sure c Q (some (a, c))
+pub sure-given : {A : Type 0} {c : Context} {Q : A → Context → Type 0} {a : A} → Q a c → KeepsSound c Q (some (a, c))
 sure-given q = record { good = λ r. given (r, q) }
 
-pub sure-stopped : {A : Type 0} {c : Context} {Q : A → Context → Type 0} → Sure {A = A} c Q none
+pub sure-stopped : {A : Type 0} {c : Context} {Q : A → Context → Type 0} → KeepsSound {A = A} c Q none
 sure-stopped = record { good = λ r. stopped }
 
 pub sure-test : {A : Type 0} {Q : A → Context → Type 0} (b : Bool) (m n : Make A) (c : Context) →
-    (b ≡ true → Sure c Q (m c)) → (b ≡ false → Sure c Q (n c)) → Sure c Q (cond b m n c)
+    (b ≡ true → KeepsSound c Q (m c)) → (b ≡ false → KeepsSound c Q (n c)) → KeepsSound c Q (cond b m n c)
 sure-test true m n c p q = p refl
 sure-test false m n c p q = q refl
 
 -- the context may be taken to be ready
-pub sure-ready : {A : Type 0} {c : Context} {Q : A → Context → Type 0} {o : Option (A × Context)} → (Ready c → Sure c Q o) → Sure c Q o
+pub sure-ready : {A : Type 0} {c : Context} {Q : A → Context → Type 0} {o : Option (A × Context)} → (Ready c → KeepsSound c Q o) → KeepsSound c Q o
 sure-ready k = record { good = λ r. k r .good r }
 
 -- ---- what is kept on the way
@@ -131,7 +131,7 @@ text-size : (im : Image) (s : List ℕ) → Sound im → sizeOf im Texts < sizeO
 text-size im s sound =
     rw (records-own (withBytes im (im .bytes ++ s)) Texts (recordsOf im Texts ++ textRecords im s) (sound .eight), length-append) (omega arith)
 
-pub text-sure : (s : List ℕ) → Proper s → (c : Context) → Sure c (λ t d. t < sizeOf (d .image) Texts) (newText s c)
+pub text-sure : (s : List ℕ) → Proper s → (c : Context) → KeepsSound c (λ t d. t < sizeOf (d .image) Texts) (newText s c)
 text-sure s p c =
     record {
       good = λ r. text-good s c ▹ λ t d l n. rw (n .at, n .is)
@@ -197,7 +197,7 @@ list-held {im} {o} s ns xs e =
     record { before = 0; fits = (omega arith, (e, q .0)); low = q .1 }
 
 pub list-sure : {o : Section} {h : ℕ} {l r : Target} (m : ℕ) (ns : List ℕ) (c : Context) → length ns % m ≡ 0 → Refs (c .image) o h l r ns →
-    Sure c (λ list d. Held (d .image) o h (Many l r m) list) (newList ns c)
+    KeepsSound c (λ list d. Held (d .image) o h (Many l r m) list) (newList ns c)
 list-sure m ns c e xs =
     record {
       good = λ r. list-good ns c ▹ λ list d l n. rw (n .at, n .is)
@@ -217,7 +217,7 @@ module _ {im : Image} (s : Sound im) (q : Section) (k : Growing q) (r : Rec) whe
   last-low x = rw (new-height s q k r (x .fits)) (omega (arith, x .low))
 
 pub node-sure : {h : ℕ} (kind : ℕ) (fs : List Field) (c : Context) → inSection Expressions kind ≡ true → h < 68 →
-    AllHeld (c .image) Expressions h 0 (fieldsOf kind) fs → Sure c (Node (h + 1)) (append Expressions (made kind fs ∷ []) c)
+    AllHeld (c .image) Expressions h 0 (fieldsOf kind) fs → KeepsSound c (Node (h + 1)) (append Expressions (made kind fs ∷ []) c)
 node-sure {h} kind fs c e l x =
     record {
       good = λ r. append-good Expressions tt _ c ▹ λ n d z a. rw (a .at, a .is) (
@@ -235,7 +235,7 @@ OfStatements t = sameSection Statements (sectionOf t) ≡ true
 
 pub statement-sure : {h : ℕ} (t : Target) (kind : ℕ) (fs : List Field) (c : Context) → OfStatements t → takes t kind ≡ true →
     inSection Statements kind ≡ true → h < 36 → AllHeld (c .image) Statements h 0 (fieldsOf kind) fs →
-    Sure c (λ n d. Ref (d .image) Statements (h + 1) t n) (append Statements (made kind fs ∷ []) c)
+    KeepsSound c (λ n d. Ref (d .image) Statements (h + 1) t n) (append Statements (made kind fs ∷ []) c)
 statement-sure {h} t kind fs c o taken e l x =
     record {
       good = λ r. append-good Statements tt _ c ▹ λ n d z a. rw (a .at, a .is) (

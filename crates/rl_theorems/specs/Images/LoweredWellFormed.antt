@@ -30,7 +30,7 @@ use Rattle.rl_theorems.specs.Images.KeptHeights.{Flat, flat-height, heig
 use Rattle.rl_images.specs.Images.SchemaSorts.{and-left, and-right}
 use Rattle.rl_theorems.specs.Images.SoundImages.{Sound, well-formed-sound, sound-well-formed, all-fit, counts-set, same-order}
 use Rattle.rl_theorems.specs.Images.NewReferences.{Held}
-use Rattle.rl_theorems.specs.Images.KeepsSound.{Ready, Sure, list-sure, _⇝_}
+use Rattle.rl_theorems.specs.Images.KeepsSound.{Ready, KeepsSound, list-sure, _⇝_}
 use Rattle.rl_theorems.specs.Images.NewFields.{fields-set}
 use Rattle.rl_theorems.specs.Images.SoundBodies.{desugar-sure}
 use Rattle.rl_theorems.specs.Images.FunctionReady.{Under, function-kind, start-ready, params-ready, requires-ready, ensures-ready, body-ready}
@@ -41,7 +41,7 @@ abbrev BodyHeld : Field → Context → Type 0
 BodyHeld list d = Held (d .image) Statements 34 (Many Statement Statement 1) list
 
 body-sure : (im : Image) (f : ℕ) → Sound im → Under 64 (heights im Expressions) → Under 32 (heights im Statements) →
-    f < sizeOf im Functions → Sure (start im f) BodyHeld (newBody im f (start im f))
+    f < sizeOf im Functions → KeepsSound (start im f) BodyHeld (newBody im f (start im f))
 unfolding newBody
 body-sure im f s low lower p =
     desugar-sure (paramsIn im f) (bodyIn im f) (requiresIn im f) (ensuresIn im f) (start im f) (params-ready s f low lower p)

@@ -18,6 +18,7 @@ use Rattle.rl_spec.specs.Values.{RefineOp, gt, ge, lt, le, eq, ne}
 use Rattle.rl_spec.specs.Tree.{ascii}
 use Rattle.rl_spec.specs.Words.{bits64}
 use Rattle.rl_spec.specs.Contracts.{RefineOperand, integer, str, bool, param, ParamRefinement}
+use Rattle.rl_spec.specs.Mapped.{mapOperand, mapRefinement}
 use Rattle.rl_spec.specs.Message.{decimalBy, decimal, integerText, refineOpText, operandText, refinementText}
 use Rattle.rl_images.specs.Encoding.AcceptedParts.{take-bytes, drop-bytes}
 use Rattle.rl_images.specs.Encoding.EncodedBytes.{append-bytes}
@@ -110,7 +111,7 @@ OperandReady im (str t) = Proper (textOf im t)
 OperandReady im (bool b) = Unit {0}
 OperandReady im (param t) = Proper (textOf im t)
 
-operand-proper : (im : Image) (x : RefineOperand ℕ) → OperandReady im x → Proper (operandText im x)
+operand-proper : (im : Image) (x : RefineOperand ℕ) → OperandReady im x → Proper (operandText (mapOperand (textOf im) x))
 unfolding ascii
 operand-proper im (integer x) h = integer-proper x
 operand-proper im (str t) h = ascii-proper (ascii "\"") refl with h with ascii-proper (ascii "\"") refl
@@ -119,7 +120,7 @@ operand-proper im (bool false) h = ascii-proper (ascii "false") refl
 operand-proper im (param t) h = h
 
 pub refinement-proper : (im : Image) (name : ℕ) (r : ParamRefinement ℕ) → Proper (textOf im name) → OperandReady im (r .operand) →
-    Proper (refinementText im name (some r))
+    Proper (refinementText (textOf im name) (some (mapRefinement (textOf im) r)))
 unfolding ascii
 refinement-proper im name r p q =
     ascii-proper (ascii "refinement failed: ") refl with p with ascii-proper (ascii " ") refl with op-proper (r .op)

@@ -20,6 +20,7 @@ use Rattle.rl_spec.specs.Values.{RefineOp, gt, ge, lt, le, eq, ne}
 use Rattle.rl_spec.specs.Tree.{ascii, number}
 use Rattle.rl_spec.specs.Words.{bits64}
 use Rattle.rl_spec.specs.Contracts.{RefineOperand, integer, str, bool, param, ParamRefinement, Param, isEmpty}
+use Rattle.rl_spec.specs.Mapped.{mapRefinement}
 use Rattle.rl_spec.specs.Message.{refinementText}
 use Rattle.rl_spec.specs.Make.{Context, _>>=_, give, flatMap}
 use Rattle.rl_spec.specs.Lower.{expr, wrapReturn, tokenOf, operandExpr, refinePredicate, refinementGuard, lastOf, wrapTrailing, transformStatement, ensuredBody, desugarFnContracts}
@@ -27,7 +28,7 @@ use Rattle.rl_images.specs.Lowering.GrowsTo.{Every}
 use Rattle.rl_theorems.specs.Images.ProperTexts.{Proper, OperandReady, refinement-proper, requires-proper}
 use Rattle.rl_images.specs.Images.SchemaSorts.{and-left, and-right}
 use Rattle.rl_theorems.specs.Images.NewReferences.{Ref, ref-there, Refs, noRefs, ref, refs-higher, refs-append, Held, one-ref}
-use Rattle.rl_theorems.specs.Images.KeepsSound.{Sure, sure-given, sure-test, sure-ready, ref-on, refs-on, Node, Line, Lines, node-sure, _then_, _⇝_}
+use Rattle.rl_theorems.specs.Images.KeepsSound.{KeepsSound, sure-given, sure-test, sure-ready, ref-on, refs-on, Node, Line, Lines, node-sure, _then_, _⇝_}
 use Rattle.rl_theorems.specs.Images.NewFields.{nil-held, cons-held, raw-held, byte-held, one-held}
 use Rattle.rl_theorems.specs.Images.SoundGuards.{every-on, ClauseReady, clause-on, clauses-sure, ident-sure, string-sure, guard-sure, wrap-sure}
 use Rattle.rl_theorems.specs.Images.SoundTransforms.{own-field, flat-sure, transform-sure}
@@ -46,7 +47,7 @@ token-fits le = (omega arith, omega arith)
 token-fits eq = (omega arith, omega arith)
 token-fits ne = (omega arith, omega arith)
 
-operand-sure : (im : Image) (x : RefineOperand ℕ) (c : Context) → OperandReady im x → Sure c (Node 1) (operandExpr im x c)
+operand-sure : (im : Image) (x : RefineOperand ℕ) (c : Context) → OperandReady im x → KeepsSound c (Node 1) (operandExpr im x c)
 unfolding expr inSection fieldsOf fieldsIn schema sortOf
 operand-sure im (integer v) c p =
     sure-ready λ r. node-sure {h = 0} 17 (num (c .span) ∷ num (bits64 v) ∷ []) c refl (omega arith)
@@ -58,7 +59,7 @@ operand-sure im (bool b) c p =
 operand-sure im (param t) c p = ident-sure (textOf im t) p c
 
 predicate-sure : (im : Image) (name : ℕ) (r : ParamRefinement ℕ) (c : Context) → Proper (textOf im name) → OperandReady im (r .operand) →
-    Sure c (Node 2) (refinePredicate im name r c)
+    KeepsSound c (Node 2) (refinePredicate im name r c)
 unfolding refinePredicate expr inSection fieldsOf fieldsIn schema sortOf
 predicate-sure im name r c p q =
     operand-sure im (r .operand) c q ⇝ λ right d on x. ident-sure (textOf im name) p d ⇝ λ left e on′ y.
@@ -71,11 +72,11 @@ RefinementReady im name none = Unit {0}
 RefinementReady im name (some r) = Proper (textOf im name) × OperandReady im (r .operand)
 
 refinement-sure : (im : Image) (name : ℕ) (r : Option (ParamRefinement ℕ)) (c : Context) → RefinementReady im name r →
-    Sure c (Lines 3) (refinementGuard im name r c)
+    KeepsSound c (Lines 3) (refinementGuard im name r c)
 refinement-sure im name none c p = sure-given noRefs
 refinement-sure im name (some r) c p =
     predicate-sure im name r c (p .0) (p .1) ⇝ λ pred d on x.
-    string-sure (refinementText im name (some r)) (refinement-proper im name r (p .0) (p .1)) d ⇝ λ msg e on′ y.
+    string-sure (refinementText (textOf im name) (some (mapRefinement (textOf im) r))) (refinement-proper im name r (p .0) (p .1)) d ⇝ λ msg e on′ y.
     guard-sure pred msg e (omega arith) (omega arith) (ref-on on′ x) y ⇝ λ s f on″ z.
     sure-given (ref z noRefs)
 
@@ -84,7 +85,7 @@ ParamsReady im [] = Unit {0}
 ParamsReady im (p ∷ ps) = RefinementReady im (p .name) (p .refinement) × ParamsReady im ps
 
 refinements-sure : (im : Image) (ps : List (Param ℕ)) (c : Context) → ParamsReady im ps →
-    Sure c (Lines 3) (flatMap (λ p. refinementGuard im (p .name) (p .refinement)) ps c)
+    KeepsSound c (Lines 3) (flatMap (λ p. refinementGuard im (p .name) (p .refinement)) ps c)
 unfolding flatMap
 refinements-sure im [] c h = sure-given noRefs
 refinements-sure im (p ∷ ps) c h =
@@ -109,7 +110,7 @@ some-length [] e = absurd (false≢true e)
 some-length (n ∷ ns) e = omega arith
 
 trailing-sure : (ensures : List Clause) (body : List ℕ) (c : Context) → Every ClauseReady c ensures → Lines 34 body c →
-    Sure c (Lines 34) (wrapTrailing ensures body c)
+    KeepsSound c (Lines 34) (wrapTrailing ensures body c)
 unfolding wrapTrailing fieldsOf fieldsIn schema sortOf
 trailing-sure ensures body c es xs =
     let r : Rec = lastOf (c .image) body in
@@ -128,14 +129,14 @@ trailing-sure ensures body c es xs =
 -- ---- the whole body
 
 ensured-sure : (ensures : List Clause) (body : List ℕ) (c : Context) → Every ClauseReady c ensures → Lines 32 body c →
-    Sure c (Lines 34) (ensuredBody ensures body c)
+    KeepsSound c (Lines 34) (ensuredBody ensures body c)
 ensured-sure ensures body c es xs =
     flat-sure ensures (transformStatement ensures) (transform-sure ensures) 32 body c (omega arith) es xs ⇝ λ ss d on ys.
     trailing-sure ensures ss d (every-on clause-on on es) ys
 
 pub desugar-sure : (params : List (Param ℕ)) (body : List ℕ) (requires ensures : List Clause) (c : Context) →
     ParamsReady (c .image) params → Lines 32 body c → Every ClauseReady c requires → Every ClauseReady c ensures →
-    Sure c (Lines 34) (desugarFnContracts params body requires ensures c)
+    KeepsSound c (Lines 34) (desugarFnContracts params body requires ensures c)
 unfolding desugarFnContracts
 desugar-sure params body requires ensures c ps xs rs es =
     let up : 3 ≤ 34 = omega arith in

@@ -22,7 +22,7 @@ use Rattle.rl_spec.specs.Lower.{isNode, cloneEntries, cloneField, cloneFields, 
 use Rattle.rl_images.specs.Images.SchemaSorts.{all-at, and-left, and-right, kind-range}
 use Rattle.rl_theorems.specs.Images.NewReferences.{Ref, ref-there, ref-higher, Refs, noRefs, ref, Held, AllHeld, own-held, own-tall, one-ref, many-refs}
 use Rattle.rl_theorems.specs.Images.NewFields.{allPlain, plain, nil-held, cons-held, one-held}
-use Rattle.rl_theorems.specs.Images.KeepsSound.{Ready, Sure, ref-on, refs-on, held-on, all-on, Node, sure-given, sure-stopped, sure-test, sure-ready, list-sure, node-sure, _⇝_, _↠_}
+use Rattle.rl_theorems.specs.Images.KeepsSound.{Ready, KeepsSound, ref-on, refs-on, held-on, all-on, Node, sure-given, sure-stopped, sure-test, sure-ready, list-sure, node-sure, _⇝_, _↠_}
 
 -- ---- no field of an expression looks at the one before it
 
@@ -48,9 +48,9 @@ many-turns (pair a n) e = e .fits .1 .0
 
 -- ---- the copy, where `clone` copies what stands before it
 
-module _ (h : ℕ) (clone : ℕ → Make ℕ) (copies : (n : ℕ) (c : Context) → Node h n c → Sure c (Node h) (clone n c)) where
+module _ (h : ℕ) (clone : ℕ → Make ℕ) (copies : (n : ℕ) (c : Context) → Node h n c → KeepsSound c (Node h) (clone n c)) where
   entry-sure : (t : Target) (n : ℕ) (c : Context) → Ref (c .image) Expressions h t n →
-      Sure c (λ m d. Ref (d .image) Expressions h t m) (cond (isNode t) (clone n) (give n) c)
+      KeepsSound c (λ m d. Ref (d .image) Expressions h t m) (cond (isNode t) (clone n) (give n) c)
   entry-sure Text n c x = sure-given x
   entry-sure Expression n c x = copies n c x
   entry-sure Statement n c x = sure-given x
@@ -59,7 +59,7 @@ module _ (h : ℕ) (clone : ℕ → Make ℕ) (copies : (n : ℕ) (c : Context) 
   entry-sure Arm n c x = sure-given x
 
   entries-sure : (l r : Target) (ns : List ℕ) (c : Context) → Refs (c .image) Expressions h l r ns →
-      Sure c (λ ms d. Refs (d .image) Expressions h l r ms × (length ms ≡ length ns)) (cloneEntries clone l r ns c)
+      KeepsSound c (λ ms d. Refs (d .image) Expressions h l r ms × (length ms ≡ length ns)) (cloneEntries clone l r ns c)
   unfolding cloneEntries
   entries-sure l r [] c noRefs = sure-given (noRefs, refl)
   entries-sure l r (n ∷ ns) c (ref x xs) =
@@ -67,7 +67,7 @@ module _ (h : ℕ) (clone : ℕ → Make ℕ) (copies : (n : ℕ) (c : Context) 
       sure-given (ref (ref-on on′ y) (ys .0), ap suc (ys .1))
 
   one-sure : (t : Target) (f : Field) (c : Context) → Held (c .image) Expressions h (One t) f →
-      Sure c (λ g d. Held (d .image) Expressions h (One t) g) (cloneField clone (One t) f c)
+      KeepsSound c (λ g d. Held (d .image) Expressions h (One t) g) (cloneField clone (One t) f c)
   one-sure Text f c x = sure-given x
   one-sure Expression f c x = copies (first f) c (one-ref f x) ⇝ λ m d on y. sure-given (one-held y)
   one-sure Statement f c x = sure-given x
@@ -76,7 +76,7 @@ module _ (h : ℕ) (clone : ℕ → Make ℕ) (copies : (n : ℕ) (c : Context) 
   one-sure Arm f c x = sure-given x
 
   many-sure : (l r : Target) (m : ℕ) (f : Field) (c : Context) → Held (c .image) Expressions h (Many l r m) f →
-      Sure c (λ g d. Held (d .image) Expressions h (Many l r m) g) (cloneField clone (Many l r m) f c)
+      KeepsSound c (λ g d. Held (d .image) Expressions h (Many l r m) g) (cloneField clone (Many l r m) f c)
   many-sure l r m f c x =
       sure-test (isNode l || isNode r) (self >>= λ ctx. cloneEntries clone l r (entriesOf (ctx .image) f) >>= newList) (give f) c
       (λ e. entries-sure l r (entriesOf (c .image) f) c (many-refs f x) ⇝ λ ns d on ys.
@@ -84,7 +84,7 @@ module _ (h : ℕ) (clone : ℕ → Make ℕ) (copies : (n : ℕ) (c : Context) 
       (λ e. sure-given x)
 
   field-sure : (s : Sort) (f : Field) (c : Context) → Held (c .image) Expressions h s f →
-      Sure c (λ g d. Held (d .image) Expressions h s g) (cloneField clone s f c)
+      KeepsSound c (λ g d. Held (d .image) Expressions h s g) (cloneField clone s f c)
   field-sure (Raw n) f c x = sure-given x
   field-sure (Byte low high) f c x = sure-given x
   field-sure Scalar f c x = sure-given x
@@ -97,7 +97,7 @@ module _ (h : ℕ) (clone : ℕ → Make ℕ) (copies : (n : ℕ) (c : Context) 
   field-sure Operand f c x = sure-given x
 
   fields-sure : (b : ℕ) (cs : List ℕ) (fs : List Field) (c : Context) → allPlain cs ≡ true → AllHeld (c .image) Expressions h b cs fs →
-      Sure c (λ gs d. (a : ℕ) → AllHeld (d .image) Expressions h a cs gs) (cloneFields clone cs fs c)
+      KeepsSound c (λ gs d. (a : ℕ) → AllHeld (d .image) Expressions h a cs gs) (cloneFields clone cs fs c)
   unfolding cloneFields tallestChild
   fields-sure b [] fs c p x = sure-given (λ a. nil-held)
   fields-sure b (k ∷ cs) [] c p x = absurd (x .fits)
@@ -114,10 +114,10 @@ node-tall : {h : ℕ} (c : Context) (id : ℕ) → Ready c → Node h id c → 1
 node-tall c id r x = omega (arith, own-tall (r .sound) Expressions id (ref-there x), x .low)
 
 abbrev Copies : (ℕ → Make ℕ) → Type 0
-Copies clone = (h n : ℕ) (c : Context) → h ≤ 68 → Node h n c → Sure c (Node h) (clone n c)
+Copies clone = (h n : ℕ) (c : Context) → h ≤ 68 → Node h n c → KeepsSound c (Node h) (clone n c)
 
 record-sure : (clone : ℕ → Make ℕ) → Copies clone → (h id : ℕ) (c : Context) → h ≤ 68 → Node h id c →
-    Sure c (Node h) (cloneRecord clone id (recordOf (c .image) Expressions id) c)
+    KeepsSound c (Node h) (cloneRecord clone id (recordOf (c .image) Expressions id) c)
 record-sure clone copies h id c l x =
     let r : Rec = recordOf (c .image) Expressions id in
     sure-ready λ ready.
@@ -143,6 +143,6 @@ copies-by (suc n) h id c l x =
     record-sure (below id fail (descendBy fail copyStep n))
     (λ g j d m y. sure-test (ltb j id) (descendBy fail copyStep n j) fail d (λ e. copies-by n g j d m y) (λ e. sure-stopped)) h id c l x
 
-pub clone-sure : (h id : ℕ) (c : Context) → h ≤ 68 → Node h id c → Sure c (Node h) (deepCloneExpr id c)
+pub clone-sure : (h id : ℕ) (c : Context) → h ≤ 68 → Node h id c → KeepsSound c (Node h) (deepCloneExpr id c)
 unfolding deepCloneExpr descend
 clone-sure h id c l x = copies-by (suc id) h id c l x

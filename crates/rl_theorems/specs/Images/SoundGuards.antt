@@ -23,7 +23,7 @@ use Rattle.rl_spec.specs.Lower.{expr, ident, strLit, errLit, resCall, unwrapCal
 use Rattle.rl_images.specs.Lowering.GrowsTo.{Every, noMore, more, temp-good, _▹_}
 use Rattle.rl_theorems.specs.Images.ProperTexts.{Proper, std-proper, res-proper, unwrap-proper, is-err-proper, ret-proper, temp-proper, ensures-proper}
 use Rattle.rl_theorems.specs.Images.NewReferences.{Ref, ref-there, ref-higher, Refs, noRefs, ref, refs-append, Held, AllHeld}
-use Rattle.rl_theorems.specs.Images.KeepsSound.{Ready, Onward, Sure, sure-given, sure-test, sure-ready, ref-on, refs-on, held-on, there-on, Node, Line, Lines, text-sure, list-sure, node-sure, statement-sure, _then_, _⇝_, _↠_}
+use Rattle.rl_theorems.specs.Images.KeepsSound.{Ready, Onward, KeepsSound, sure-given, sure-test, sure-ready, ref-on, refs-on, held-on, there-on, Node, Line, Lines, text-sure, list-sure, node-sure, statement-sure, _then_, _⇝_, _↠_}
 use Rattle.rl_theorems.specs.Images.SoundCopies.{clone-sure}
 
 -- ---- one after the other
@@ -35,8 +35,8 @@ module _ {A : Type 0} {P : A → Context → Type 0} (keep : (a : A) (c d : Cont
 
 module _ {A B : Type 0} (P : A → Context → Type 0) (Q : B → Context → Type 0)
     (keepP : (a : A) (c d : Context) → Onward c d → P a c → P a d) (keepQ : (b : B) (c d : Context) → Onward c d → Q b c → Q b d)
-    (f : A → Make B) (step : (a : A) (c : Context) → P a c → Sure c Q (f a c)) where
-  pub each-sure : (l : List A) (c : Context) → Every P c l → Sure c (λ m d. Every Q d m) (each f l c)
+    (f : A → Make B) (step : (a : A) (c : Context) → P a c → KeepsSound c Q (f a c)) where
+  pub each-sure : (l : List A) (c : Context) → Every P c l → KeepsSound c (λ m d. Every Q d m) (each f l c)
   unfolding each
   each-sure [] c noMore = sure-given noMore
   each-sure (a ∷ l) c (more p ps) =
@@ -54,12 +54,12 @@ name-held : (im : Image) (kind span t : ℕ) → fieldsOf kind ≡ fieldsOf 30 �
 unfolding fieldsOf fieldsIn schema sortOf tallestChild
 name-held im kind span t e p q = rw e (record { fits = (p, (record { earlier = q; taken = refl }, tt)); low = omega arith })
 
-pub ident-sure : (s : List ℕ) → Proper s → (c : Context) → Sure c (Node 1) (ident s c)
+pub ident-sure : (s : List ℕ) → Proper s → (c : Context) → KeepsSound c (Node 1) (ident s c)
 unfolding ident expr inSection fieldsOf fieldsIn schema
 ident-sure s p c =
     text-sure s p c ⇝ λ t d on y. sure-ready λ r. node-sure 30 _ d refl (omega arith) (name-held (d .image) 30 (d .span) t refl (r .span) y)
 
-pub string-sure : (s : List ℕ) → Proper s → (c : Context) → Sure c (Node 1) (strLit s c)
+pub string-sure : (s : List ℕ) → Proper s → (c : Context) → KeepsSound c (Node 1) (strLit s c)
 unfolding strLit expr inSection fieldsOf fieldsIn schema
 string-sure s p c =
     text-sure s p c ⇝ λ t d on y. sure-ready λ r. node-sure 25 _ d refl (omega arith) (name-held (d .image) 25 (d .span) t refl (r .span) y)
@@ -84,13 +84,13 @@ call-held c (pair a n) (pair b m) r p q = record { fits = (r .span, (p .fits, (q
 
 -- the texts of a path
 texts-sure : (ss : List (List ℕ)) (c : Context) → Every (λ s d. Proper s) c ss →
-    Sure c (λ ts d. Refs (d .image) Expressions 0 Text Text ts) (each newText ss c)
+    KeepsSound c (λ ts d. Refs (d .image) Expressions 0 Text Text ts) (each newText ss c)
 texts-sure ss c ps =
     each-sure (λ s d. Proper s) (λ t d. Ref (d .image) Expressions 0 Text t) (λ s c d on p. p) (λ t c d on x. ref-on on x) newText
     (λ s c p. text-sure s p c ↠ λ t d on y. record { refers = record { earlier = y; taken = refl }; low = omega arith }) ss c ps
     ↠ λ ts d on xs. every-refs xs
 
-call-sure : {h : ℕ} (name : List ℕ) → Proper name → (x : ℕ) (c : Context) → h < 68 → Node h x c → Sure c (Node (h + 1)) (resCall name x c)
+call-sure : {h : ℕ} (name : List ℕ) → Proper name → (x : ℕ) (c : Context) → h < 68 → Node h x c → KeepsSound c (Node (h + 1)) (resCall name x c)
 unfolding resCall expr inSection
 call-sure name p x c l q =
     texts-sure _ c (more std-proper (more res-proper (more p noMore))) ⇝ λ ts d on xs.
@@ -98,7 +98,7 @@ call-sure name p x c l q =
     list-sure 1 (x ∷ []) e refl (ref (ref-on (on then on′) q) noRefs) ⇝ λ args f on″ z.
     sure-ready λ r. node-sure 41 _ f refl l (call-held f path args r (held-on on″ y) z)
 
-pub unwrap-sure : {h : ℕ} (x : ℕ) (c : Context) → h < 68 → Node h x c → Sure c (Node (h + 1)) (unwrapCall x c)
+pub unwrap-sure : {h : ℕ} (x : ℕ) (c : Context) → h < 68 → Node h x c → KeepsSound c (Node (h + 1)) (unwrapCall x c)
 unwrap-sure x c l q = call-sure (ascii "result_unwrap") unwrap-proper x c l q
 
 -- ---- statements over expressions, and a conditional
@@ -108,11 +108,11 @@ there-held : (kind : ℕ) (c : Context) (n : ℕ) → fieldsOf kind ≡ fieldsOf
 unfolding fieldsOf fieldsIn schema sortOf tallestChild
 there-held kind c n e r p = rw e (record { fits = (r .span, (record { earlier = p; taken = refl }, tt)); low = omega arith })
 
-return-sure : (n : ℕ) (c : Context) → n < sizeOf (c .image) Expressions → Sure c (Line 1) (newStmt 66 (num n ∷ []) c)
+return-sure : (n : ℕ) (c : Context) → n < sizeOf (c .image) Expressions → KeepsSound c (Line 1) (newStmt 66 (num n ∷ []) c)
 unfolding stmt inSection
 return-sure n c p = sure-ready λ r. statement-sure Statement 66 _ c refl refl refl (omega arith) (there-held 66 c n refl r p)
 
-bare-sure : (n : ℕ) (c : Context) → n < sizeOf (c .image) Expressions → Sure c (Line 1) (newStmt 65 (num n ∷ []) c)
+bare-sure : (n : ℕ) (c : Context) → n < sizeOf (c .image) Expressions → KeepsSound c (Line 1) (newStmt 65 (num n ∷ []) c)
 unfolding stmt inSection fieldsOf fieldsIn schema
 bare-sure n c p = sure-ready λ r. statement-sure Statement 65 _ c refl refl refl (omega arith) (there-held 65 c n refl r p)
 
@@ -137,7 +137,7 @@ unfolding fieldsOf fieldsIn schema sortOf tallestChild
 only-held c branch r x = record { fits = (r .span, (x .refers, (inl refl, tt))); low = omega (arith, x .low) }
 
 pub only-if-sure : {h : ℕ} (condition s : ℕ) (c : Context) → h < 34 → condition < sizeOf (c .image) Expressions → Line h s c →
-    Sure c (Line (h + 1 + 1)) (onlyIf condition s c)
+    KeepsSound c (Line (h + 1 + 1)) (onlyIf condition s c)
 unfolding onlyIf stmt inSection
 only-if-sure condition s c l p x =
     list-sure 1 (s ∷ []) c refl (ref x noRefs) ⇝ λ body d on y.
@@ -147,7 +147,7 @@ only-if-sure condition s c l p x =
 
 -- ---- guards
 
-pub violation-sure : {h : ℕ} (msg : ℕ) (c : Context) → h < 67 → Node h msg c → Sure c (Line 1) (violation msg c)
+pub violation-sure : {h : ℕ} (msg : ℕ) (c : Context) → h < 67 → Node h msg c → KeepsSound c (Line 1) (violation msg c)
 unfolding violation errLit expr inSection
 violation-sure {h} msg c l x =
     (sure-ready λ r. node-sure 50 _ c refl (omega arith) (err-held c msg r x)) ⇝ λ err d on y.
@@ -156,7 +156,7 @@ violation-sure {h} msg c l x =
     (λ e. unwrap-sure err d (omega arith) y ⇝ λ abort f on′ z. bare-sure abort f (ref-there z))
 
 pub guard-sure : {h g : ℕ} (pred msg : ℕ) (c : Context) → h < 67 → g < 67 → Node h pred c → Node g msg c →
-    Sure c (Line 3) (guard pred msg c)
+    KeepsSound c (Line 3) (guard pred msg c)
 unfolding guard expr inSection
 guard-sure {h} pred msg c l m x y =
     clone-sure h pred c (omega arith) x ⇝ λ copy d on z.
@@ -173,20 +173,20 @@ pub clause-on : (clause : Clause) (c d : Context) → Onward c d → ClauseReady
 clause-on clause c d on x = record { condition = ref-on on (x .condition); message = λ n. ref-on on (x .message n) }
 
 message-sure : (default : List ℕ) → Proper default → (clause : Clause) (c : Context) → ClauseReady clause c →
-    Sure c (Node 64) (msgExpr clause default c)
+    KeepsSound c (Node 64) (msgExpr clause default c)
 message-sure default p clause c x =
     sure-test (eqb (clause .message) 65535) (strLit default) (give (clause .message)) c
     (λ e. string-sure default p c ↠ λ n d on y. ref-higher (omega arith) y)
     (λ e. sure-given (x .message (eqb-false (clause .message) 65535 e)))
 
 pub clause-sure : (default : List ℕ) → Proper default → (clause : Clause) (c : Context) → ClauseReady clause c →
-    Sure c (Line 3) (clauseGuard default clause c)
+    KeepsSound c (Line 3) (clauseGuard default clause c)
 clause-sure default p clause c x =
     message-sure default p clause c x ⇝ λ msg d on y.
     guard-sure (clause .condition) msg d (omega arith) (omega arith) (ref-on on (x .condition)) y
 
 pub clauses-sure : (default : List ℕ) → Proper default → (clauses : List Clause) (c : Context) → Every ClauseReady c clauses →
-    Sure c (Lines 3) (each (clauseGuard default) clauses c)
+    KeepsSound c (Lines 3) (each (clauseGuard default) clauses c)
 clauses-sure default p clauses c xs =
     each-sure ClauseReady (Line 3) clause-on
     (λ n c d on x. ref-on on x) (clauseGuard default) (clause-sure default p) clauses c xs ↠ λ ns d on ys. every-refs ys
@@ -203,17 +203,17 @@ declare-held c t value r p q =
     }
 
 declare-sure : (name : List ℕ) → Proper name → (value : ℕ) (c : Context) → value < sizeOf (c .image) Expressions →
-    Sure c (Line 1) (declare name value c)
+    KeepsSound c (Line 1) (declare name value c)
 unfolding declare stmt inSection
 declare-sure name p value c q =
     text-sure name p c ⇝ λ t d on y. sure-ready λ r.
     statement-sure Statement 64 _ d refl refl refl (omega arith) (declare-held d t value r y (there-on on Expressions q))
 
-return-of-sure : (temp : List ℕ) → Proper temp → (c : Context) → Sure c (Line 1) (returnOf temp c)
+return-of-sure : (temp : List ℕ) → Proper temp → (c : Context) → KeepsSound c (Line 1) (returnOf temp c)
 unfolding returnOf
 return-of-sure temp p c = ident-sure temp p c ⇝ λ n d on x. return-sure n d (ref-there x)
 
-skip-sure : (temp : List ℕ) → Proper temp → (c : Context) → Sure c (Lines 3) (skipErr temp c)
+skip-sure : (temp : List ℕ) → Proper temp → (c : Context) → KeepsSound c (Lines 3) (skipErr temp c)
 skip-sure temp p c =
     ident-sure temp p c ⇝ λ n d on x.
     call-sure (ascii "is_err") is-err-proper n d (omega arith) x ⇝ λ check e on′ y.
@@ -225,7 +225,7 @@ abbrev There : ℕ → Context → Type 0
 There n c = n < sizeOf (c .image) Expressions
 
 wrap-as-sure : (temp : List ℕ) → Proper temp → (isResult : Bool) (value : ℕ) (ensures : List Clause) (c : Context) → There value c →
-    Every ClauseReady c ensures → Sure c (Lines 3) (wrapAs temp isResult value ensures c)
+    Every ClauseReady c ensures → KeepsSound c (Lines 3) (wrapAs temp isResult value ensures c)
 unfolding wrapAs
 wrap-as-sure temp p isResult value ensures c q xs =
     declare-sure temp p value c q ⇝ λ dec c1 on1 y1.
@@ -245,11 +245,11 @@ wrap-as-sure temp p isResult value ensures c q xs =
     (ref (ref-higher one (ref-on (on6 then on7) y5)) (refs-on on7 y6)))
     (ref (ref-higher one y7) noRefs))
 
-counted-sure : (c : Context) → Sure c (λ n d. d ≡ counted c) (takeTemp c)
+counted-sure : (c : Context) → KeepsSound c (λ n d. d ≡ counted c) (takeTemp c)
 counted-sure c = record { good = λ r. temp-good c ▹ λ n d l p. (rw (p .1) (record { sound = r .sound; span = r .span }), p .1) }
 
 pub wrap-sure : (value : ℕ) (ensures : List Clause) (c : Context) → There value c → Every ClauseReady c ensures →
-    Sure c (Lines 3) (wrapReturn value ensures c)
+    KeepsSound c (Lines 3) (wrapReturn value ensures c)
 unfolding wrapReturn
 wrap-sure value ensures c p xs =
     counted-sure c ⇝ λ n d on e.

@@ -27,7 +27,7 @@ use Rattle.rl_images.specs.Lowering.GrowsTo.{Every, noMore, more}
 use Rattle.rl_images.specs.Images.Heights.{FieldIs}
 use Rattle.rl_theorems.specs.Images.KeptFields.{same-size}
 use Rattle.rl_theorems.specs.Images.NewReferences.{Ref, ref-there, ref-higher, Refs, noRefs, ref, refs-higher, refs-append, Held, held-higher, held-at, AllHeld, own-held, own-tall, raw-below, one-ref, maybe-ref, many-refs}
-use Rattle.rl_theorems.specs.Images.KeepsSound.{Ready, Onward, Sure, sure-given, sure-stopped, sure-test, sure-ready, ref-on, refs-on, held-on, Line, Lines, OfStatements, list-sure, node-sure, statement-sure, _then_, _⇝_, _↠_}
+use Rattle.rl_theorems.specs.Images.KeepsSound.{Ready, Onward, KeepsSound, sure-given, sure-stopped, sure-test, sure-ready, ref-on, refs-on, held-on, Line, Lines, OfStatements, list-sure, node-sure, statement-sure, _then_, _⇝_, _↠_}
 use Rattle.rl_theorems.specs.Images.NewFields.{nil-held, cons-held, raw-held, byte-held, one-held}
 use Rattle.rl_theorems.specs.Images.SoundGuards.{every-on, each-sure, every-refs, ClauseReady, clause-on, wrap-sure}
 
@@ -66,10 +66,10 @@ cond-low false p = p
 
 module _ (ensures : List Clause) where
   abbrev Walks : (ℕ → Make (List ℕ)) → Type 0
-  Walks walk = (h s : ℕ) (c : Context) → h ≤ 32 → Every ClauseReady c ensures → Line h s c → Sure c (Lines (h + 2)) (walk s c)
+  Walks walk = (h s : ℕ) (c : Context) → h ≤ 32 → Every ClauseReady c ensures → Line h s c → KeepsSound c (Lines (h + 2)) (walk s c)
 
   pub flat-sure : (walk : ℕ → Make (List ℕ)) → Walks walk → (h : ℕ) (ns : List ℕ) (c : Context) → h ≤ 32 → Every ClauseReady c ensures →
-      Lines h ns c → Sure c (Lines (h + 2)) (flatMap walk ns c)
+      Lines h ns c → KeepsSound c (Lines (h + 2)) (flatMap walk ns c)
   unfolding flatMap
   flat-sure walk w h [] c l es noRefs = sure-given noRefs
   flat-sure walk w h (n ∷ ns) c l es (ref x xs) =
@@ -79,14 +79,14 @@ module _ (ensures : List Clause) where
   module _ (walk : ℕ → Make (List ℕ)) (w : Walks walk) where
     list-transformed : {h : ℕ} (list : Field) (c : Context) → h ≤ 32 → Every ClauseReady c ensures →
         Held (c .image) Statements h (Many Statement Statement 1) list →
-        Sure c (λ body d. Held (d .image) Statements (h + 2) (Many Statement Statement 1) body) (transformList walk list c)
+        KeepsSound c (λ body d. Held (d .image) Statements (h + 2) (Many Statement Statement 1) body) (transformList walk list c)
     list-transformed {h} list c l es x =
         flat-sure walk w h (entriesOf (c .image) list) c l es (many-refs list x) ⇝ λ ss d on ys. list-sure 1 ss d (omega arith) ys
 
     module _ (h : ℕ) (l : h ≤ 32) where
       branch-by-sure : (t : Target) (s : ℕ) (c : Context) → OfStatements t → takes t 69 ≡ true → Every ClauseReady c ensures →
           Ref (c .image) Statements h t s →
-          Sure c (λ n d. Ref (d .image) Statements (h + 2) t n) (transformBranchBy walk s (recordOf (c .image) Statements s) c)
+          KeepsSound c (λ n d. Ref (d .image) Statements (h + 2) t n) (transformBranchBy walk s (recordOf (c .image) Statements s) c)
       unfolding stmt inSection fieldsOf fieldsIn schema sortOf
       branch-by-sure t s c o k es x =
           let r : Rec = recordOf (c .image) Statements s in
@@ -107,12 +107,12 @@ module _ (ensures : List Clause) where
           (λ e. sure-given (ref-higher (omega arith) x))
 
       branch-sure : (t : Target) (s : ℕ) (c : Context) → OfStatements t → takes t 69 ≡ true → Every ClauseReady c ensures →
-          Ref (c .image) Statements h t s → Sure c (λ n d. Ref (d .image) Statements (h + 2) t n) (transformBranch walk s c)
+          Ref (c .image) Statements h t s → KeepsSound c (λ n d. Ref (d .image) Statements (h + 2) t n) (transformBranch walk s c)
       unfolding transformBranch
       branch-sure t s c o k es x = branch-by-sure t s c o k es x
 
       else-sure : (f : Field) (c : Context) → Every ClauseReady c ensures → Held (c .image) Statements h (Maybe ElseBranch) f →
-          Sure c (λ n d. Held (d .image) Statements (h + 2) (Maybe ElseBranch) (num n)) (transformElse walk (first f) c)
+          KeepsSound c (λ n d. Held (d .image) Statements (h + 2) (Maybe ElseBranch) (num n)) (transformElse walk (first f) c)
       else-sure f c es x =
           sure-test (eqb (first f) 65535) (give (first f)) (transformBranch walk (first f)) c
           (λ e. sure-given (record { before = 0; fits = inl (eqb-true (first f) 65535 e); low = rw e (omega arith) }))
@@ -120,7 +120,7 @@ module _ (ensures : List Clause) where
           record { before = 0; fits = inr (y .refers); low = cond-low (eqb n 65535) (y .low) })
 
       arm-by-sure : (s : ℕ) (c : Context) → Every ClauseReady c ensures → Ref (c .image) Statements h Arm s →
-          Sure c (λ n d. Ref (d .image) Statements (h + 2) Arm n) (transformArmBy walk (recordOf (c .image) Statements s) c)
+          KeepsSound c (λ n d. Ref (d .image) Statements (h + 2) Arm n) (transformArmBy walk (recordOf (c .image) Statements s) c)
       unfolding stmt inSection fieldsOf fieldsIn schema sortOf
       arm-by-sure s c es x =
           let r : Rec = recordOf (c .image) Statements s in
@@ -136,7 +136,7 @@ module _ (ensures : List Clause) where
           ↠ λ n z on′ v. ref-higher top v
 
       arm-sure : (s : ℕ) (c : Context) → Every ClauseReady c ensures → Ref (c .image) Statements h Arm s →
-          Sure c (λ n d. Ref (d .image) Statements (h + 2) Arm n) (transformArm walk s c)
+          KeepsSound c (λ n d. Ref (d .image) Statements (h + 2) Arm n) (transformArm walk s c)
       unfolding transformArm
       arm-sure s c es x = arm-by-sure s c es x
 
@@ -148,7 +148,7 @@ module _ (ensures : List Clause) where
 
       -- what is rebuilt, from its fields
       rebuilt-sure : (k : ℕ) → here .kind ≡ k → (fs : List Field) (d : Context) → Onward c d →
-          AllHeld (d .image) Statements (h - 1 + 2) 0 (fieldsOf k) fs → Sure d (Line (h + 2)) (append Statements (made k fs ∷ []) d)
+          AllHeld (d .image) Statements (h - 1 + 2) 0 (fieldsOf k) fs → KeepsSound d (Line (h + 2)) (append Statements (made k fs ∷ []) d)
       rebuilt-sure k e fs d on y =
           let tall : 1 ≤ h = statement-tall Statement refl (on .was) x in
           let top : h - 1 + 2 + 1 ≤ h + 2 = omega arith in
@@ -158,7 +158,7 @@ module _ (ensures : List Clause) where
       loop-sure : (kept : List Field) (list : Field) → (Ready c → Held (c .image) Statements (h - 1) (Many Statement Statement 1) list) →
           ((body : Field) (d : Context) → Onward c d → Held (d .image) Statements (h - 1 + 2) (Many Statement Statement 1) body →
           AllHeld (d .image) Statements (h - 1 + 2) 0 (fieldsOf (here .kind)) (num (number here 0) ∷ kept ++ body ∷ [])) →
-          Sure c (Line (h + 2)) (loop walk here kept list c)
+          KeepsSound c (Line (h + 2)) (loop walk here kept list c)
       unfolding stmt
       loop-sure kept list p q =
           sure-ready λ ready. list-transformed list c (omega arith) es (p ready) ⇝ λ body d on y.
@@ -174,21 +174,21 @@ module _ (ensures : List Clause) where
             let up : h - 1 ≤ h - 1 + 2 = omega arith in
             held-higher up (held-on on (own-field Statement k j refl (on .was) x e f))
 
-      while-sure : here .kind ≡ 70 → Sure c (Line (h + 2)) (loop walk here (fieldOf here 1 ∷ []) (fieldOf here 2) c)
+      while-sure : here .kind ≡ 70 → KeepsSound c (Line (h + 2)) (loop walk here (fieldOf here 1 ∷ []) (fieldOf here 2) c)
       unfolding fieldsOf fieldsIn schema sortOf
       while-sure e =
           loop-sure (fieldOf here 1 ∷ []) (fieldOf here 2) (λ r. own-field Statement 70 2 refl r x e (omega arith, refl)) λ body d on y. rw e
           (cons-held refl (span-held 70 e on (omega arith, refl))
           (cons-held refl (field-held 70 e on 1 (omega arith, refl)) (cons-held refl y nil-held)))
 
-      forever-sure : here .kind ≡ 71 → Sure c (Line (h + 2)) (loop walk here [] (fieldOf here 1) c)
+      forever-sure : here .kind ≡ 71 → KeepsSound c (Line (h + 2)) (loop walk here [] (fieldOf here 1) c)
       unfolding fieldsOf fieldsIn schema sortOf
       forever-sure e =
           loop-sure [] (fieldOf here 1) (λ r. own-field Statement 71 1 refl r x e (omega arith, refl)) λ body d on y. rw e
           (cons-held refl (span-held 71 e on (omega arith, refl)) (cons-held refl y nil-held))
 
       for-sure : here .kind ≡ 72 →
-          Sure c (Line (h + 2)) (loop walk here (fieldOf here 1 ∷ fieldOf here 2 ∷ fieldOf here 3 ∷ []) (fieldOf here 4) c)
+          KeepsSound c (Line (h + 2)) (loop walk here (fieldOf here 1 ∷ fieldOf here 2 ∷ fieldOf here 3 ∷ []) (fieldOf here 4) c)
       unfolding fieldsOf fieldsIn schema sortOf
       for-sure e =
           loop-sure (fieldOf here 1 ∷ fieldOf here 2 ∷ fieldOf here 3 ∷ []) (fieldOf here 4)
@@ -197,7 +197,7 @@ module _ (ensures : List Clause) where
           (cons-held refl (field-held 72 e on 2 (omega arith, refl))
           (cons-held refl (field-held 72 e on 3 (omega arith, refl)) (cons-held refl y nil-held)))))
 
-      for-range-sure : here .kind ≡ 73 → Sure c (Line (h + 2)) (loop walk here (fieldOf here 1 ∷ fieldOf here 2 ∷ []) (fieldOf here 3) c)
+      for-range-sure : here .kind ≡ 73 → KeepsSound c (Line (h + 2)) (loop walk here (fieldOf here 1 ∷ fieldOf here 2 ∷ []) (fieldOf here 3) c)
       unfolding fieldsOf fieldsIn schema sortOf
       for-range-sure e =
           loop-sure (fieldOf here 1 ∷ fieldOf here 2 ∷ []) (fieldOf here 3)
@@ -205,7 +205,7 @@ module _ (ensures : List Clause) where
           (cons-held refl (span-held 73 e on (omega arith, refl)) (cons-held refl (field-held 73 e on 1 (omega arith, refl))
           (cons-held refl (field-held 73 e on 2 (omega arith, refl)) (cons-held refl y nil-held))))
 
-      for-each-sure : here .kind ≡ 74 → Sure c (Line (h + 2)) (loop walk here (fieldOf here 1 ∷ fieldOf here 2 ∷ []) (fieldOf here 3) c)
+      for-each-sure : here .kind ≡ 74 → KeepsSound c (Line (h + 2)) (loop walk here (fieldOf here 1 ∷ fieldOf here 2 ∷ []) (fieldOf here 3) c)
       unfolding fieldsOf fieldsIn schema sortOf
       for-each-sure e =
           loop-sure (fieldOf here 1 ∷ fieldOf here 2 ∷ []) (fieldOf here 3)
@@ -213,7 +213,7 @@ module _ (ensures : List Clause) where
           (cons-held refl (span-held 74 e on (omega arith, refl)) (cons-held refl (field-held 74 e on 1 (omega arith, refl))
           (cons-held refl (field-held 74 e on 2 (omega arith, refl)) (cons-held refl y nil-held))))
 
-      match-sure : here .kind ≡ 75 → Sure c (Line (h + 2)) (match walk here c)
+      match-sure : here .kind ≡ 75 → KeepsSound c (Line (h + 2)) (match walk here c)
       unfolding stmt fieldsOf fieldsIn schema sortOf
       match-sure e =
           sure-ready λ r.
@@ -229,7 +229,7 @@ module _ (ensures : List Clause) where
           (cons-held refl (span-held 75 e (on then on′) (omega arith, refl))
           (cons-held refl (field-held 75 e (on then on′) 1 (omega arith, refl)) (cons-held refl y nil-held)))
 
-      conditional-sure : here .kind ≡ 68 → Sure c (Line (h + 2)) (conditional walk here c)
+      conditional-sure : here .kind ≡ 68 → KeepsSound c (Line (h + 2)) (conditional walk here c)
       unfolding stmt fieldsOf fieldsIn schema sortOf
       conditional-sure e =
           sure-ready λ r.
@@ -246,28 +246,28 @@ module _ (ensures : List Clause) where
       pub lines-up : {ns : List ℕ} (d : Context) → Ready c → Lines 3 ns d → Lines (h + 2) ns d
       lines-up d r ys = let tall : 1 ≤ h = statement-tall Statement refl r x in refs-higher (omega arith) ys
 
-      return-sure : here .kind ≡ 66 → Sure c (Lines (h + 2)) (wrapReturn (number here 1) ensures c)
+      return-sure : here .kind ≡ 66 → KeepsSound c (Lines (h + 2)) (wrapReturn (number here 1) ensures c)
       unfolding fieldsOf fieldsIn schema sortOf
       return-sure e =
           sure-ready λ r.
           wrap-sure (number here 1) ensures c (ref-there (one-ref (fieldOf here 1) (own-field Statement 66 1 refl r x e (omega arith, refl)))) es
           ↠ λ ns d on ys. lines-up d r ys
 
-      alone-sure : Sure c (Lines (h + 2)) ((expr 16 [] >>= λ null. wrapReturn null ensures) c)
+      alone-sure : KeepsSound c (Lines (h + 2)) ((expr 16 [] >>= λ null. wrapReturn null ensures) c)
       unfolding expr inSection fieldsOf fieldsIn schema sortOf
       alone-sure =
           sure-ready λ r. node-sure {h = 0} 16 (num (c .span) ∷ []) c refl (omega arith)
           (cons-held refl (raw-held (r .span)) nil-held) ⇝ λ null d on y.
           wrap-sure null ensures d (ref-there y) (every-on clause-on on es) ↠ λ ns f on′ ys. lines-up f r ys
 
-      only-sure : {o : Option (ℕ × Context)} → Sure c (Line (h + 2)) o → Sure c (Lines (h + 2)) (andThen o (λ n. give (n ∷ [])))
+      only-sure : {o : Option (ℕ × Context)} → KeepsSound c (Line (h + 2)) o → KeepsSound c (Lines (h + 2)) (andThen o (λ n. give (n ∷ [])))
       only-sure g = g ⇝ λ n d on y. sure-given (ref y noRefs)
 
-      by-kind : (k : ℕ) (m n : Make (List ℕ)) → (here .kind ≡ k → Sure c (Lines (h + 2)) (m c)) → Sure c (Lines (h + 2)) (n c) →
-          Sure c (Lines (h + 2)) (cond (eqb (here .kind) k) m n c)
+      by-kind : (k : ℕ) (m n : Make (List ℕ)) → (here .kind ≡ k → KeepsSound c (Lines (h + 2)) (m c)) → KeepsSound c (Lines (h + 2)) (n c) →
+          KeepsSound c (Lines (h + 2)) (cond (eqb (here .kind) k) m n c)
       by-kind k m n p q = sure-test (eqb (here .kind) k) m n c (λ e. p (eqb-true (here .kind) k e)) (λ e. q)
 
-      statement-by : Sure c (Lines (h + 2)) (transformStatementBy walk ensures s here c)
+      statement-by : KeepsSound c (Lines (h + 2)) (transformStatementBy walk ensures s here c)
       statement-by =
           by-kind 66 _ _ return-sure
           (by-kind 67 _ _ (λ e. alone-sure)

@@ -16,13 +16,13 @@ use Rattle.rl_spec.specs.Schema.{schema, sortOf, fieldsIn, fieldsOf}
 use Rattle.rl_spec.specs.Image.{Field, num, Rec, Image, sizeOf, recordOf, first}
 use Rattle.rl_spec.specs.Values.{ConstVal, str}
 use Rattle.rl_spec.specs.Tree.{Expr, null, literal, identifier, unary, binary, grouping, assign, okLiteral, errLiteral, below}
-use Rattle.rl_spec.specs.Functions.{Text}
+use Rattle.rl_spec.specs.Mapped.{Text}
 use Rattle.rl_spec.specs.Make.{Context, Make, _>>=_, give, fail, self, append, made, newList, entriesOf}
 use Rattle.rl_spec.specs.Lower.{isNode, cloneEntries, cloneField, cloneFields, isLambda, cloneRecord, deepCloneExpr}
 use Rattle.rl_laws.specs.Descend.{descend-is}
 use Rattle.rl_images.specs.Images.SchemaSorts.{and-left, and-right}
 use Rattle.rl_images.specs.Lowering.Grows.{Grows, grows-same, size-grows}
-use Rattle.rl_images.specs.Lowering.GrowsTo.{Good, _▷_, _▹_, given, stopped, test}
+use Rattle.rl_images.specs.Lowering.GrowsTo.{GrowsTo, _▷_, _▹_, given, stopped, test}
 use Rattle.rl_images.specs.Lowering.NewRecords.{At, record-ok}
 use Rattle.rl_theorems.specs.Trees.Denotes.{Says, AllSay, Holds, Plain, anInteger, anSInt, aUInt, aBool, aFloat, anSFloat, callTree, IsExpr, stands, Reads, aNull, aLiteral, aString, anIdentifier, aBinary, aUnary, aGrouping, anAssign, aCall, anOk, anErr, anOther, Args, noArgs, anArg, keep, keep-says, keep-all, keep-holds, keep-args, keep-reads}
 use Rattle.rl_theorems.specs.Lowering.MadeTrees.{Turned, list-ok}
@@ -114,7 +114,7 @@ abbrev pub Copied : Context → ℕ → ℕ → Context → Type 0
 Copied = Turned (λ e. e)
 
 abbrev pub Clones : (ℕ → Make ℕ) → Type 0
-Clones clone = (n : ℕ) (ctx : Context) → Good ctx (Copied ctx n) (clone n ctx)
+Clones clone = (n : ℕ) (ctx : Context) → GrowsTo ctx (Copied ctx n) (clone n ctx)
 
 abbrev ArgsTo : Image → List ℕ → Image → List ℕ → Type 0
 ArgsTo im ns im′ ms = (i : ℕ) (es : List (Expr Text)) → Args im i ns es → Args im′ (sizeOf im′ Expressions) ms es
@@ -134,24 +134,24 @@ all-kept p q = record { node = λ t. absurd (false≢true (sym p ∙ t)); list =
 
 module _ (clone : ℕ → Make ℕ) (clones : Clones clone) where
   entries-ok : (l r : Target) (ns : List ℕ) (ctx : Context) →
-      Good ctx (λ ms c. isNode l ≡ true → isNode r ≡ true → ArgsTo (ctx .image) ns (c .image) ms) (cloneEntries clone l r ns ctx)
+      GrowsTo ctx (λ ms c. isNode l ≡ true → isNode r ≡ true → ArgsTo (ctx .image) ns (c .image) ms) (cloneEntries clone l r ns ctx)
   unfolding cloneEntries
   entries-ok l r [] ctx = given λ p q. no-args (ctx .image) (ctx .image)
   entries-ok l r (n ∷ ns) ctx =
       first-ok ▷ λ m c₁ k₁ h₁. entries-ok r l ns c₁ ▷ λ ms c₂ k₂ h₂.
       given λ p q. more-args (λ e x. keep (k₂ .image) (h₁ p e x)) (args-shift (k₁ .image) (h₂ q p))
     where
-      first-ok : Good ctx (λ m c. isNode l ≡ true → Copied ctx n m c) (cond (isNode l) (clone n) (give n) ctx)
+      first-ok : GrowsTo ctx (λ m c. isNode l ≡ true → Copied ctx n m c) (cond (isNode l) (clone n) (give n) ctx)
       first-ok = test (isNode l) (clone n) (give n) ctx (λ q. clones n ctx ▹ λ m c k h p. h) (λ q. given λ p. absurd (false≢true (sym q ∙ p)))
 
   list-copied : (l r : Target) (f : Field) (ctx : Context) →
-      Good ctx (λ g c. isNode l ≡ true → isNode r ≡ true → ListCopy (ctx .image) (c .image) f g)
+      GrowsTo ctx (λ g c. isNode l ≡ true → isNode r ≡ true → ListCopy (ctx .image) (c .image) f g)
       ((cloneEntries clone l r (entriesOf (ctx .image) f) >>= newList) ctx)
   list-copied l r f ctx =
       entries-ok l r (entriesOf (ctx .image) f) ctx ▷ λ ms c₁ k₁ h₁. list-ok ms c₁ ▹ λ g c₂ k₂ h₂.
       λ p q i ns es x y. (ms, h₂, keep-args (k₂ .image) (wider (k₂ .image)) (h₁ p q i es (rw (x .is) y)))
 
-  field-ok : (o : Sort) (f : Field) (ctx : Context) → Good ctx (λ g c. CopyOf (ctx .image) (c .image) o f g) (cloneField clone o f ctx)
+  field-ok : (o : Sort) (f : Field) (ctx : Context) → GrowsTo ctx (λ g c. CopyOf (ctx .image) (c .image) o f g) (cloneField clone o f ctx)
   field-ok (Raw n) f ctx = given (all-kept refl refl)
   field-ok (Byte low high) f ctx = given (all-kept refl refl)
   field-ok Scalar f ctx = given (all-kept refl refl)
@@ -182,7 +182,7 @@ module _ (clone : ℕ → Make ℕ) (clones : Clones clone) where
   field-ok Operand f ctx = given (all-kept refl refl)
 
   fields-ok : (cs : List ℕ) (fs : List Field) (ctx : Context) →
-      Good ctx (λ gs c. Copies (ctx .image) (c .image) (map sortOf cs) fs gs) (cloneFields clone cs fs ctx)
+      GrowsTo ctx (λ gs c. Copies (ctx .image) (c .image) (map sortOf cs) fs gs) (cloneFields clone cs fs ctx)
   unfolding cloneFields
   fields-ok [] fs ctx = given noSorts
   fields-ok (c ∷ cs) [] ctx = given noMore
@@ -309,7 +309,7 @@ record-copy {im} {i = i} {r = r} {gs = gs} {e = e} q g l c s at (stands k fs h d
     stands {e = e} (r .kind) gs at (rw s (keep-reads l (reads-copy g d′ c)))
 
 step-ok : (i : ℕ) (clone : ℕ → Make ℕ) → Clones clone → (ctx : Context) →
-    Good ctx (Copied ctx i) (cloneRecord clone i (recordOf (ctx .image) Expressions i) ctx)
+    GrowsTo ctx (Copied ctx i) (cloneRecord clone i (recordOf (ctx .image) Expressions i) ctx)
 step-ok i clone clones ctx =
     test (isLambda (r .kind)) (give i) _ ctx
     (λ q. given λ e h. h)
@@ -320,11 +320,11 @@ step-ok i clone clones ctx =
     r : Rec
     r = recordOf (ctx .image) Expressions i
 
-clones-below : (i : ℕ) → ((n : ℕ) → n < i → (ctx : Context) → Good ctx (Copied ctx n) (deepCloneExpr n ctx)) →
+clones-below : (i : ℕ) → ((n : ℕ) → n < i → (ctx : Context) → GrowsTo ctx (Copied ctx n) (deepCloneExpr n ctx)) →
     Clones (below i fail deepCloneExpr)
 clones-below i h n ctx = test (ltb n i) (deepCloneExpr n) fail ctx (λ q. h n (ltb-true n i q) ctx) (λ q. stopped)
 
-copy-under : (b i : ℕ) → i < b → (ctx : Context) → Good ctx (Copied ctx i) (deepCloneExpr i ctx)
+copy-under : (b i : ℕ) → i < b → (ctx : Context) → GrowsTo ctx (Copied ctx i) (deepCloneExpr i ctx)
 unfolding deepCloneExpr
 copy-under zero i l ctx = absurd (omega arith)
 copy-under (suc b) i l ctx = rw (descend-is fail cloneStep i)

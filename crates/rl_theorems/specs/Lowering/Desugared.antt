@@ -4,7 +4,7 @@ use Prim.Native.Nat.{ℕ, suc, _-_, _^_, _%_}
 use mathlib.Core.Path.{_≡_, refl, ap, subst}
 use mathlib.Core.Bool.{Bool, true, false, cond}
 use mathlib.Core.List.{List, [], _∷_, _++_, map}
-use mathlib.Core.Option.{Option, none, some}
+use mathlib.Core.Option.{Option, none, some, Option·map}
 use native.Mathlib.Omega.{arith}
 use lib.Dec.{eqb}
 use lib.IntN.{negsuc}
@@ -26,7 +26,8 @@ use Rattle.rl_spec.specs.Words.{bits64}
 use Rattle.rl_spec.specs.Records.{refineOp, paramAt}
 use Rattle.rl_spec.specs.Contracts.{RefineOperand, integer, str, bool, param, ParamRefinement, refinementOf, paramOf, isEmpty}
 use Rattle.rl_spec.specs.Message.{refinementText}
-use Rattle.rl_spec.specs.Functions.{Text, operatorOf, operandNode, refinementCheck, checkFirst, refinementChecks}
+use Rattle.rl_spec.specs.Mapped.{Text, mapOperand, mapRefinement, mapParam}
+use Rattle.rl_spec.specs.Functions.{operatorOf, operandNode, refinementCheck, checkFirst, refinementChecks}
 use Rattle.rl_spec.specs.Reading.{Check}
 use Rattle.rl_spec.specs.Make.{Context, give, flatMap}
 use Rattle.rl_spec.specs.Lower.{tokenOf, operandExpr, refinePredicate, refinementGuard, ensuredBody, desugarFnContracts}
@@ -34,7 +35,7 @@ use Rattle.rl_theorems.specs.Lowering.LowerTrees as tree
 use Rattle.rl_theorems.specs.Lowering.LowerTrees.{_⧺_}
 use Rattle.rl_theorems.specs.Lowering.LoweredTo.{EnsuredTo, asIs}
 use Rattle.rl_theorems.specs.Lowering.LowerBodies.{Ensured}
-use Rattle.rl_images.specs.Lowering.GrowsTo.{_⊕_, Good, _▷_, _▹_, given}
+use Rattle.rl_images.specs.Lowering.GrowsTo.{_⊕_, GrowsTo, _▷_, _▹_, given}
 use Rattle.rl_theorems.specs.Trees.Denotes.{IsExpr, aLiteral, anInteger, aBool, aBinary, noRows, keep}
 use Rattle.rl_theorems.specs.Lowering.MadeTrees.{expr-ok}
 use Rattle.rl_theorems.specs.Lowering.Copied.{inside-of}
@@ -70,7 +71,7 @@ token-is ne = refl
 
 module _ (im : Image) where
   operand-ok : (o : RefineOperand ℕ) → Ranged o → (ctx : Context) →
-      Good ctx (λ n c. IsExpr (c .image) n (operandNode im o)) (operandExpr im o ctx)
+      GrowsTo ctx (λ n c. IsExpr (c .image) n (operandNode (mapOperand (textOf im) o))) (operandExpr im o ctx)
   operand-ok (integer v) h ctx =
       expr-ok 17 (num (bits64 v) ∷ []) ctx ▹ λ n c k f.
       subst (λ v. IsExpr (c .image) n (literal (some (value.int v)))) h (f _ (aLiteral anInteger))
@@ -81,13 +82,13 @@ module _ (im : Image) where
   operand-ok (param t) h ctx = ident-ok (textOf im t) ctx
 
   predicate-ok : (name : ℕ) (p : ParamRefinement ℕ) → Ranged (p .operand) → (ctx : Context) →
-      Good ctx (λ n c. IsExpr (c .image) n (refinementCheck im name p .condition)) (refinePredicate im name p ctx)
+      GrowsTo ctx (λ n c. IsExpr (c .image) n (refinementCheck (textOf im name) (mapRefinement (textOf im) p) .condition)) (refinePredicate im name p ctx)
   unfolding refinePredicate
   predicate-ok name p h ctx =
       operand-ok (p .operand) h ctx ▷ λ right c₁ k₁ h₁. ident-ok (textOf im name) c₁ ▷ λ left c₂ k₂ h₂.
       expr-ok 32 (num left ∷ num (tokenOf (p .op)) ∷ num right ∷ []) c₂ ▹ λ n c₃ k₃ f.
       let r = keep (k₂ .image) h₁ in
-      subst (λ op. IsExpr (c₃ .image) n (binary (identifier (textOf im name)) op (operandNode im (p .operand)))) (token-is (p .op))
+      subst (λ op. IsExpr (c₃ .image) n (binary (identifier (textOf im name)) op (operandNode (mapOperand (textOf im) (p .operand))))) (token-is (p .op))
       (f _ (aBinary refl (inside-of h₂) (inside-of r) h₂ r))
 
   abbrev RangedOption : Option (ParamRefinement ℕ) → Type 0
@@ -95,13 +96,13 @@ module _ (im : Image) where
   RangedOption (some p) = Ranged (p .operand)
 
   refinement-ok : (name : ℕ) (o : Option (ParamRefinement ℕ)) → RangedOption o → (ctx : Context) →
-      Good ctx (λ ns c. Lines (c .image) ns (tree.guards (ctx .isResult) (checkFirst im name o []) nil)) (refinementGuard im name o ctx)
+      GrowsTo ctx (λ ns c. Lines (c .image) ns (tree.guards (ctx .isResult) (checkFirst (textOf im name) (Option·map (mapRefinement (textOf im)) o) []) nil)) (refinementGuard im name o ctx)
   unfolding tree.guards
   refinement-ok name none h ctx = given noRows
   refinement-ok name (some p) h ctx =
-      predicate-ok name p h ctx ▷ λ pred c₁ k₁ h₁. string-ok (refinementText im name (some p)) c₁ ▷ λ msg c₂ k₂ h₂.
+      predicate-ok name p h ctx ▷ λ pred c₁ k₁ h₁. string-ok (refinementText (textOf im name) (some (mapRefinement (textOf im) p))) c₁ ▷ λ msg c₂ k₂ h₂.
       guard-ok pred msg c₂ ▷ λ s c₃ k₃ h₃.
-      given (a-line (rw ((k₁ ⊕ k₂) .isResult) at (h₃ (refinementCheck im name p) (keep (k₂ .image) h₁) h₂)) noRows)
+      given (a-line (rw ((k₁ ⊕ k₂) .isResult) at (h₃ (refinementCheck (textOf im name) (mapRefinement (textOf im) p)) (keep (k₂ .image) h₁) h₂)) noRows)
 
   by-sort : (op : operator.RefineOp) (x t : ℕ) (u : Bool) (absent a b c : Bool) →
       RangedOption (refinementOf (cond absent Unrefined (Refined op (cond a (Integer (signed 64 x)) (cond b (Str t) (cond c (Truth u) (Named t)))))))
@@ -119,14 +120,14 @@ module _ (im : Image) where
       (eqb (number r 3) 1) (eqb (number r 3) 2) (eqb (number r 3) 3)
 
   guards-first : (r : Bool) (name : ℕ) (o : Option (ParamRefinement ℕ)) (rest : List (Check Text)) →
-      tree.guards r (checkFirst im name o []) nil ⧺ tree.guards r rest nil ≡ tree.guards r (checkFirst im name o rest) nil
+      tree.guards r (checkFirst (textOf im name) (Option·map (mapRefinement (textOf im)) o) []) nil ⧺ tree.guards r rest nil ≡ tree.guards r (checkFirst (textOf im name) (Option·map (mapRefinement (textOf im)) o) rest) nil
   unfolding tree.guards _⧺_
   guards-first r name none rest = refl
   guards-first r name (some p) rest = refl
 
   -- the guards of the refinements
   refined-ok : (is : List ℕ) (ctx : Context) →
-      Good ctx (λ ns c. Lines (c .image) ns (tree.guards (ctx .isResult) (refinementChecks im (map (paramOf im) is)) nil))
+      GrowsTo ctx (λ ns c. Lines (c .image) ns (tree.guards (ctx .isResult) (refinementChecks (map (mapParam (textOf im)) (map (paramOf im) is))) nil))
       (flatMap (λ p. refinementGuard im (p .name) (p .refinement)) (map (paramOf im) is) ctx)
   unfolding flatMap refinementChecks tree.guards
   refined-ok [] ctx = given noRows
@@ -134,7 +135,7 @@ module _ (im : Image) where
       let p = paramOf im i in
       refinement-ok (p .name) (p .refinement) (ranged i) ctx ▷ λ ns c₁ k₁ h₁. refined-ok is c₁ ▷ λ ms c₂ k₂ h₂.
       given (subst (Lines (c₂ .image) (ns ++ ms))
-      (guards-first (ctx .isResult) (p .name) (p .refinement) (refinementChecks im (map (paramOf im) is)))
+      (guards-first (ctx .isResult) (p .name) (p .refinement) (refinementChecks (map (mapParam (textOf im)) (map (paramOf im) is))))
       (both-lines (keep-lines (k₂ .image) h₁) (rw (k₁ .isResult) at h₂)))
 
 -- ---- the whole body
@@ -148,7 +149,7 @@ guards-both r (k ∷ xs) ys b = ap (λ x. tree.guard r k ▸ x) (guards-both r x
 -- what comes behind the guards
 rest-ok : (ctx : Context) {ns : List ℕ} {b : Body Text} {ensures : List Clause} {es : List (Check Text)} →
     Checks (ctx .image) (ascii "ensures violated") ensures es → Lines (ctx .image) ns b → Ensured es b →
-    Good ctx (λ ms c. (rest : Body Text) × Lines (c .image) ms rest × EnsuredTo (ctx .isResult) es b rest)
+    GrowsTo ctx (λ ms c. (rest : Body Text) × Lines (c .image) ms rest × EnsuredTo (ctx .isResult) es b rest)
     (cond (isEmpty ensures) (give ns) (ensuredBody ensures ns) ctx)
 rest-ok ctx {b = b} noChecks h o = given (b, h, asIs refl)
 rest-ok ctx {ns} {b} (aCheck {c = c} {cs = cs} {k = k} {ks = ks} x m xs) h o =
@@ -158,8 +159,8 @@ rest-ok ctx {ns} {b} (aCheck {c = c} {cs = cs} {k = k} {ks = ks} x m xs) h o =
 pub desugared-ok : (is ns : List ℕ) (requires ensures : List Clause) (ctx : Context) (rs es : List (Check Text)) (b : Body Text) →
     Checks (ctx .image) (ascii "requires violated") requires rs → Checks (ctx .image) (ascii "ensures violated") ensures es →
     Lines (ctx .image) ns b → Ensured es b →
-    Good ctx (λ ms c. (rest : Body Text)
-    × Lines (c .image) ms (tree.guards (ctx .isResult) (refinementChecks (ctx .image) (map (paramOf (ctx .image)) is) ++ rs) rest)
+    GrowsTo ctx (λ ms c. (rest : Body Text)
+    × Lines (c .image) ms (tree.guards (ctx .isResult) (refinementChecks (map (mapParam (textOf (ctx .image))) (map (paramOf (ctx .image)) is)) ++ rs) rest)
     × EnsuredTo (ctx .isResult) es b rest)
     (desugarFnContracts (map (paramOf (ctx .image)) is) ns requires ensures ctx)
 unfolding desugarFnContracts
@@ -170,7 +171,7 @@ desugared-ok is ns requires ensures ctx rs es b p q x o =
     let required′ = rw (k₁ .isResult) at (h₂ rs (keep-checks (k₁ .image) p)) in
     given (
       h₃ .0,
-      subst (Lines (c₃ .image) _) (guards-both (ctx .isResult) (refinementChecks (ctx .image) (map (paramOf (ctx .image)) is)) rs (h₃ .0))
+      subst (Lines (c₃ .image) _) (guards-both (ctx .isResult) (refinementChecks (map (mapParam (textOf (ctx .image))) (map (paramOf (ctx .image)) is))) rs (h₃ .0))
           (both-lines (both-lines (keep-lines ((k₂ ⊕ k₃) .image) h₁) (keep-lines (k₃ .image) required′)) (h₃ .1)),
       rw (k .isResult) at (h₃ .2),
     )

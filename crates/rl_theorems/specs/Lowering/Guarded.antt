@@ -12,16 +12,17 @@ use Rattle.rl_spec.specs.declared.Clause.{Clause}
 use Rattle.rl_spec.specs.Image.{num, Image, sizeOf}
 use Rattle.rl_spec.specs.Values.{sameText}
 use Rattle.rl_spec.specs.Tree.{Expr, identifier, errLiteral, isErr, resultUnwrap, ascii}
-use Rattle.rl_spec.specs.Statement.{Stmt, return, Body, nil, _▸_}
-use Rattle.rl_spec.specs.Functions.{Text, said}
+use Rattle.rl_spec.specs.Statement.{Stmt, return, Body, nil, _▸_, Item, aStatement}
+use Rattle.rl_spec.specs.Mapped.{Text}
+use Rattle.rl_spec.specs.Functions.{said}
 use Rattle.rl_spec.specs.Reading.{Check}
 use Rattle.rl_spec.specs.Make.{Context, _>>=_, give, each, newText, newStmt, absent}
 use Rattle.rl_spec.specs.Lower.{ident, strLit, errLit, resCall, unwrapCall, isErrCall, msgExpr, violation, onlyIf, guard, clauseGuard}
 use Rattle.rl_theorems.specs.Lowering.LowerTrees as tree
 use Rattle.rl_theorems.specs.Lowering.LowerTrees.{_⧺_}
 use Rattle.rl_images.specs.Lowering.Grows.{Grows, size-grows}
-use Rattle.rl_images.specs.Lowering.GrowsTo.{_⊕_, Good, _▷_, _▹_, given, test}
-use Rattle.rl_theorems.specs.Trees.Denotes.{AllSay, noneSay, alsoSays, callTree, IsExpr, stands, aString, anIdentifier, aUnary, aCall, anErr, noArgs, anArg, Line, line, IsLine, standsLine, aCondition, anExpression, aReturn, aConditional, anArm, withoutElse, Rows, noRows, aRow, keep, keep-says, keep-all, keep-holds, keep-line, keep-rows}
+use Rattle.rl_images.specs.Lowering.GrowsTo.{_⊕_, GrowsTo, _▷_, _▹_, given, test}
+use Rattle.rl_theorems.specs.Trees.Denotes.{AllSay, noneSay, alsoSays, callTree, IsExpr, stands, aString, anIdentifier, aUnary, aCall, anErr, noArgs, anArg, IsLine, standsLine, aCondition, anExpression, aReturn, aConditional, anArm, withoutElse, Rows, noRows, aRow, keep, keep-says, keep-all, keep-holds, keep-line, keep-rows}
 use Rattle.rl_theorems.specs.Lowering.MadeTrees.{Turned, expr-ok, stmt-ok, text-ok, list-ok}
 use Rattle.rl_theorems.specs.Lowering.Copied.{inside-of, copy-ok}
 
@@ -33,10 +34,10 @@ small-of (stands k fs h d) = h .small
 abbrev pub Lines : Image → List ℕ → Body Text → Type 0
 Lines im ns b = Rows im (sizeOf im Statements) ns b
 
-pub line-inside : {im : Image} {n : ℕ} {x : Line} → IsLine im n x → n < sizeOf im Statements
+pub line-inside : {im : Image} {n : ℕ} {x : Item Text} → IsLine im n x → n < sizeOf im Statements
 line-inside (standsLine k fs h d) = h .inside
 
-pub a-line : {im : Image} {n : ℕ} {s : Stmt Text} {ns : List ℕ} {b : Body Text} → IsLine im n (line s) → Lines im ns b →
+pub a-line : {im : Image} {n : ℕ} {s : Stmt Text} {ns : List ℕ} {b : Body Text} → IsLine im n (aStatement s) → Lines im ns b →
     Lines im (n ∷ ns) (s ▸ b)
 a-line h hs = aRow (line-inside h) h refl hs
 
@@ -50,25 +51,25 @@ both-lines (aRow l h q hs) k = aRow l h q (both-lines hs k)
 
 -- ---- names and calls
 
-pub ident-ok : (name : Text) (ctx : Context) → Good ctx (λ n c. IsExpr (c .image) n (identifier name)) (ident name ctx)
+pub ident-ok : (name : Text) (ctx : Context) → GrowsTo ctx (λ n c. IsExpr (c .image) n (identifier name)) (ident name ctx)
 unfolding ident
 ident-ok name ctx = text-ok name ctx ▷ λ t c₁ k₁ h. expr-ok 30 (num t ∷ []) c₁ ▹ λ n c₂ k₂ f. f _ (anIdentifier refl h)
 
-pub string-ok : (s : Text) (ctx : Context) → Good ctx (λ n c. IsExpr (c .image) n (said s)) (strLit s ctx)
+pub string-ok : (s : Text) (ctx : Context) → GrowsTo ctx (λ n c. IsExpr (c .image) n (said s)) (strLit s ctx)
 unfolding strLit
 string-ok s ctx = text-ok s ctx ▷ λ t c₁ k₁ h. expr-ok 25 (num t ∷ []) c₁ ▹ λ n c₂ k₂ f. f _ (aString refl h)
 
-err-ok : (msg : ℕ) (ctx : Context) → Good ctx (Turned errLiteral ctx msg) (errLit msg ctx)
+err-ok : (msg : ℕ) (ctx : Context) → GrowsTo ctx (Turned errLiteral ctx msg) (errLit msg ctx)
 unfolding errLit
 err-ok msg ctx = expr-ok 50 (num msg ∷ []) ctx ▹ λ n c k f m h. f _ (anErr refl (inside-of h) h)
 
-texts-ok : (xs : List Text) (ctx : Context) → Good ctx (λ ts c. AllSay (c .image) ts xs) (each newText xs ctx)
+texts-ok : (xs : List Text) (ctx : Context) → GrowsTo ctx (λ ts c. AllSay (c .image) ts xs) (each newText xs ctx)
 unfolding each
 texts-ok [] ctx = given noneSay
 texts-ok (x ∷ xs) ctx = text-ok x ctx ▷ λ t c₁ k₁ h₁. texts-ok xs c₁ ▷ λ ts c₂ k₂ h₂. given (alsoSays (keep-says (k₂ .image) h₁) h₂)
 
 call-ok : (name : Text) (x : ℕ) (ctx : Context) →
-    Good ctx (Turned (λ e. callTree (ascii "std" ∷ ascii "res" ∷ name ∷ []) (e ∷ [])) ctx x) (resCall name x ctx)
+    GrowsTo ctx (Turned (λ e. callTree (ascii "std" ∷ ascii "res" ∷ name ∷ []) (e ∷ [])) ctx x) (resCall name x ctx)
 unfolding resCall
 call-ok name x ctx =
     texts-ok (ascii "std" ∷ ascii "res" ∷ name ∷ []) ctx ▷ λ ts c₁ k₁ h₁. list-ok ts c₁ ▷ λ path c₂ k₂ h₂.
@@ -85,36 +86,36 @@ unwraps : (e : Expr Text) → callTree (ascii "std" ∷ ascii "res" ∷ ascii "r
 unfolding ascii sameText
 unwraps e = refl
 
-pub isErr-ok : (x : ℕ) (ctx : Context) → Good ctx (Turned isErr ctx x) (isErrCall x ctx)
+pub isErr-ok : (x : ℕ) (ctx : Context) → GrowsTo ctx (Turned isErr ctx x) (isErrCall x ctx)
 isErr-ok x ctx = call-ok (ascii "is_err") x ctx ▹ λ n c k f e h. subst (IsExpr (c .image) n) (is-err e) (f e h)
 
-pub unwrap-ok : (x : ℕ) (ctx : Context) → Good ctx (Turned resultUnwrap ctx x) (unwrapCall x ctx)
+pub unwrap-ok : (x : ℕ) (ctx : Context) → GrowsTo ctx (Turned resultUnwrap ctx x) (unwrapCall x ctx)
 unwrap-ok x ctx = call-ok (ascii "result_unwrap") x ctx ▹ λ n c k f e h. subst (IsExpr (c .image) n) (unwraps e) (f e h)
 
 -- ---- guards
 
-pub return-ok : (x : ℕ) (ctx : Context) → Good ctx (λ n c. (e : Expr Text) → IsExpr (ctx .image) x e →
-    IsLine (c .image) n (line (return e))) (newStmt 66 (num x ∷ []) ctx)
+pub return-ok : (x : ℕ) (ctx : Context) → GrowsTo ctx (λ n c. (e : Expr Text) → IsExpr (ctx .image) x e →
+    IsLine (c .image) n (aStatement (return e))) (newStmt 66 (num x ∷ []) ctx)
 return-ok x ctx = stmt-ok 66 (ctx .span) (num x ∷ []) ctx ▹ λ n c k f e h. f _ (aReturn refl h)
 
 -- under the flag as it is
 violation-by : (r : Bool) (err : ℕ) (ctx : Context) →
-    Good ctx (λ n c. (m : Expr Text) → IsExpr (ctx .image) err (errLiteral m) → IsLine (c .image) n (line (tree.violation r m)))
+    GrowsTo ctx (λ n c. (m : Expr Text) → IsExpr (ctx .image) err (errLiteral m) → IsLine (c .image) n (aStatement (tree.violation r m)))
     (cond r (newStmt 66 (num err ∷ [])) (unwrapCall err >>= λ abort. newStmt 65 (num abort ∷ [])) ctx)
 violation-by true err ctx = return-ok err ctx ▹ λ n c k f m h. f (errLiteral m) h
 violation-by false err ctx =
     unwrap-ok err ctx ▷ λ abort c₁ k₁ h₁. stmt-ok 65 (c₁ .span) (num abort ∷ []) c₁ ▹ λ n c₂ k₂ f m h. f _ (anExpression refl (h₁ _ h))
 
 violation-ok : (msg : ℕ) (ctx : Context) →
-    Good ctx (λ n c. (m : Expr Text) → IsExpr (ctx .image) msg m → IsLine (c .image) n (line (tree.violation (ctx .isResult) m)))
+    GrowsTo ctx (λ n c. (m : Expr Text) → IsExpr (ctx .image) msg m → IsLine (c .image) n (aStatement (tree.violation (ctx .isResult) m)))
     (violation msg ctx)
 unfolding violation
 violation-ok msg ctx =
     err-ok msg ctx ▷ λ err c₁ k₁ h₁. violation-by (c₁ .isResult) err c₁ ▹ λ n c₂ k₂ h₂ m h. rw (← k₁ .isResult) (h₂ m (h₁ m h))
 
 pub only-ok : (condition s : ℕ) (ctx : Context) →
-    Good ctx (λ n c. (e : Expr Text) (b : Stmt Text) → IsExpr (ctx .image) condition e → IsLine (ctx .image) s (line b) →
-    IsLine (c .image) n (line (tree.onlyIf e b)))
+    GrowsTo ctx (λ n c. (e : Expr Text) (b : Stmt Text) → IsExpr (ctx .image) condition e → IsLine (ctx .image) s (aStatement b) →
+    IsLine (c .image) n (aStatement (tree.onlyIf e b)))
     (onlyIf condition s ctx)
 unfolding onlyIf
 only-ok condition s ctx =
@@ -124,8 +125,8 @@ only-ok condition s ctx =
     f _ (aConditional refl (line-inside a) a (withoutElse refl))
 
 pub guard-ok : (pred msg : ℕ) (ctx : Context) →
-    Good ctx (λ n c. (k : Check Text) → IsExpr (ctx .image) pred (k .condition) → IsExpr (ctx .image) msg (k .message) →
-    IsLine (c .image) n (line (tree.guard (ctx .isResult) k))) (guard pred msg ctx)
+    GrowsTo ctx (λ n c. (k : Check Text) → IsExpr (ctx .image) pred (k .condition) → IsExpr (ctx .image) msg (k .message) →
+    IsLine (c .image) n (aStatement (tree.guard (ctx .isResult) k))) (guard pred msg ctx)
 unfolding guard
 guard-ok pred msg ctx =
     copy-ok pred ctx ▷ λ copy c₁ k₁ h₁. expr-ok 33 (num 5 ∷ num copy ∷ []) c₁ ▷ λ neg c₂ k₂ h₂. violation-ok msg c₂ ▷ λ s c₃ k₃ h₃.
@@ -166,7 +167,7 @@ own-message q (noMessage p) = absurd (q p)
 own-message q (aMessage x) = x
 
 message-ok : (clause : Clause) (default : Text) (ctx : Context) →
-    Good ctx (λ n c. (m : Expr Text) → IsMessage (ctx .image) default (clause .message) m → IsExpr (c .image) n m)
+    GrowsTo ctx (λ n c. (m : Expr Text) → IsMessage (ctx .image) default (clause .message) m → IsExpr (c .image) n m)
     (msgExpr clause default ctx)
 message-ok clause default ctx =
     test (eqb (clause .message) 65535) (strLit default) (give (clause .message)) ctx
@@ -174,9 +175,9 @@ message-ok clause default ctx =
     (λ q. given λ m d. own-message (eqb-false (clause .message) 65535 q) d)
 
 clause-ok : (default : Text) (clause : Clause) (ctx : Context) →
-    Good ctx (λ n c. (k : Check Text) → IsExpr (ctx .image) (clause .condition) (k .condition) →
+    GrowsTo ctx (λ n c. (k : Check Text) → IsExpr (ctx .image) (clause .condition) (k .condition) →
     IsMessage (ctx .image) default (clause .message) (k .message) →
-    IsLine (c .image) n (line (tree.guard (ctx .isResult) k))) (clauseGuard default clause ctx)
+    IsLine (c .image) n (aStatement (tree.guard (ctx .isResult) k))) (clauseGuard default clause ctx)
 clause-ok default clause ctx =
     message-ok clause default ctx ▷ λ msg c₁ k₁ h₁. guard-ok (clause .condition) msg c₁ ▹ λ n c₂ k₂ h₂ k h m.
     rw (k₁ .isResult) at (h₂ k (keep (k₁ .image) h) (h₁ (k .message) m))
@@ -190,13 +191,13 @@ no-guards r im im′ default ks noChecks = noRows
 
 more-guards : (r : Bool) {im im′ : Image} {default : Text} {clause : Clause} {cs : List Clause} {n : ℕ} {ns : List ℕ} →
     ((k : Check Text) → IsExpr im (clause .condition) (k .condition) → IsMessage im default (clause .message) (k .message) →
-    IsLine im′ n (line (tree.guard r k))) →
+    IsLine im′ n (aStatement (tree.guard r k))) →
     GuardsTo r im default cs im′ ns → GuardsTo r im default (clause ∷ cs) im′ (n ∷ ns)
 unfolding tree.guards
 more-guards r h hs ks (aCheck {k = k} {ks = rest} x m xs) = a-line (h k x m) (hs rest xs)
 
 pub guards-ok : (default : Text) (cs : List Clause) (ctx : Context) →
-    Good ctx (λ ns c. GuardsTo (ctx .isResult) (ctx .image) default cs (c .image) ns) (each (clauseGuard default) cs ctx)
+    GrowsTo ctx (λ ns c. GuardsTo (ctx .isResult) (ctx .image) default cs (c .image) ns) (each (clauseGuard default) cs ctx)
 unfolding each
 guards-ok default [] ctx = given (no-guards (ctx .isResult) (ctx .image) (ctx .image) default)
 guards-ok default (clause ∷ cs) ctx =

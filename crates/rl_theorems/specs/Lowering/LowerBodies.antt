@@ -8,7 +8,7 @@ use mathlib.Core.Option.{none}
 use Rattle.rl_spec.specs.Tree.{Expr}
 use Rattle.rl_spec.specs.Statement.{Stmt, declaration, expression, return, returnAlone, conditional, while, loop, break, continue, otherStatement, Body, nil, _▸_}
 use Rattle.rl_spec.specs.Message.{decimal}
-use Rattle.rl_spec.specs.Functions.{Text}
+use Rattle.rl_spec.specs.Mapped.{Text}
 use Rattle.rl_spec.specs.Run.{Value, Result, got, ended, Run, andThen, _>>=_, give}
 use Rattle.rl_spec.specs.Reading.{Check, Mode, bare, Flow, onward, breaks, continues, followed, followedTop, stmt, body, top}
 use Rattle.rl_theorems.specs.Lowering.LowerTrees.{_⧺_, guards, reserved, temporary, skipErr, wrapAs, expressionOf, trailing}

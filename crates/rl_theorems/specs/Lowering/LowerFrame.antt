@@ -10,7 +10,7 @@ use Rattle.rl_spec.specs.Values as value
 use Rattle.rl_spec.specs.Values.{ConstVal, sameText}
 use Rattle.rl_spec.specs.Fold.{unaryValue, binaryValue}
 use Rattle.rl_spec.specs.Tree.{Expr, null, literal, identifier, unary, binary, grouping, assign, okLiteral, errLiteral, isErr, resultUnwrap, other}
-use Rattle.rl_spec.specs.Functions.{Text}
+use Rattle.rl_spec.specs.Mapped.{Text}
 use Rattle.rl_spec.specs.Run.{nothing, folded, Value, plain, ok, err, named, hidden, Env, Outcome, Result, got, ended, Run, andThen, _>>=_, give, halt, orFault, tick, charge, truth, plainOf, errOf, unwrapped, operand, find, behind, update, look, store, unaryOn, binaryOn, eval}
 use Rattle.rl_spec.specs.Reading.{Check, unless, violated, check, checks}
 use Rattle.rl_theorems.specs.Lowering.LowerTrees.{reserved}

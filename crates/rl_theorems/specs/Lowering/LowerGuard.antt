@@ -11,7 +11,7 @@ use Rattle.rl_spec.specs.Values.{bang}
 use Rattle.rl_spec.specs.Fold.{unaryValue}
 use Rattle.rl_spec.specs.Tree.{Expr}
 use Rattle.rl_spec.specs.Statement.{Stmt, Body, nil, _▸_}
-use Rattle.rl_spec.specs.Functions.{Text}
+use Rattle.rl_spec.specs.Mapped.{Text}
 use Rattle.rl_spec.specs.Run.{nothing, folded, Value, plain, ok, err, Env, returned, stopped, Result, got, ended, Run, andThen, _>>=_, _>>_, give, halt, leaving, scoped, truth, plainOf, unwrapped, operand, unaryOn, eval}
 use Rattle.rl_spec.specs.Reading.{Check, Mode, plainly, bare, Flow, onward, followed, followedTop, when, unless, violated, check, checks, stmt, body, lastOr, top}
 use Rattle.rl_theorems.specs.Lowering.LowerTrees.{violation, guard, guards}

@@ -7,7 +7,7 @@ use mathlib.Core.Option.{Option, none, some}
 use Rattle.rl_spec.specs.Tree.{Expr, null, identifier, unary, errLiteral, isErr, resultUnwrap, ascii}
 use Rattle.rl_spec.specs.Statement.{Stmt, declaration, expression, return, returnAlone, conditional, while, loop, break, continue, otherStatement, Body, nil, _▸_, Branch, branch, Else, noElse, elseBranch, elseConditional}
 use Rattle.rl_spec.specs.Message.{decimal}
-use Rattle.rl_spec.specs.Functions.{Text}
+use Rattle.rl_spec.specs.Mapped.{Text}
 use Rattle.rl_spec.specs.Reading.{Check, Function}
 
 infixr 5 _⧺_

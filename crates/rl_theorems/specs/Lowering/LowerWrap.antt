@@ -8,7 +8,7 @@ use lib.Dec.{ltb}
 use lib.ListN.{length}
 use Rattle.rl_spec.specs.Tree.{Expr, null, identifier, resultUnwrap, ascii}
 use Rattle.rl_spec.specs.Statement.{declaration, return, returnAlone, Body, nil, _▸_}
-use Rattle.rl_spec.specs.Functions.{Text}
+use Rattle.rl_spec.specs.Mapped.{Text}
 use Rattle.rl_spec.specs.Run.{Plain, Value, plain, ok, err, named, hidden, Env, returned, fault, Result, got, ended, Run, andThen, _>>=_, _>>_, give, halt, charge, bind, find, eval}
 use Rattle.rl_spec.specs.Reading.{Check, plainly, checked, Flow, onward, followed, subject, checks, checkedReturn, stmt, body}
 use Rattle.rl_theorems.specs.Lowering.LowerTrees.{reserved, retName, guards, skipErr, inner, wrapAs}

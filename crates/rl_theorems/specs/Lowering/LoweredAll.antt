@@ -13,7 +13,8 @@ use Rattle.rl_spec.specs.Image.{Image, sizeOf, heights, WellFormed}
 use Rattle.rl_spec.specs.Tree.{ascii}
 use Rattle.rl_spec.specs.Run.{Value}
 use Rattle.rl_spec.specs.Reading.{runFunction, reading}
-use Rattle.rl_spec.specs.Functions.{Text, contractFunction}
+use Rattle.rl_spec.specs.Mapped.{Text}
+use Rattle.rl_spec.specs.Functions.{contractFunction}
 use Rattle.rl_spec.specs.Lower.{lowered}
 use Rattle.rl_images.specs.Lowering.Grows.{eight-sections}
 use Rattle.rl_theorems.specs.Images.FunctionReady.{Under}

@@ -24,7 +24,7 @@ use Rattle.rl_spec.specs.Values as value
 use Rattle.rl_spec.specs.Folded.{constOf}
 use Rattle.rl_spec.specs.Records.{functionAt}
 use Rattle.rl_spec.specs.Run as run
-use Rattle.rl_spec.specs.Functions.{mapConst, mapPlain, mapValue}
+use Rattle.rl_spec.specs.Mapped.{mapConst, mapPlain, mapValue}
 use Rattle.rl_spec.specs.Lower.{bodied}
 use Rattle.rl_spec.specs.Runner.{plainOf, valueOf, constHas, plainHas, valueHas, allHave, valuesOf}
 use Rattle.rl_images.specs.Lowering.Grows.{longer-length, text-stays}

@@ -16,8 +16,9 @@ use Rattle.rl_spec.specs.Statement.{Body, bodyTree}
 use Rattle.rl_spec.specs.Ranges.{interval}
 use Rattle.rl_spec.specs.Records.{paramAt, clauseAt, functionAt}
 use Rattle.rl_spec.specs.Ranges.{upFrom, numbersIn}
-use Rattle.rl_spec.specs.Contracts.{ParamRefinement, Param, clauseOf, anyRefined, isEmpty, isSome}
-use Rattle.rl_spec.specs.Functions.{Text, mapBody, plainFunction, contractFunction, checkFirst, refinementChecks, clauseCheck}
+use Rattle.rl_spec.specs.Contracts.{ParamRefinement, Param, clauseOf, anyRefined, isEmpty, isSome, paramOf, contractsOf}
+use Rattle.rl_spec.specs.Mapped.{Text, mapBody, mapParam, mapClause}
+use Rattle.rl_spec.specs.Functions.{plainFunction, contractFunction, checkFirst, refinementChecks, clauseCheck}
 use Rattle.rl_spec.specs.Run.{Value, ending, _>>_}
 use Rattle.rl_spec.specs.Reading.{Check, Function, plainly, bindAll, top, runFunction, reading}
 use Rattle.rl_spec.specs.Make.{Context}
@@ -27,8 +28,9 @@ use Rattle.rl_theorems.specs.Lowering.LowerFrame.{CleanChecks}
 use Rattle.rl_theorems.specs.Lowering.LowerBodies.{Ensured}
 use Rattle.rl_theorems.specs.Lowering.LoweredTo.{EnsuredTo, asIs, LoweredTo, lowered-to-runs}
 use Rattle.rl_theorems.specs.Runs.TextRuns.{mapFunction}
+use Rattle.rl_theorems.specs.Runs.ProvesTexts.{any-same}
 use Rattle.rl_images.specs.Lowering.Grows.{eight-sections, records-own, records-other, text-kept}
-use Rattle.rl_images.specs.Lowering.GrowsTo.{Later, Good, _▷_, _▹_, good-is}
+use Rattle.rl_images.specs.Lowering.GrowsTo.{Later, GrowsTo, _▷_, _▹_, good-is}
 use Rattle.rl_theorems.specs.Trees.Denotes.{Says, Holds}
 use Rattle.rl_theorems.specs.Trees.DenotedTrees.{body-of}
 use Rattle.rl_theorems.specs.Trees.DenotingExpressions.{text-says}
@@ -45,20 +47,27 @@ or-false : (a b : Bool) → a || b ≡ false → (a ≡ false) × (b ≡ false)
 or-false true b h = absurd (true≢false h)
 or-false false b h = (refl, h)
 
-no-map : {A B : Type 0} (g : ℕ → A) (h : ℕ → B) (l : List ℕ) → not (isEmpty (map g l)) ≡ false → map h l ≡ []
-no-map g h [] e = refl
-no-map g h (n ∷ l) e = absurd (true≢false e)
+no-list : {A : Type 0} (g : ℕ → A) (l : List ℕ) → not (isEmpty (map g l)) ≡ false → l ≡ []
+no-list g [] e = refl
+no-list g (n ∷ l) e = absurd (true≢false e)
 
-no-checks : (im : Image) (ps : List (Param ℕ)) → anyRefined ps ≡ false → refinementChecks im ps ≡ []
+no-checks : (ps : List (Param Text)) → anyRefined ps ≡ false → refinementChecks ps ≡ []
 unfolding anyRefined refinementChecks
-no-checks im [] h = refl
-no-checks im (p ∷ ps) h =
+no-checks [] h = refl
+no-checks (p ∷ ps) h =
     let q = or-false (isSome (p .refinement)) (anyRefined ps) h in
-    go (p .refinement) (q .0) ∙ no-checks im ps (q .1)
+    go (p .refinement) (q .0) ∙ no-checks ps (q .1)
   where
-    go : (o : Option (ParamRefinement ℕ)) → isSome o ≡ false → checkFirst im (p .name) o (refinementChecks im ps) ≡ refinementChecks im ps
+    go : (o : Option (ParamRefinement Text)) → isSome o ≡ false → checkFirst (p .name) o (refinementChecks ps) ≡ refinementChecks ps
     go none e = refl
     go (some r) e = absurd (true≢false e)
+
+-- the names of parameters, by their records
+param-names : (im : Image) (is : List ℕ) →
+    map (textOf im) (map (λ i. paramAt im i .name) is) ≡ map (λ p. p .name) (map (mapParam (textOf im)) (map (paramOf im) is))
+unfolding paramOf
+param-names im [] = refl
+param-names im (i ∷ is) = ap (λ l. textOf im (paramAt im i .name) ∷ l) (param-names im is)
 
 -- ---- the function of the finished image
 
@@ -72,8 +81,8 @@ module _ (im : Image) (wf : WellFormed im) (f : ℕ) (inside : f < sizeOf im Fun
       (rest : Body Text) × (ns : List ℕ) × Holds (c .image) list ns × Lines (c .image) ns (tree.guards (source .isResult) (source .entry) rest)
       × EnsuredTo (source .isResult) (source .ensures) (source .body) rest
 
-  made-body : Ensured (source .ensures) (source .body) → Good (start im f) Made (newBody im f (start im f))
-  unfolding newBody contractFunction functionAt
+  made-body : Ensured (source .ensures) (source .body) → GrowsTo (start im f) Made (newBody im f (start im f))
+  unfolding newBody contractFunction contractsOf functionAt
   made-body o =
       let x : FunctionFits im wf f (recordOf im Functions f) = function-fits im wf f inside in
       desugared-ok (numbersIn (functionAt im f .params)) (bodyIn im f) (requiresIn im f) (ensuresIn im f) (start im f) _ _ _
@@ -120,16 +129,17 @@ module _ (im : Image) (wf : WellFormed im) (f : ℕ) (inside : f < sizeOf im Fun
         ∙ same-text (paramAt im i .name) (name-inside im wf i h)
 
     same-names : (a n : ℕ) → a + n ≤ sizeOf im Parameters →
-        map (λ i. textOf end (paramAt end i .name)) (upFrom a n) ≡ map (λ i. textOf im (paramAt im i .name)) (upFrom a n)
-    unfolding upFrom
+        map (λ p. p .name) (map (mapParam (textOf end)) (map (paramOf end) (upFrom a n)))
+        ≡ map (λ p. p .name) (map (mapParam (textOf im)) (map (paramOf im) (upFrom a n)))
+    unfolding upFrom paramOf
     same-names a zero h = refl
     same-names a (suc n) h = ap₂ (λ x xs. x ∷ xs) (same-name a (omega arith)) (same-names (a + 1) n (omega arith))
 
     finished-to : Made list c → LoweredTo source (contractFunction end f)
-    unfolding contractFunction functionAt
+    unfolding contractFunction contractsOf functionAt
     finished-to h = record {
       name = ap (textOf end) same-own-name ∙ same-text _ (function-fits im wf f inside .name);
-      params = ap (λ l. map (λ i. textOf end (paramAt end i .name)) (numbersIn l)) same-params
+      params = ap (λ l. map (λ p. p .name) (map (mapParam (textOf end)) (map (paramOf end) (numbersIn l)))) same-params
           ∙ same-names _ _ (function-fits im wf f inside .params);
       rest = h .0;
       ensured = h .4;
@@ -155,14 +165,15 @@ module _ (im : Image) (wf : WellFormed im) (f : ℕ) (inside : f < sizeOf im Fun
   -- ---- a function without contracts is left
 
   plain-case : hasContracts im f ≡ false → LoweredTo source (contractFunction im f)
-  unfolding contractFunction hasContracts tree.guards
+  unfolding contractFunction contractsOf hasContracts tree.guards
   plain-case h =
       let p = or-false (not (isEmpty (requiresIn im f)) || not (isEmpty (ensuresIn im f))) (anyRefined (paramsIn im f)) h in
       let q = or-false (not (isEmpty (requiresIn im f))) (not (isEmpty (ensuresIn im f))) (p .0) in
-      let noRefined : refinementChecks im (paramsIn im f) ≡ [] = no-checks im (paramsIn im f) (p .1) in
-      let check : Text → ℕ → Check Text = λ default i. clauseCheck im default (clauseOf im i) in
-      let noRequired = no-map (clauseAt im) (check (ascii "requires violated")) (numbersIn (functionAt im f .required)) (q .0) in
-      let noEnsured = no-map (clauseAt im) (check (ascii "ensures violated")) (numbersIn (functionAt im f .ensured)) (q .1) in
+      let noRefined : refinementChecks (map (mapParam (textOf im)) (paramsIn im f)) ≡ [] =
+          no-checks (map (mapParam (textOf im)) (paramsIn im f)) (any-same (textOf im) (paramsIn im f) ∙ p .1) in
+      let check : Text → List ℕ → List (Check Text) = λ default is. map (clauseCheck default) (map (mapClause (textOf im)) (map (clauseOf im) is)) in
+      let noRequired = ap (check (ascii "requires violated")) (no-list (clauseAt im) (numbersIn (functionAt im f .required)) (q .0)) in
+      let noEnsured = ap (check (ascii "ensures violated")) (no-list (clauseAt im) (numbersIn (functionAt im f .ensured)) (q .1)) in
       record {
         name = refl;
         params = refl;
@@ -192,7 +203,7 @@ lowered-reads im im′ f wf inside e o clean vs budget = lowered-to-runs _ _ vs 
 -- what the runner runs, its texts as bytes, runs as the function does without its clauses
 pub plain-runs : (im : Image) (f : ℕ) (vs : List (Value Text)) (budget : ℕ) →
     runFunction (λ t. t) (mapFunction (textOf im) (plainFunction im f)) vs budget ≡ runFunction (λ t. t) (contractFunction im f) vs budget
-unfolding runFunction plainFunction contractFunction
+unfolding runFunction plainFunction contractFunction contractsOf
 plain-runs im f vs budget =
     ap (λ xs. ending ((bindAll xs vs >> top (λ t. t) plainly (mapBody (textOf im) (bodyTree im (functionAt im f .body)))) [] budget))
-    (map-map (textOf im) (λ i. paramAt im i .name) (numbersIn (functionAt im f .params)))
+    (param-names im (numbersIn (functionAt im f .params)))

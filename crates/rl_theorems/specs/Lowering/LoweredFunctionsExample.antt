@@ -1,4 +1,4 @@
--- A function that meets the premises of LoweredTrees: a result function that ensures something and returns.
+-- A function that meets the premises of LoweredFunctions: a result function that ensures something and returns.
 -- Assumes nothing.
 use Prim.Native.Nat.{ℕ}
 use mathlib.Core.Path.{_≡_, refl}
@@ -7,7 +7,8 @@ use mathlib.Core.Option.{some}
 use lib.Dec.{lit<}
 use Rattle.rl_spec.specs.Image.{Image, textOf, encode, recordIn, recordsIn, nextAt, endAt, fieldsAt, sectionsIn, imageOf, widthsOf, WellFormed}
 use Rattle.rl_spec.specs.Tree.{ascii}
-use Rattle.rl_spec.specs.Functions.{Text, plainFunction, contractFunction}
+use Rattle.rl_spec.specs.Mapped.{Text}
+use Rattle.rl_spec.specs.Functions.{plainFunction, contractFunction}
 use Rattle.rl_spec.specs.Run.{Value}
 use Rattle.rl_spec.specs.Reading.{runFunction, reading}
 use Rattle.rl_spec.specs.Lower.{lowered}

@@ -5,7 +5,7 @@ use mathlib.Core.Path.{_≡_, refl, ap, ap₂, sym, _∙_, subst}
 use mathlib.Core.Logic.{_⊎_, inl, inr}
 use mathlib.Core.Bool.{Bool, true, false, cond}
 use mathlib.Core.List.{List, [], _∷_, _++_, map}
-use mathlib.Core.Option.{Option, none, some}
+use mathlib.Core.Option.{Option, none, some, Option·map}
 use native.Mathlib.Omega.{arith}
 use lib.Dec.{eqb}
 use lib.ListN.{length, getD}
@@ -20,9 +20,9 @@ use Rattle.rl_spec.specs.Tree.{identifier, binary, number, exprTree, ascii}
 use Rattle.rl_spec.specs.Statement.{bodyTree}
 use Rattle.rl_spec.specs.Records.{refineOp, refineOperand, refinementBy, paramBy, clauseBy, functionBy, paramAt, clauseAt, functionAt}
 use Rattle.rl_spec.specs.Ranges.{interval, upFrom, numbersIn}
-use Rattle.rl_spec.specs.Contracts.{RefineOperand, integer, str, bool, param, ParamRefinement, Param, operandOf, refinementOf, paramOf, clauseOf, messageNode}
-use Rattle.rl_spec.specs.Message.{refineOpText, operandText}
-use Rattle.rl_spec.specs.Functions.{Text, mapExpr, mapBody, said, operatorOf, operandNode, refinementCheck, checkFirst, refinementChecks, messageOr, clauseCheck, contractFunction}
+use Rattle.rl_spec.specs.Contracts.{RefineOperand, integer, str, bool, param, ParamRefinement, Param, operandOf, refinementOf, paramOf, clauseOf, contractsOf, messageNode}
+use Rattle.rl_spec.specs.Mapped.{Text, mapExpr, mapBody, mapOperand, mapRefinement, mapParam, mapClause, mapContracts}
+use Rattle.rl_spec.specs.Functions.{contracted, contractFunction}
 use Rattle.rl_spec.specs.Reading.{Check, Function}
 use Rattle.rl_spec.specs.Make.{Context}
 use Rattle.rl_spec.specs.Lower.{newBody, start, withBody, lowered}
@@ -42,16 +42,9 @@ use Rattle.rl_images.specs.Lowering.Followed.{Lowering, untouched, rebuilt, bod
 -- the function of a record
 abbrev contractOf : Image → declared.Function → Function Text
 contractOf im x =
-    record {
-      name = textOf im (x .name);
-      params = map (λ i. textOf im (paramAt im i .name)) (numbersIn (x .params));
-      isResult = x .result;
-      entry =
-          refinementChecks im (map (paramOf im) (numbersIn (x .params)))
-          ++ map (λ i. clauseCheck im (ascii "requires violated") (clauseOf im i)) (numbersIn (x .required));
-      ensures = map (λ i. clauseCheck im (ascii "ensures violated") (clauseOf im i)) (numbersIn (x .ensured));
-      body = mapBody (textOf im) (bodyTree im (x .body));
-    }
+    contracted (textOf im (x .name)) (x .result)
+    (mapContracts (textOf im) (record { params = map (paramOf im) (numbersIn (x .params)); requires = map (clauseOf im) (numbersIn (x .required)) }))
+    (map (mapClause (textOf im)) (map (clauseOf im) (numbersIn (x .ensured)))) (mapBody (textOf im) (bodyTree im (x .body)))
 
 -- ---- the texts of a refinement
 
@@ -121,38 +114,16 @@ module _ (im : Image) (wf : WellFormed im) (f : ℕ) (c : Context) (later : Late
 
   -- ---- its parameters
 
-  same-names : (a n : ℕ) → a + n ≤ sizeOf im Parameters →
-      map (λ i. textOf end (paramAt end i .name)) (upFrom a n) ≡ map (λ i. textOf im (paramAt im i .name)) (upFrom a n)
-  unfolding upFrom
-  same-names a zero h = refl
-  same-names a (suc n) h =
-      ap₂ (λ x xs. x ∷ xs) (ap (λ p. textOf end (p .name)) (same-param a) ∙ same-text _ (name-inside im wf a (omega arith)))
-      (same-names (a + 1) n (omega arith))
-
-  same-operand : (x : RefineOperand ℕ) → OperandInside im x → operandNode end x ≡ operandNode im x
+  same-operand : (x : RefineOperand ℕ) → OperandInside im x → mapOperand (textOf end) x ≡ mapOperand (textOf im) x
   same-operand (integer x) h = refl
-  same-operand (str t) h = ap said (same-text t h)
+  same-operand (str t) h = ap str (same-text t h)
   same-operand (bool b) h = refl
-  same-operand (param t) h = ap identifier (same-text t h)
+  same-operand (param t) h = ap param (same-text t h)
 
-  same-shown : (x : RefineOperand ℕ) → OperandInside im x → operandText end x ≡ operandText im x
-  same-shown (integer x) h = refl
-  same-shown (str t) h = ap (λ s. ascii "\"" ++ s ++ ascii "\"") (same-text t h)
-  same-shown (bool b) h = refl
-  same-shown (param t) h = same-text t h
-
-  same-check : (name : ℕ) (r : ParamRefinement ℕ) → name < sizeOf im Texts → OperandInside im (r .operand) →
-      refinementCheck end name r ≡ refinementCheck im name r
-  same-check name r h o = λ j.
-      record {
-        condition = binary (identifier (same-text name h j)) (operatorOf (r .op)) (same-operand (r .operand) o j);
-        message = said (ascii "refinement failed: " ++ same-text name h j ++ ascii " " ++ refineOpText (r .op) ++ ascii " " ++ same-shown (r .operand) o j);
-      }
-
-  same-first : (name : ℕ) (o : Option (ParamRefinement ℕ)) (rest : List (Check Text)) → name < sizeOf im Texts → RefinementInside im o →
-      checkFirst end name o rest ≡ checkFirst im name o rest
-  same-first name none rest h k = refl
-  same-first name (some r) rest h k = ap (λ x. x ∷ rest) (same-check name r h k)
+  same-refinement : (o : Option (ParamRefinement ℕ)) → RefinementInside im o →
+      Option·map (mapRefinement (textOf end)) o ≡ Option·map (mapRefinement (textOf im)) o
+  same-refinement none h = refl
+  same-refinement (some r) h = λ j. some (record { op = r .op; operand = same-operand (r .operand) h j })
 
   same-paramOf : (i : ℕ) → paramOf end i ≡ paramOf im i
   unfolding paramOf
@@ -162,36 +133,38 @@ module _ (im : Image) (wf : WellFormed im) (f : ℕ) (c : Context) (later : Late
   unfolding paramOf
   param-name i h = name-inside im wf i h
 
-  same-refined : (a n : ℕ) → a + n ≤ sizeOf im Parameters →
-      refinementChecks end (map (paramOf end) (upFrom a n)) ≡ refinementChecks im (map (paramOf im) (upFrom a n))
-  unfolding upFrom refinementChecks
-  same-refined a zero h = refl
-  same-refined a (suc n) h =
-      ap₂ (λ p rest. checkFirst end (p .name) (p .refinement) rest) (same-paramOf a) (same-refined (a + 1) n (omega arith))
-      ∙ same-first (paramOf im a .name) (paramOf im a .refinement) _ (param-name a (omega arith)) (refinement-inside im wf a (omega arith))
+  same-params : (a n : ℕ) → a + n ≤ sizeOf im Parameters →
+      map (mapParam (textOf end)) (map (paramOf end) (upFrom a n)) ≡ map (mapParam (textOf im)) (map (paramOf im) (upFrom a n))
+  unfolding upFrom
+  same-params a zero h = refl
+  same-params a (suc n) h =
+      ap₂ (λ x xs. x ∷ xs)
+      (ap (mapParam (textOf end)) (same-paramOf a)
+      ∙ (λ j. record { name = same-text (paramOf im a .name) (param-name a (omega arith)) j; refinement = same-refinement (paramOf im a .refinement) (refinement-inside im wf a (omega arith)) j }))
+      (same-params (a + 1) n (omega arith))
 
   -- ---- its clauses
 
-  same-message : (default : Text) (n : ℕ) → (n ≡ 65535) ⊎ (n < sizeOf im Expressions) →
-      messageOr end default (messageNode end n) ≡ messageOr im default (messageNode im n)
-  same-message default n (inl q) = rw q refl
-  same-message default n (inr h) = rw (ne-eqb n 65535 (λ q. omega (arith, few im wf Expressions))) (same-expr n h)
+  same-message : (n : ℕ) → (n ≡ 65535) ⊎ (n < sizeOf im Expressions) →
+      Option·map (mapExpr (textOf end)) (messageNode end n) ≡ Option·map (mapExpr (textOf im)) (messageNode im n)
+  same-message n (inl q) = rw q refl
+  same-message n (inr h) = rw (ne-eqb n 65535 (λ q. omega (arith, few im wf Expressions))) (ap some (same-expr n h))
 
-  same-clauseCheck : (default : Text) (i : ℕ) → i < sizeOf im Clauses → clauseCheck end default (clauseOf end i) ≡ clauseCheck im default (clauseOf im i)
+  same-clauseOf : (i : ℕ) → i < sizeOf im Clauses → mapClause (textOf end) (clauseOf end i) ≡ mapClause (textOf im) (clauseOf im i)
   unfolding clauseOf clauseAt
-  same-clauseCheck default i h =
+  same-clauseOf i h =
       let x : ClauseFits im wf (recordOf im Clauses i) = clause-fits im wf i h in
       (λ j. record {
         condition = mapExpr (textOf end) (exprTree end (same-clause i j .condition));
-        message = messageOr end default (messageNode end (same-clause i j .message));
+        message = Option·map (mapExpr (textOf end)) (messageNode end (same-clause i j .message));
       })
-      ∙ (λ j. record { condition = same-expr _ (x .0) j; message = same-message default _ (x .1) j })
+      ∙ (λ j. record { condition = same-expr _ (x .0) j; message = same-message _ (x .1) j })
 
-  same-clauses : (default : Text) (a n : ℕ) → a + n ≤ sizeOf im Clauses →
-      map (λ i. clauseCheck end default (clauseOf end i)) (upFrom a n) ≡ map (λ i. clauseCheck im default (clauseOf im i)) (upFrom a n)
+  same-clauses : (a n : ℕ) → a + n ≤ sizeOf im Clauses →
+      map (mapClause (textOf end)) (map (clauseOf end) (upFrom a n)) ≡ map (mapClause (textOf im)) (map (clauseOf im) (upFrom a n))
   unfolding upFrom
-  same-clauses default a zero h = refl
-  same-clauses default a (suc n) h = ap₂ (λ x xs. x ∷ xs) (same-clauseCheck default a (omega arith)) (same-clauses default (a + 1) n (omega arith))
+  same-clauses a zero h = refl
+  same-clauses a (suc n) h = ap₂ (λ x xs. x ∷ xs) (same-clauseOf a (omega arith)) (same-clauses (a + 1) n (omega arith))
 
   -- ---- another function
 
@@ -212,19 +185,13 @@ module _ (im : Image) (wf : WellFormed im) (f : ℕ) (c : Context) (later : Late
         ∙ body-of (c .image) l (keep-holds (later .image) (record { inside = x .inside; is = refl })) (keep-lines (later .image) (body-stands im wf g inside))
 
     other-same : contractFunction end g ≡ contractFunction im g
-    unfolding contractFunction functionAt
+    unfolding contractFunction contractsOf functionAt
     other-same =
         let x = function-fits im wf g inside in
         (λ j. contractOf end (same-function j))
-        ∙ (λ j.
-        record {
-          name = same-text _ (x .name) j;
-          params = same-names _ _ (x .params) j;
-          isResult = functionAt im g .result;
-          entry = same-refined _ _ (x .params) j ++ same-clauses (ascii "requires violated") _ _ (x .required) j;
-          ensures = same-clauses (ascii "ensures violated") _ _ (x .ensured) j;
-          body = same-body j;
-        })
+        ∙ (λ j. contracted (same-text _ (x .name) j) (functionAt im g .result)
+        (record { params = same-params _ _ (x .params) j; requires = same-clauses _ _ (x .required) j })
+        (same-clauses _ _ (x .ensured) j) (same-body j))
 
 -- THEOREM: each other function is as it was
 pub others-same : (im im′ : Image) (f : ℕ) → WellFormed im → lowered im f ≡ some im′ →

@@ -13,7 +13,7 @@ use Rattle.rl_spec.specs.Tree.{Expr, literal, identifier, unary, binary, assign
 use Rattle.rl_spec.specs.Fold.{unaryValue, binaryValue}
 use Rattle.rl_spec.specs.Statement.{Stmt, declaration, expression, return, conditional, while, Body, nil, _▸_, Branch, branch, noElse, elseConditional}
 use Rattle.rl_spec.specs.Message.{decimalBy, decimal}
-use Rattle.rl_spec.specs.Functions.{Text}
+use Rattle.rl_spec.specs.Mapped.{Text}
 use Rattle.rl_spec.specs.Run.{Plain, folded, Value, plain, ok, err, folds, Outcome, returned, stopped, fault, spent, used, find, update, eval}
 use Rattle.rl_spec.specs.Reading.{Check, Function, checks, turns, stmt, body, top, runFunction, reading}
 use Rattle.rl_theorems.specs.Lowering.LowerTrees.{_⧺_, guards, transformStmt, trailing, withoutLast, lowered}

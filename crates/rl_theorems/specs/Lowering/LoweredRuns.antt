@@ -8,7 +8,7 @@ use mathlib.Core.List.{List, [], _∷_}
 use mathlib.Core.Option.{none}
 use Rattle.rl_spec.specs.Tree.{ascii}
 use Rattle.rl_spec.specs.Statement.{Stmt, declaration, expression, return, returnAlone, conditional, while, loop, break, continue, otherStatement, Body, nil, _▸_}
-use Rattle.rl_spec.specs.Functions.{Text}
+use Rattle.rl_spec.specs.Mapped.{Text}
 use Rattle.rl_spec.specs.Run.{Value}
 use Rattle.rl_spec.specs.Reading.{Check, Function, runFunction, reading}
 use Rattle.rl_theorems.specs.Lowering.LowerTrees.{_⧺_, temporary, wrapReturn, transformStmt, transformBody, trailing, withoutLast, wrapTrailing, ensured, lowered}

@@ -8,7 +8,7 @@ use mathlib.Core.List.{List, [], _∷_}
 use mathlib.Core.Option.{Option, none}
 use Rattle.rl_spec.specs.Tree.{Expr, null, ascii}
 use Rattle.rl_spec.specs.Statement.{Stmt, declaration, expression, return, returnAlone, conditional, while, loop, break, continue, otherStatement, Body, nil, _▸_, Branch, branch, Else, noElse, elseBranch, elseConditional}
-use Rattle.rl_spec.specs.Functions.{Text}
+use Rattle.rl_spec.specs.Mapped.{Text}
 use Rattle.rl_spec.specs.Run.{Value, Result, got, ended, ending, Run, andThen, _>>=_, _>>_, give, tick, scoped}
 use Rattle.rl_spec.specs.Reading.{Check, Function, plainly, checked, modeOf, bare, onlyReturned, withReturn, bodyUnder, onward, followed, followedTop, repeat, loopTurn, when, bindAll, checks, taken, whileTurn, stmt, body, branchOr, orElse, top, runFunction, reading}
 use Rattle.rl_theorems.specs.Lowering.LowerTrees.{_⧺_, guards, reserved, retName, wrapAs, temporary, transformStmt, transformBody, transformBranch, transformElse}

@@ -12,19 +12,20 @@ use Rattle.rl_spec.specs.Schema.{limits}
 use Rattle.rl_spec.specs.Image.{Field, num, pair, Rec, Image, recordsOf, sizeOf, noRecord, recordOf, fieldOf, first}
 use Rattle.rl_spec.specs.Tree.{Expr}
 use Rattle.rl_spec.specs.Ranges.{upFrom}
-use Rattle.rl_spec.specs.Functions.{Text}
+use Rattle.rl_spec.specs.Mapped.{Text}
 use Rattle.rl_spec.specs.Make.{Context, withBytes, most, append, made, newText, newList, stmt}
 use Rattle.rl_spec.specs.Lower.{expr}
+use Rattle.rl_spec.specs.Statement.{Item}
 use Rattle.rl_images.specs.Lowering.Gives.{weaker}
 use Rattle.rl_images.specs.Lowering.Grows.{Eight, records-own, Growing, appended, Appended, textRecords, withText, listRecords}
-use Rattle.rl_images.specs.Lowering.GrowsTo.{Good, _▹_, append-good, text-good, list-good}
+use Rattle.rl_images.specs.Lowering.GrowsTo.{GrowsTo, _▹_, append-good, text-good, list-good}
 use Rattle.rl_images.specs.Lowering.NewRecords.{record-ok}
-use Rattle.rl_theorems.specs.Trees.Denotes.{Says, Holds, IsExpr, stands, Reads, keep-reads, Line, IsLine, standsLine, ReadsLine, keep-reads-line}
+use Rattle.rl_theorems.specs.Trees.Denotes.{Says, Holds, IsExpr, stands, Reads, keep-reads, IsLine, standsLine, ReadsLine, keep-reads-line}
 
 -- ---- one record
 
 pub expr-ok : (k : ℕ) (fs : List Field) (ctx : Context) →
-    Good ctx (λ n c. (e : Expr Text) → Reads (ctx .image) (sizeOf (ctx .image) Expressions) k (num (ctx .span) ∷ fs) e → IsExpr (c .image) n e)
+    GrowsTo ctx (λ n c. (e : Expr Text) → Reads (ctx .image) (sizeOf (ctx .image) Expressions) k (num (ctx .span) ∷ fs) e → IsExpr (c .image) n e)
     (expr k fs ctx)
 unfolding expr
 expr-ok k fs ctx =
@@ -32,7 +33,7 @@ expr-ok k fs ctx =
     stands k (num (ctx .span) ∷ fs) (h .1) (rw (h .0) (keep-reads (l .image) d))
 
 pub stmt-ok : (k span : ℕ) (fs : List Field) (ctx : Context) →
-    Good ctx (λ n c. (x : Line) → ReadsLine (ctx .image) (sizeOf (ctx .image) Statements) k (num span ∷ fs) x → IsLine (c .image) n x)
+    GrowsTo ctx (λ n c. (x : Item Text) → ReadsLine (ctx .image) (sizeOf (ctx .image) Statements) k (num span ∷ fs) x → IsLine (c .image) n x)
     (stmt k span fs ctx)
 unfolding stmt
 stmt-ok k span fs ctx =
@@ -58,7 +59,7 @@ text-says im s e = record {
     record-is : recordOf (withText im s) Texts (sizeOf im Texts) ≡ made 2 (pair (length (im .bytes)) (length s) ∷ [])
     record-is = ap (λ l. getD l (sizeOf im Texts) noRecord) own ∙ getD-append-seam (recordsOf im Texts) _ [] noRecord
 
-pub text-ok : (s : List ℕ) (ctx : Context) → Good ctx (λ t c. Says (c .image) t s) (newText s ctx)
+pub text-ok : (s : List ℕ) (ctx : Context) → GrowsTo ctx (λ t c. Says (c .image) t s) (newText s ctx)
 text-ok s ctx =
     record { makes = λ e. weaker (text-good s ctx .makes e) λ t c h. (h .0, rw (h .1 .is, h .1 .at) (text-says (ctx .image) s e)) }
 
@@ -77,7 +78,7 @@ new-entries l (n ∷ ns) =
     r : Rec
     r = made 3 (num n ∷ [])
 
-pub list-ok : (ns : List ℕ) (ctx : Context) → Good ctx (λ list c. Holds (c .image) list ns) (newList ns ctx)
+pub list-ok : (ns : List ℕ) (ctx : Context) → GrowsTo ctx (λ list c. Holds (c .image) list ns) (newList ns ctx)
 list-ok ns ctx = record {
   makes = λ e. weaker (list-good ns ctx .makes e) λ list c h. (h .0, rw (h .1 .is, h .1 .at) (held e));
 }

@@ -14,9 +14,9 @@ use Rattle.rl_spec.specs.declared.Section.the-variants.{Statements}
 use Rattle.rl_spec.specs.declared.Clause.{Clause}
 use Rattle.rl_spec.specs.Image.{Field, Image, recordOf}
 use Rattle.rl_spec.specs.Tree.{Expr, ascii, number}
-use Rattle.rl_spec.specs.Statement.{Stmt, declaration, expression, return, returnAlone, conditional, while, loop, break, continue, otherStatement, Body, nil, _▸_, statementBy}
+use Rattle.rl_spec.specs.Statement.{Stmt, declaration, expression, return, returnAlone, conditional, while, loop, break, continue, otherStatement, Body, nil, _▸_, statementBy, Item, asStatement}
 use Rattle.rl_spec.specs.Contracts.{isEmpty}
-use Rattle.rl_spec.specs.Functions.{Text}
+use Rattle.rl_spec.specs.Mapped.{Text}
 use Rattle.rl_spec.specs.Reading.{Check, bare}
 use Rattle.rl_spec.specs.Make.{Context, give, made}
 use Rattle.rl_spec.specs.Lower.{transformStatement, lastOf, wrapTrailing, ensuredBody}
@@ -25,8 +25,8 @@ use Rattle.rl_theorems.specs.Lowering.LowerTrees.{_⧺_}
 use Rattle.rl_theorems.specs.Lowering.LowerFrame.{begins}
 use Rattle.rl_theorems.specs.Lowering.LowerBodies.{NoBare, Some, NoBareLast, OnlyBare, append-nil as body-nil}
 use Rattle.rl_theorems.specs.Lowering.LoweredTo.{expressionTo, BodyTo, nilTo, consTo, no-bare-to, something-to, EnsuredTo, wrapped, onlyWrapped}
-use Rattle.rl_images.specs.Lowering.GrowsTo.{Good, _▷_, _▹_, given, test}
-use Rattle.rl_theorems.specs.Trees.Denotes.{IsExpr, Line, asStmt, standsLine, ReadsLine, aDeclaration, anExpression, aReturn, aReturnAlone, aConditional, anArm, aWhile, aLoop, aBreak, aContinue, anOtherLine, Rows, noRows, aRow}
+use Rattle.rl_images.specs.Lowering.GrowsTo.{GrowsTo, _▷_, _▹_, given, test}
+use Rattle.rl_theorems.specs.Trees.Denotes.{IsExpr, standsLine, ReadsLine, aDeclaration, anExpression, aReturn, aReturnAlone, aConditional, anArm, aWhile, aLoop, aBreak, aContinue, anOtherLine, Rows, noRows, aRow}
 use Rattle.rl_theorems.specs.Trees.DenotingStatements.{not-other}
 use Rattle.rl_theorems.specs.Lowering.Guarded.{Lines, Checks, keep-checks}
 use Rattle.rl_theorems.specs.Lowering.Wrapped.{wrapped-ok}
@@ -59,7 +59,7 @@ no-last-to {r} {ks} (consTo {a = a} {b′ = b′} p (consTo p′ ps q′) q) h =
 
 module _ {im : Image} where
   -- a bare expression is of kind 65, and the other way round
-  bare-reads : {i k : ℕ} {fs : List Field} {x : Line} {e : Expr Text} → ReadsLine im i k fs x → bare (asStmt x) ≡ some e →
+  bare-reads : {i k : ℕ} {fs : List Field} {x : Item Text} {e : Expr Text} → ReadsLine im i k fs x → bare (asStatement x) ≡ some e →
       (k ≡ 65) × IsExpr im (number (made k fs) 1) e
   bare-reads (aDeclaration q t h) b = absurd (Option·none-ne-some _ b)
   bare-reads {e = e} (anExpression {n = n} {e = d} q h) b = (q, subst (IsExpr im n) (Option·some-injective d e b) h)
@@ -73,7 +73,7 @@ module _ {im : Image} where
   bare-reads (aContinue q) b = absurd (Option·none-ne-some _ b)
   bare-reads (anOtherLine o) b = absurd (Option·none-ne-some _ b)
 
-  bare-kind : {i k : ℕ} {fs : List Field} {x : Line} → ReadsLine im i k fs x → bare (asStmt x) ≡ none → k ≡ 65 → ⊥
+  bare-kind : {i k : ℕ} {fs : List Field} {x : Item Text} → ReadsLine im i k fs x → bare (asStatement x) ≡ none → k ≡ 65 → ⊥
   unfolding statementBy
   bare-kind (aDeclaration q t h) b e = omega arith
   bare-kind (anExpression q h) b e = Option·none-ne-some _ (sym b)
@@ -131,7 +131,7 @@ record Ended (ensures : List Clause) (ctx : Context) (ns ms : List ℕ) (c : Con
       Lines (ctx .image) ns (expression e ▸ nil) →
       (t : Text) × (begins tree.reserved t ≡ true) × Lines (c .image) ms (tree.wrapAs (ctx .isResult) ks t e)
 
-trailing-ok : (ensures : List Clause) (ns : List ℕ) (ctx : Context) → Good ctx (Ended ensures ctx ns) (wrapTrailing ensures ns ctx)
+trailing-ok : (ensures : List Clause) (ns : List ℕ) (ctx : Context) → GrowsTo ctx (Ended ensures ctx ns) (wrapTrailing ensures ns ctx)
 unfolding wrapTrailing
 trailing-ok ensures ns ctx =
     test (endsBare (ctx .image) ns) _ (give ns) ctx
@@ -176,7 +176,7 @@ EnsuredRows ensures r im ns ms im′ =
 
 -- THEOREM: the body under ensures
 pub ensured-ok : (ensures : List Clause) (ns : List ℕ) (ctx : Context) →
-    Good ctx (λ ms c. EnsuredRows ensures (ctx .isResult) (ctx .image) ns ms (c .image)) (ensuredBody ensures ns ctx)
+    GrowsTo ctx (λ ms c. EnsuredRows ensures (ctx .isResult) (ctx .image) ns ms (c .image)) (ensuredBody ensures ns ctx)
 ensured-ok ensures ns ctx =
     rows-ok ensures (transformStatement ensures) (transform-ok ensures) ns ctx ▷ λ ss c₁ k₁ h₁. trailing-ok ensures ss c₁ ▹ λ ms c₂ k₂ h₂.
     λ k ks i b d x o.

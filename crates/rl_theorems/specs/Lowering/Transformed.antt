@@ -12,8 +12,8 @@ use Rattle.rl_spec.specs.declared.Section.the-variants.{Statements}
 use Rattle.rl_spec.specs.declared.Clause.{Clause}
 use Rattle.rl_spec.specs.Image.{Field, num, Rec, Image, sizeOf, recordOf, fieldOf, first}
 use Rattle.rl_spec.specs.Tree.{Expr, null, ascii, number, below}
-use Rattle.rl_spec.specs.Statement.{Stmt, conditional, while, loop as loopTree, otherStatement, Body, nil, _▸_, Branch, branch, Else, statementBy}
-use Rattle.rl_spec.specs.Functions.{Text}
+use Rattle.rl_spec.specs.Statement.{Stmt, conditional, while, loop as loopTree, otherStatement, Body, nil, _▸_, Branch, branch, Else, statementBy, Item, aStatement, aBranch, asStatement}
+use Rattle.rl_spec.specs.Mapped.{Text}
 use Rattle.rl_spec.specs.Reading.{Check}
 use Rattle.rl_spec.specs.Make.{Context, Make, andThen, _>>=_, give, fail, self, each, flatMap, made, stmt, entriesOf}
 use Rattle.rl_spec.specs.Lower.{transformReturns, transformList, transformBranch, transformElse, transformArm, conditional as makeConditional, match, loop, only, transformStatementBy, transformStatement}
@@ -21,8 +21,8 @@ use Rattle.rl_laws.specs.Descend.{descend-is}
 use Rattle.rl_theorems.specs.Lowering.LowerTrees.{_⧺_}
 use Rattle.rl_theorems.specs.Lowering.LoweredTo.{StmtTo, declarationTo, expressionTo, returnTo, returnAloneTo, conditionalTo, whileTo, loopTo, breakTo, continueTo, otherTo, BodyTo, nilTo, consTo, BranchTo, branchTo, ElseTo, noElseTo, elseBranchTo, elseConditionalTo}
 use Rattle.rl_images.specs.Lowering.Grows.{Grows}
-use Rattle.rl_images.specs.Lowering.GrowsTo.{Good, _▷_, _▹_, given, stopped, test, Anything, only-grows, under}
-use Rattle.rl_theorems.specs.Trees.Denotes.{Holds, IsExpr, aNull, Line, line, arm, asStmt, OtherLine, IsLine, standsLine, ReadsLine, aDeclaration, anExpression, aReturn, aReturnAlone, aConditional, anArm, aWhile, aLoop, aBreak, aContinue, anOtherLine, IsElse, withoutElse, anElse, aChain, Rows, noRows, aRow, keep, keep-condition, keep-line, keep-else, keep-rows}
+use Rattle.rl_images.specs.Lowering.GrowsTo.{GrowsTo, _▷_, _▹_, given, stopped, test, Anything, only-grows, under}
+use Rattle.rl_theorems.specs.Trees.Denotes.{Holds, IsExpr, aNull, OtherLine, IsLine, standsLine, ReadsLine, aDeclaration, anExpression, aReturn, aReturnAlone, aConditional, anArm, aWhile, aLoop, aBreak, aContinue, anOtherLine, IsElse, withoutElse, anElse, aChain, Rows, noRows, aRow, keep, keep-condition, keep-line, keep-else, keep-rows}
 use Rattle.rl_theorems.specs.Trees.DenotedTrees.{not-none}
 use Rattle.rl_theorems.specs.Lowering.MadeTrees.{expr-ok, stmt-ok, list-ok}
 use Rattle.rl_theorems.specs.Trees.DenotingStatements.{not-other}
@@ -37,7 +37,7 @@ module _ (ensures : List Clause) where
 
   abbrev pub LineTo : Bool → Image → ℕ → List ℕ → Image → Type 0
   LineTo r im n ns im′ =
-      (ks : List (Check Text)) (x : Line) → Ensures im ks → IsLine im n x → (a : Body Text) × Lines im′ ns a × StmtTo r ks (asStmt x) a
+      (ks : List (Check Text)) (x : Item Text) → Ensures im ks → IsLine im n x → (a : Body Text) × Lines im′ ns a × StmtTo r ks (asStatement x) a
 
   abbrev pub RowsTo : Bool → Image → List ℕ → List ℕ → Image → Type 0
   RowsTo r im ns ms im′ =
@@ -60,11 +60,11 @@ module _ (ensures : List Clause) where
       (s .0 ⧺ t .0, both-lines (keep-lines g′ (s .1)) (t .1), consTo (subst (λ z. StmtTo r ks z (s .0)) (sym e) (s .2)) (t .2) refl)
 
   abbrev pub Walks : (ℕ → Make (List ℕ)) → Type 0
-  Walks walk = (n : ℕ) (ctx : Context) → Good ctx (λ ns c. LineTo (ctx .isResult) (ctx .image) n ns (c .image)) (walk n ctx)
+  Walks walk = (n : ℕ) (ctx : Context) → GrowsTo ctx (λ ns c. LineTo (ctx .isResult) (ctx .image) n ns (c .image)) (walk n ctx)
 
   module _ (walk : ℕ → Make (List ℕ)) (walks : Walks walk) where
     pub rows-ok : (ns : List ℕ) (ctx : Context) →
-        Good ctx (λ ms c. RowsTo (ctx .isResult) (ctx .image) ns ms (c .image)) (transformReturns walk ns ctx)
+        GrowsTo ctx (λ ms c. RowsTo (ctx .isResult) (ctx .image) ns ms (c .image)) (transformReturns walk ns ctx)
     unfolding flatMap
     rows-ok [] ctx = given (no-rows (ctx .isResult) (ctx .image) (ctx .image))
     rows-ok (n ∷ l) ctx =
@@ -72,7 +72,7 @@ module _ (ensures : List Clause) where
         given (more-rows (ctx .isResult) (k₁ .image) (k₂ .image) h₁ (rw (k₁ .isResult) at h₂))
 
     rows-list : (f : Field) (ctx : Context) →
-        Good ctx (λ g c. ListTo (ctx .isResult) (ctx .image) f g (c .image)) (transformList walk f ctx)
+        GrowsTo ctx (λ g c. ListTo (ctx .isResult) (ctx .image) f g (c .image)) (transformList walk f ctx)
     rows-list f ctx =
         rows-ok (entriesOf (ctx .image) f) ctx ▷ λ ms c₁ k₁ h₁. list-ok ms c₁ ▹ λ g c₂ k₂ h₂ ks i ns b d x y.
         let s = h₁ ks i b d (rw (x .is) y) in
@@ -81,46 +81,46 @@ module _ (ensures : List Clause) where
     -- ---- any record, of which nothing is known
 
     rebuilt : (list : Field) (k span : ℕ) (fields : Field → List Field) (ctx : Context) →
-        Good ctx (λ n c. OtherLine k → IsLine (c .image) n (line otherStatement))
+        GrowsTo ctx (λ n c. OtherLine k → IsLine (c .image) n (aStatement otherStatement))
         ((transformList walk list >>= λ body. stmt k span (fields body)) ctx)
     rebuilt list k span fields ctx =
         rows-list list ctx ▷ λ body c₁ k₁ h₁. stmt-ok k span (fields body) c₁ ▹ λ n c₂ k₂ f o. f _ (anOtherLine o)
 
-    only-ok : (m : Make ℕ) (ctx : Context) (P : Type 0) → Good ctx (λ n c. P → IsLine (c .image) n (line otherStatement)) (m ctx) →
-        Good ctx (λ ns c. P → Lines (c .image) ns (otherStatement ▸ nil)) (only walk m ctx)
+    only-ok : (m : Make ℕ) (ctx : Context) (P : Type 0) → GrowsTo ctx (λ n c. P → IsLine (c .image) n (aStatement otherStatement)) (m ctx) →
+        GrowsTo ctx (λ ns c. P → Lines (c .image) ns (otherStatement ▸ nil)) (only walk m ctx)
     only-ok m ctx P g = g ▷ λ n c k h. given λ p. a-line (h p) noRows
 
     loop-ok : (r : Rec) (before : List Field) (list : Field) (ctx : Context) →
-        Good ctx (λ ns c. OtherLine (r .kind) → Lines (c .image) ns (otherStatement ▸ nil)) (only walk (loop walk r before list) ctx)
+        GrowsTo ctx (λ ns c. OtherLine (r .kind) → Lines (c .image) ns (otherStatement ▸ nil)) (only walk (loop walk r before list) ctx)
     loop-ok r before list ctx =
         only-ok (loop walk r before list) ctx (OtherLine (r .kind)) (rebuilt list (r .kind) (number r 0) (λ body. before ++ body ∷ []) ctx)
 
-    arm-grows : (s : ℕ) (ctx : Context) → Good ctx Anything (transformArm walk s ctx)
+    arm-grows : (s : ℕ) (ctx : Context) → GrowsTo ctx Anything (transformArm walk s ctx)
     unfolding transformArm
     arm-grows s ctx = let r = recordOf (ctx .image) Statements s in
         only-grows (rebuilt (fieldOf r 2) 76 (number r 0) (λ body. fieldOf r 1 ∷ body ∷ []) ctx)
 
-    arms-grow : (ss : List ℕ) (ctx : Context) → Good ctx Anything (each (transformArm walk) ss ctx)
+    arms-grow : (ss : List ℕ) (ctx : Context) → GrowsTo ctx Anything (each (transformArm walk) ss ctx)
     unfolding each
     arms-grow [] ctx = given tt
     arms-grow (s ∷ ss) ctx = arm-grows s ctx ▷ λ n c₁ k₁ h₁. arms-grow ss c₁ ▷ λ ns c₂ k₂ h₂. given tt
 
-    match-ok : (r : Rec) (ctx : Context) → Good ctx (λ ns c. OtherLine 75 →
+    match-ok : (r : Rec) (ctx : Context) → GrowsTo ctx (λ ns c. OtherLine 75 →
         Lines (c .image) ns (otherStatement ▸ nil)) (only walk (match walk r) ctx)
     match-ok r ctx = only-ok (match walk r) ctx (OtherLine 75)
         (arms-grow (entriesOf (ctx .image) (fieldOf r 2)) ctx ▷ λ ss c₁ k₁ h₁. list-ok ss c₁ ▷ λ arms c₂ k₂ h₂.
         stmt-ok 75 (number r 0) (fieldOf r 1 ∷ arms ∷ []) c₂ ▹ λ n c₃ k₃ f o. f _ (anOtherLine o))
 
-    branch-grows : (s : ℕ) (ctx : Context) → Good ctx Anything (transformBranch walk s ctx)
+    branch-grows : (s : ℕ) (ctx : Context) → GrowsTo ctx Anything (transformBranch walk s ctx)
     unfolding transformBranch
     branch-grows s ctx = let r = recordOf (ctx .image) Statements s in
         test (eqb (r .kind) 69) _ (give s) ctx
         (λ q. only-grows (rebuilt (fieldOf r 2) 69 (number r 0) (λ body. fieldOf r 1 ∷ body ∷ num 0 ∷ []) ctx)) (λ q. given tt)
 
-    else-grows : (s : ℕ) (ctx : Context) → Good ctx Anything (transformElse walk s ctx)
+    else-grows : (s : ℕ) (ctx : Context) → GrowsTo ctx Anything (transformElse walk s ctx)
     else-grows s ctx = test (eqb s 65535) (give s) (transformBranch walk s) ctx (λ q. given tt) (λ q. branch-grows s ctx)
 
-    conditional-grows : (r : Rec) (ctx : Context) → Good ctx Anything (only walk (makeConditional walk r) ctx)
+    conditional-grows : (r : Rec) (ctx : Context) → GrowsTo ctx Anything (only walk (makeConditional walk r) ctx)
     conditional-grows r ctx =
         (branch-grows (number r 1) ctx ▷ λ branch c₁ k₁ h₁. else-grows (number r 2) c₁ ▷ λ other c₂ k₂ h₂.
         only-grows (stmt-ok 68 (number r 0) (num branch ∷ num other ∷ []) c₂)) ▷ λ n c k h. given tt
@@ -134,7 +134,7 @@ module _ (ensures : List Clause) where
         (cond (eqb (r .kind) 75) (only walk (match walk r)) (give (s ∷ [])))))
 
     others-ok : (s : ℕ) (r : Rec) (ctx : Context) →
-        Good ctx (λ ns c. OtherLine (r .kind) → IsLine (ctx .image) s (line otherStatement) → Lines (c .image) ns (otherStatement ▸ nil))
+        GrowsTo ctx (λ ns c. OtherLine (r .kind) → IsLine (ctx .image) s (aStatement otherStatement) → Lines (c .image) ns (otherStatement ▸ nil))
         (others s r ctx)
     others-ok s r ctx =
         test (eqb (r .kind) 72) _ _ ctx
@@ -144,7 +144,7 @@ module _ (ensures : List Clause) where
         test (eqb (r .kind) 75) _ _ ctx (λ q. match-ok r ctx ▹ λ ns c k h o x. h (subst OtherLine (eqb-true (r .kind) 75 q) o)) λ q₄.
         given λ o x. a-line x noRows
 
-    statement-grows : (s : ℕ) (r : Rec) (ctx : Context) → Good ctx Anything (transformStatementBy walk ensures s r ctx)
+    statement-grows : (s : ℕ) (r : Rec) (ctx : Context) → GrowsTo ctx Anything (transformStatementBy walk ensures s r ctx)
     statement-grows s r ctx =
         test (eqb (r .kind) 66) _ _ ctx (λ q. only-grows (wrapped-ok (number r 1) ensures ctx)) λ q₁.
         test (eqb (r .kind) 67) _ _ ctx (λ q. expr-ok 16 [] ctx ▷ λ null c₁ k₁ h₁. only-grows (wrapped-ok null ensures c₁)) λ q₂.
@@ -158,8 +158,8 @@ module _ (ensures : List Clause) where
       abbrev r : Bool
       r = ctx .isResult
 
-      branch-known : {s : ℕ} {b : Branch Text} → IsLine (ctx .image) s (arm b) →
-          Good ctx (λ n c. (b′ : Branch Text) × IsLine (c .image) n (arm b′) × BranchTo r ks b b′) (transformBranch walk s ctx)
+      branch-known : {s : ℕ} {b : Branch Text} → IsLine (ctx .image) s (aBranch b) →
+          GrowsTo ctx (λ n c. (b′ : Branch Text) × IsLine (c .image) n (aBranch b′) × BranchTo r ks b b′) (transformBranch walk s ctx)
       unfolding transformBranch
       branch-known {s} (standsLine k fs h (anArm {n = n} {list = list} {ns = ns} {b = b} q c l rs)) =
           rw (h .is, q) (rows-list list ctx ▷ λ g c₁ k₁ h₁. stmt-ok 69 _ (num n ∷ g ∷ num 0 ∷ []) c₁ ▹ λ m c₂ k₂ f.
@@ -167,13 +167,13 @@ module _ (ensures : List Clause) where
           (_, f _ (anArm refl (keep-condition (k₁ .image) c) (t .2) (t .3)), branchTo (t .4)))
 
       -- a conditional that is an else branch is left alone
-      chain-known : {s : ℕ} {b : Branch Text} {e : Else Text} → IsLine (ctx .image) s (line (conditional b e)) →
-          Good ctx (λ n c. IsLine (c .image) n (line (conditional b e))) (transformBranch walk s ctx)
+      chain-known : {s : ℕ} {b : Branch Text} {e : Else Text} → IsLine (ctx .image) s (aStatement (conditional b e)) →
+          GrowsTo ctx (λ n c. IsLine (c .image) n (aStatement (conditional b e))) (transformBranch walk s ctx)
       unfolding transformBranch
       chain-known (standsLine k fs h (aConditional q l x o)) = rw (h .is, q) (given (standsLine k fs h (aConditional q l x o)))
 
       else-known : {i s : ℕ} {e : Else Text} → IsElse (ctx .image) i s e →
-          Good ctx (λ n c. (e′ : Else Text) × IsElse (c .image) (sizeOf (c .image) Statements) n e′ × ElseTo r ks e e′)
+          GrowsTo ctx (λ n c. (e′ : Else Text) × IsElse (c .image) (sizeOf (c .image) Statements) n e′ × ElseTo r ks e e′)
           (transformElse walk s ctx)
       else-known (withoutElse q) = rw q (given (_, withoutElse refl, noElseTo))
       else-known (anElse l h) =
@@ -187,14 +187,14 @@ module _ (ensures : List Clause) where
 
       -- one statement for one
       abbrev Single : Stmt Text → ℕ → Context → Type 0
-      Single s n c = (a : Stmt Text) × IsLine (c .image) n (line a) × StmtTo (ctx .isResult) ks s (a ▸ nil)
+      Single s n c = (a : Stmt Text) × IsLine (c .image) n (aStatement a) × StmtTo (ctx .isResult) ks s (a ▸ nil)
 
-      alone : {s : Stmt Text} {o : Option (ℕ × Context)} → Good ctx (Single s) o → Good ctx (Result s) (andThen o (λ n. give (n ∷ [])))
+      alone : {s : Stmt Text} {o : Option (ℕ × Context)} → GrowsTo ctx (Single s) o → GrowsTo ctx (Result s) (andThen o (λ n. give (n ∷ [])))
       alone g = g ▷ λ n c k t. given (_, a-line (t .1) noRows, t .2)
 
-      conditional-known : {i : ℕ} (n o span : ℕ) {b : Branch Text} {e : Else Text} → IsLine (ctx .image) n (arm b) →
+      conditional-known : {i : ℕ} (n o span : ℕ) {b : Branch Text} {e : Else Text} → IsLine (ctx .image) n (aBranch b) →
           IsElse (ctx .image) i o e →
-          Good ctx (Single (conditional b e))
+          GrowsTo ctx (Single (conditional b e))
           ((transformBranch walk n >>= λ branch. transformElse walk o >>= λ other. stmt 68 span (num branch ∷ num other ∷ [])) ctx)
       conditional-known n o span h x =
           branch-known ctx ks d h ▷ λ branch c₁ k₁ t.
@@ -205,21 +205,21 @@ module _ (ensures : List Clause) where
 
       while-known : {i : ℕ} (n span : ℕ) (list : Field) {ns : List ℕ} {e : Expr Text} {b : Body Text} → IsExpr (ctx .image) n e →
           Holds (ctx .image) list ns →
-          Rows (ctx .image) i ns b → Good ctx (Single (while e b)) ((transformList walk list >>= λ body. stmt 70 span (num n ∷ body ∷ [])) ctx)
+          Rows (ctx .image) i ns b → GrowsTo ctx (Single (while e b)) ((transformList walk list >>= λ body. stmt 70 span (num n ∷ body ∷ [])) ctx)
       while-known {i} n span list {ns} {b = b} e h rs =
           rows-list list ctx ▷ λ g c₁ k₁ h₁. stmt-ok 70 span (num n ∷ g ∷ []) c₁ ▹ λ m c₂ k₂ f.
           let t = h₁ ks i ns b d h rs in
           (_, f _ (aWhile refl (keep (k₁ .image) e) (t .2) (t .3)), whileTo (t .4))
 
       loop-known : {i : ℕ} (span : ℕ) (list : Field) {ns : List ℕ} {b : Body Text} → Holds (ctx .image) list ns →
-          Rows (ctx .image) i ns b → Good ctx (Single (loopTree b)) ((transformList walk list >>= λ body. stmt 71 span (body ∷ [])) ctx)
+          Rows (ctx .image) i ns b → GrowsTo ctx (Single (loopTree b)) ((transformList walk list >>= λ body. stmt 71 span (body ∷ [])) ctx)
       loop-known {i} span list {ns} {b = b} h rs =
           rows-list list ctx ▷ λ g c₁ k₁ h₁. stmt-ok 71 span (g ∷ []) c₁ ▹ λ m c₂ k₂ f.
           let t = h₁ ks i ns b d h rs in
           (_, f _ (aLoop refl (t .2) (t .3)), loopTo (t .4))
 
-      other-known : (k : ℕ) (fs : List Field) (s : ℕ) → OtherLine k → IsLine (ctx .image) s (line otherStatement) →
-          Good ctx (Result otherStatement) (transformStatementBy walk ensures s (made k fs) ctx)
+      other-known : (k : ℕ) (fs : List Field) (s : ℕ) → OtherLine k → IsLine (ctx .image) s (aStatement otherStatement) →
+          GrowsTo ctx (Result otherStatement) (transformStatementBy walk ensures s (made k fs) ctx)
       unfolding statementBy
       other-known k fs s o x =
           test (eqb k 66) _ _ ctx (λ q. not-other k fs o (rw (eqb-true k 66 q) refl)) λ q₁.
@@ -230,12 +230,12 @@ module _ (ensures : List Clause) where
           others-ok s (made k fs) ctx ▹ λ ns c l h. (_, h o x, otherTo)
 
       -- as it is
-      left : {s : ℕ} {x : Line} → IsLine (ctx .image) s x → StmtTo (ctx .isResult) ks (asStmt x) (asStmt x ▸ nil) →
-          Good ctx (Result (asStmt x)) (some (s ∷ [], ctx))
+      left : {s : ℕ} {x : Item Text} → IsLine (ctx .image) s x → StmtTo (ctx .isResult) ks (asStatement x) (asStatement x ▸ nil) →
+          GrowsTo ctx (Result (asStatement x)) (some (s ∷ [], ctx))
       left h t = given (_, aRow (line-inside h) h refl noRows, t)
 
-      reads-known : {s k : ℕ} {fs : List Field} {x : Line} → IsLine (ctx .image) s x → ReadsLine (ctx .image) s k fs x →
-          Good ctx (Result (asStmt x)) (transformStatementBy walk ensures s (made k fs) ctx)
+      reads-known : {s k : ℕ} {fs : List Field} {x : Item Text} → IsLine (ctx .image) s x → ReadsLine (ctx .image) s k fs x →
+          GrowsTo ctx (Result (asStatement x)) (transformStatementBy walk ensures s (made k fs) ctx)
       reads-known is (aDeclaration q t h) = rw q (left is declarationTo)
       reads-known is (anExpression q h) = rw q (left is expressionTo)
       reads-known is (aReturn {n = n} {e = e} q h) =
@@ -251,30 +251,30 @@ module _ (ensures : List Clause) where
       reads-known is (aContinue q) = rw q (left is continueTo)
       reads-known {s} {k} {fs} is (anOtherLine o) = other-known k fs s o is
 
-      statement-known : {s : ℕ} {x : Line} → IsLine (ctx .image) s x →
-          Good ctx (Result (asStmt x)) (transformStatementBy walk ensures s (recordOf (ctx .image) Statements s) ctx)
+      statement-known : {s : ℕ} {x : Item Text} → IsLine (ctx .image) s x →
+          GrowsTo ctx (Result (asStatement x)) (transformStatementBy walk ensures s (recordOf (ctx .image) Statements s) ctx)
       statement-known (standsLine k fs h t) = rw (h .is) (reads-known (standsLine k fs h t) t)
 
     step-ok : (s : ℕ) (ctx : Context) →
-        Good ctx (λ ns c. LineTo (ctx .isResult) (ctx .image) s ns (c .image))
+        GrowsTo ctx (λ ns c. LineTo (ctx .isResult) (ctx .image) s ns (c .image))
         (transformStatementBy walk ensures s (recordOf (ctx .image) Statements s) ctx)
     step-ok s ctx =
         under (statement-grows s (recordOf (ctx .image) Statements s) ctx) known ▹ λ ns c k h ks x d l. h (ks, x, d, l)
       where
-        known : (p : (ks : List (Check Text)) × (x : Line) × Ensures (ctx .image) ks × IsLine (ctx .image) s x) →
-            Good ctx (λ ns c. (a : Body Text) × Lines (c .image) ns a × StmtTo (ctx .isResult) (p .0) (asStmt (p .1)) a)
+        known : (p : (ks : List (Check Text)) × (x : Item Text) × Ensures (ctx .image) ks × IsLine (ctx .image) s x) →
+            GrowsTo ctx (λ ns c. (a : Body Text) × Lines (c .image) ns a × StmtTo (ctx .isResult) (p .0) (asStatement (p .1)) a)
             (transformStatementBy walk ensures s (recordOf (ctx .image) Statements s) ctx)
         known p = statement-known ctx (p .0) (p .2) (p .3)
 
   -- ---- all statements
 
   walks-below : (i : ℕ) → ((n : ℕ) → n < i → (ctx : Context) →
-      Good ctx (λ ns c. LineTo (ctx .isResult) (ctx .image) n ns (c .image))
+      GrowsTo ctx (λ ns c. LineTo (ctx .isResult) (ctx .image) n ns (c .image))
       (transformStatement ensures n ctx)) → Walks (below i fail (transformStatement ensures))
   walks-below i h n ctx = test (ltb n i) (transformStatement ensures n) fail ctx (λ q. h n (ltb-true n i q) ctx) (λ q. stopped)
 
   walk-under : (b i : ℕ) → i < b → (ctx : Context) →
-      Good ctx (λ ns c. LineTo (ctx .isResult) (ctx .image) i ns (c .image)) (transformStatement ensures i ctx)
+      GrowsTo ctx (λ ns c. LineTo (ctx .isResult) (ctx .image) i ns (c .image)) (transformStatement ensures i ctx)
   unfolding transformStatement
   walk-under zero i l ctx = absurd (omega arith)
   walk-under (suc b) i l ctx = rw (descend-is fail step i)

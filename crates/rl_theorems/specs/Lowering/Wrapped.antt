@@ -7,9 +7,9 @@ use mathlib.Core.List.{List, [], _∷_, _++_}
 use Rattle.rl_spec.specs.declared.Clause.{Clause}
 use Rattle.rl_spec.specs.Image.{num, Image}
 use Rattle.rl_spec.specs.Tree.{Expr, identifier, ascii}
-use Rattle.rl_spec.specs.Statement.{declaration, return, Body, nil, _▸_}
+use Rattle.rl_spec.specs.Statement.{declaration, return, Body, nil, _▸_, aStatement}
 use Rattle.rl_spec.specs.Message.{decimal}
-use Rattle.rl_spec.specs.Functions.{Text}
+use Rattle.rl_spec.specs.Mapped.{Text}
 use Rattle.rl_spec.specs.Reading.{Check}
 use Rattle.rl_spec.specs.Make.{Context, give}
 use Rattle.rl_spec.specs.Lower.{declare, unwrapCall, returnOf, skipErr, wrapAs, wrapReturn}
@@ -17,8 +17,8 @@ use Rattle.rl_theorems.specs.Lowering.LowerTrees as tree
 use Rattle.rl_theorems.specs.Lowering.LowerTrees.{_⧺_}
 use Rattle.rl_theorems.specs.Lowering.LowerFrame.{begins}
 use Rattle.rl_theorems.specs.Lowering.LowerBodies.{temporary-reserved}
-use Rattle.rl_images.specs.Lowering.GrowsTo.{_⊕_, Good, _▷_, _▹_, given, temp-good}
-use Rattle.rl_theorems.specs.Trees.Denotes.{IsExpr, line, IsLine, aDeclaration, noRows, keep, keep-line}
+use Rattle.rl_images.specs.Lowering.GrowsTo.{_⊕_, GrowsTo, _▷_, _▹_, given, temp-good}
+use Rattle.rl_theorems.specs.Trees.Denotes.{IsExpr, IsLine, aDeclaration, noRows, keep, keep-line}
 use Rattle.rl_theorems.specs.Lowering.MadeTrees.{stmt-ok, text-ok}
 use Rattle.rl_theorems.specs.Lowering.Guarded.{Lines, a-line, keep-lines, both-lines, ident-ok, isErr-ok, unwrap-ok, return-ok, only-ok, Checks, keep-checks, guards-ok}
 
@@ -43,26 +43,26 @@ wrap-parts false ks t e =
 -- ---- the parts
 
 declare-ok : (name : Text) (value : ℕ) (ctx : Context) →
-    Good ctx (λ n c. (e : Expr Text) → IsExpr (ctx .image) value e → IsLine (c .image) n (line (declaration name e)))
+    GrowsTo ctx (λ n c. (e : Expr Text) → IsExpr (ctx .image) value e → IsLine (c .image) n (aStatement (declaration name e)))
     (declare name value ctx)
 unfolding declare
 declare-ok name value ctx =
     text-ok name ctx ▷ λ t c₁ k₁ h₁. stmt-ok 64 (c₁ .span) (num t ∷ num 0 ∷ num value ∷ num 0 ∷ []) c₁ ▹ λ n c₂ k₂ f e h.
     f _ (aDeclaration refl h₁ (keep (k₁ .image) h))
 
-returnOf-ok : (temp : Text) (ctx : Context) → Good ctx (λ n c. IsLine (c .image) n (line (return (identifier temp)))) (returnOf temp ctx)
+returnOf-ok : (temp : Text) (ctx : Context) → GrowsTo ctx (λ n c. IsLine (c .image) n (aStatement (return (identifier temp)))) (returnOf temp ctx)
 unfolding returnOf
 returnOf-ok temp ctx = ident-ok temp ctx ▷ λ n c₁ k₁ h₁. return-ok n c₁ ▹ λ s c₂ k₂ f. f _ h₁
 
 skip-ok : (r : Bool) (temp : Text) (ctx : Context) →
-    Good ctx (λ ns c. Lines (c .image) ns (tree.skipErr r temp nil)) (cond r (skipErr temp) (give []) ctx)
+    GrowsTo ctx (λ ns c. Lines (c .image) ns (tree.skipErr r temp nil)) (cond r (skipErr temp) (give []) ctx)
 skip-ok true temp ctx =
     ident-ok temp ctx ▷ λ n c₁ k₁ h₁. isErr-ok n c₁ ▷ λ check c₂ k₂ h₂. returnOf-ok temp c₂ ▷ λ s c₃ k₃ h₃.
     only-ok check s c₃ ▷ λ skip c₄ k₄ h₄. given (a-line (h₄ _ _ (keep (k₃ .image) (h₂ _ h₁)) h₃) noRows)
 skip-ok false temp ctx = given noRows
 
 inner-ok : (r : Bool) (temp : Text) (n : ℕ) (ctx : Context) →
-    Good ctx (λ m c. IsExpr (ctx .image) n (identifier temp) → IsExpr (c .image) m (tree.inner r temp)) (cond r (unwrapCall n) (give n) ctx)
+    GrowsTo ctx (λ m c. IsExpr (ctx .image) n (identifier temp) → IsExpr (c .image) m (tree.inner r temp)) (cond r (unwrapCall n) (give n) ctx)
 inner-ok true temp n ctx = unwrap-ok n ctx ▹ λ m c k f h. f _ h
 inner-ok false temp n ctx = given λ h. h
 
@@ -74,7 +74,7 @@ WrapTo r temp im value ensures im′ ns =
     Lines im′ ns (tree.wrapAs r ks temp e)
 
 wrap-ok : (temp : Text) (value : ℕ) (ensures : List Clause) (ctx : Context) →
-    Good ctx (λ ns c. WrapTo (ctx .isResult) temp (ctx .image) value ensures (c .image) ns) (wrapAs temp (ctx .isResult) value ensures ctx)
+    GrowsTo ctx (λ ns c. WrapTo (ctx .isResult) temp (ctx .image) value ensures (c .image) ns) (wrapAs temp (ctx .isResult) value ensures ctx)
 unfolding wrapAs
 wrap-ok temp value ensures ctx =
     declare-ok temp value ctx ▷ λ dec c₁ k₁ h₁. skip-ok r temp c₁ ▷ λ skip c₂ k₂ h₂. ident-ok temp c₂ ▷ λ n c₃ k₃ h₃.
@@ -92,7 +92,7 @@ wrap-ok temp value ensures ctx =
 
 -- THEOREM: a wrapped return, under a name that is reserved
 pub wrapped-ok : (value : ℕ) (ensures : List Clause) (ctx : Context) →
-    Good ctx (λ ns c. (t : Text) × (begins tree.reserved t ≡ true) × WrapTo (ctx .isResult) t (ctx .image) value ensures (c .image) ns)
+    GrowsTo ctx (λ ns c. (t : Text) × (begins tree.reserved t ≡ true) × WrapTo (ctx .isResult) t (ctx .image) value ensures (c .image) ns)
     (wrapReturn value ensures ctx)
 unfolding wrapReturn
 wrapped-ok value ensures ctx =

@@ -4,10 +4,10 @@ use Prim.Native.Nat.{ℕ, zero, suc}
 use mathlib.Core.Path.{_≡_, refl, ap, ap₂, _∙_, subst⁻¹}
 use mathlib.Core.Bool.{Bool, true, false}
 use mathlib.Core.List.{List, [], _∷_, map}
-use mathlib.Core.Option.{Option, none, some}
+use mathlib.Core.Option.{Option, none, some, Option·map}
 use Rattle.rl_spec.specs.Tree.{Expr}
 use Rattle.rl_spec.specs.Statement.{Stmt, declaration, expression, return, returnAlone, conditional, while, loop, break, continue, otherStatement, Body, nil, _▸_, Branch, branch, Else, noElse, elseBranch, elseConditional}
-use Rattle.rl_spec.specs.Functions.{mapOption, mapValue, mapOutcome, mapExpr, mapStmt, mapBody, mapBranch, mapElse}
+use Rattle.rl_spec.specs.Mapped.{mapValue, mapOutcome, mapExpr, mapStmt, mapBody, mapBranch, mapElse}
 use Rattle.rl_spec.specs.Run.{nothing, Value, plain, ok, err, named, hidden, Outcome, returned, stopped, fault, Result, got, ended, ending, Run, give, bind, eval}
 use Rattle.rl_spec.specs.Reading.{Check, Function, Mode, plainly, checked, modeOf, bare, onlyReturned, withReturn, bodyUnder, Flow, onward, breaks, continues, followed, followedTop, again, turns, repeat, loopTurn, when, unless, bindAll, content, subject, violated, check, checks, checkedReturn, returning, returningNull, taken, whileTurn, stmt, body, branchOr, orElse, lastOr, top, entering, runFunction, reading}
 use Rattle.rl_theorems.specs.Runs.Texts.{mapResult, Alike, same, then, gives, halts, ticks, charges, binds, scopes, truths, plainOfs, evals}
@@ -98,7 +98,7 @@ module _ {A B : Type 0} (f : A → B) (bytesA : A → List ℕ) (bytesB : B → 
 
   -- ---- checks and returns
 
-  takens : (c : Option (Expr A)) → Alike f same (taken bytesA c) (taken bytesB (mapOption f (mapExpr f) c))
+  takens : (c : Option (Expr A)) → Alike f same (taken bytesA c) (taken bytesB (Option·map (mapExpr f) c))
   takens none = gives f same true
   takens (some e) = then f _ (evs e) (truths f 2)
 
@@ -161,7 +161,7 @@ module _ {A B : Type 0} (f : A → B) (bytesA : A → List ℕ) (bytesB : B → 
     elses m (elseBranch b) = branches m b (give onward) (give onward) (gives f same onward)
     elses m (elseConditional b e) = branches plainly b (orElse bytesA plainly e) (orElse bytesB plainly (mapElse f e)) (elses plainly e)
 
-  bare-same : (s : Stmt A) → bare (mapStmt f s) ≡ mapOption f (mapExpr f) (bare s)
+  bare-same : (s : Stmt A) → bare (mapStmt f s) ≡ Option·map (mapExpr f) (bare s)
   unfolding mapStmt
   bare-same (declaration x e) = refl
   bare-same (expression e) = refl
@@ -174,7 +174,7 @@ module _ {A B : Type 0} (f : A → B) (bytesA : A → List ℕ) (bytesB : B → 
   bare-same continue = refl
   bare-same otherStatement = refl
 
-  lasts : (o : Option (Expr A)) {k : Run A Flow} {k′ : Run B Flow} → Alike f same k k′ → Alike f (mapValue f) (lastOr bytesA o k) (lastOr bytesB (mapOption f (mapExpr f) o) k′)
+  lasts : (o : Option (Expr A)) {k : Run A Flow} {k′ : Run B Flow} → Alike f same k k′ → Alike f (mapValue f) (lastOr bytesA o k) (lastOr bytesB (Option·map (mapExpr f) o) k′)
   lasts none h = then f _ h (λ w. tops-next f w (gives f (mapValue f) (plain nothing)))
   lasts (some e) h = then f _ (ticks f) (λ _. evs e)
 
@@ -207,7 +207,7 @@ module _ {A B : Type 0} (f : A → B) (bytesA : A → List ℕ) (bytesB : B → 
   mode-same ret r [] = refl
   mode-same ret r (c ∷ cs) = refl
 
-  only-same : (s : Stmt A) (o : Option (Expr A)) → onlyReturned (mapStmt f s) (mapOption f (mapExpr f) o) ≡ mapBody f (onlyReturned s o)
+  only-same : (s : Stmt A) (o : Option (Expr A)) → onlyReturned (mapStmt f s) (Option·map (mapExpr f) o) ≡ mapBody f (onlyReturned s o)
   unfolding mapBody mapStmt
   only-same s none = refl
   only-same s (some e) = refl

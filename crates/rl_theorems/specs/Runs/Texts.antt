@@ -5,7 +5,7 @@ use Prim.Native.Nat.{ℕ, zero, suc, _-_, _^_}
 use mathlib.Core.Path.{_≡_, refl, ap, ap₂, _∙_, subst⁻¹}
 use mathlib.Core.Bool.{Bool, true, false, cond, _||_}
 use mathlib.Core.List.{List, [], _∷_, map}
-use mathlib.Core.Option.{Option, none, some}
+use mathlib.Core.Option.{Option, none, some, Option·map}
 use lib.Dec.{ltb, eqb}
 use lib.IntN.{ℤ, pos, negℤ, _+ℤ_, _-ℤ_, _*ℤ_}
 use lib.Signed.{mag, quotZ}
@@ -16,7 +16,7 @@ use Rattle.rl_spec.specs.Values as value
 use Rattle.rl_spec.specs.Values.{ConstVal, RefineOp, gt, ge, lt, le, eq, ne, ArithOp, plus, minus, star, slash, compareBy, sameText, lessText, compareValues, arithInts, roundedOnce, arithFloats, arithValues, bang, negate}
 use Rattle.rl_spec.specs.Fold.{boolean, unaryValue, binaryValue}
 use Rattle.rl_spec.specs.Tree.{Expr, null, literal, identifier, unary, binary, grouping, assign, okLiteral, errLiteral, isErr, resultUnwrap, other}
-use Rattle.rl_spec.specs.Functions.{mapOption, mapConst, mapPlain, mapValue, mapOutcome, mapExpr}
+use Rattle.rl_spec.specs.Mapped.{mapConst, mapPlain, mapValue, mapOutcome, mapExpr}
 use Rattle.rl_spec.specs.Run.{nothing, folded, Value, plain, ok, err, Bound, named, hidden, Env, Outcome, stopped, fault, Result, got, ended, Run, andThen, _>>=_, give, halt, orFault, tick, charge, bind, leaving, scoped, truth, plainOf, errOf, unwrapped, operand, find, behind, update, look, store, unaryOn, binaryOn, eval}
 
 -- ---- bindings and results with their texts mapped
@@ -45,14 +45,14 @@ cond-both : {X Y : Type 0} (g : X → Y) (b : Bool) {x y : X} {x′ y′ : Y} �
 cond-both g true p q = p
 cond-both g false p q = q
 
-cond-at : {X Y : Type 0} (g : X → Y) {b b′ : Bool} {x y : X} {x′ y′ : Y} → b′ ≡ b → x′ ≡ g x → y′ ≡ g y → cond b′ x′ y′ ≡ g (cond b x y)
+pub cond-at : {X Y : Type 0} (g : X → Y) {b b′ : Bool} {x y : X} {x′ y′ : Y} → b′ ≡ b → x′ ≡ g x → y′ ≡ g y → cond b′ x′ y′ ≡ g (cond b x y)
 cond-at g {b = b} {x′ = x′} {y′ = y′} e p q = ap (λ c. cond c x′ y′) e ∙ cond-both g b p q
 
 -- ---- operators on values
 
 module _ {A B : Type 0} (f : A → B) where
   abbrev pub mapMaybe : Option (ConstVal A) → Option (ConstVal B)
-  mapMaybe o = mapOption f (mapConst f) o
+  mapMaybe o = Option·map (mapConst f) o
 
   -- the second is the first, mapped
   pub record Maps (x : Option (ConstVal A)) (x′ : Option (ConstVal B)) : Type 0 where
@@ -123,12 +123,12 @@ module _ {A B : Type 0} (f : A → B) where
 
 module _ {A B : Type 0} (f : A → B) (bytesA : A → List ℕ) (bytesB : B → List ℕ) (keeps : (t : A) → bytesB (f t) ≡ bytesA t) where
   abbrev mapFound : Option (Value A) → Option (Value B)
-  mapFound o = mapOption f (mapValue f) o
+  mapFound o = Option·map (mapValue f) o
 
   abbrev mapChanged : Option (Env A) → Option (Env B)
-  mapChanged o = mapOption f (mapEnv f) o
+  mapChanged o = Option·map (mapEnv f) o
 
-  compare-same : (op : RefineOp) (x y : ConstVal A) → compareValues bytesB op (mapConst f x) (mapConst f y) ≡ compareValues bytesA op x y
+  pub compare-same : (op : RefineOp) (x y : ConstVal A) → compareValues bytesB op (mapConst f x) (mapConst f y) ≡ compareValues bytesA op x y
   unfolding compareValues
   compare-same op (value.int x) (value.int y) = refl
   compare-same op (value.int x) (value.float y) = refl
@@ -219,7 +219,7 @@ module _ {A B : Type 0} (f : A → B) where
   charges zero = gives same tt
   charges (suc k) = then _ ticks (λ _. charges k)
 
-  orFaults : {X Y : Type 0} (g : X → Y) (k : ℕ) (o : Option X) → Alike f g (orFault k o) (orFault k (mapOption f g o))
+  orFaults : {X Y : Type 0} (g : X → Y) (k : ℕ) (o : Option X) → Alike f g (orFault k o) (orFault k (Option·map g o))
   orFaults g k none = halts g (fault k)
   orFaults g k (some a) = gives g a
 
@@ -285,7 +285,7 @@ module _ {A B : Type 0} (f : A → B) (bytesA : A → List ℕ) (bytesB : B → 
       }
 
   store-same : (o : Option (Env A)) (env : Env A) (n : ℕ) →
-      andThen (orFault 3 (mapOption f (mapEnv f) o) (mapEnv f env) n) (λ e _ m. got (tt {0}) e m) ≡ mapResult f same (andThen (orFault 3 o env n) (λ e _ m. got (tt {0}) e m))
+      andThen (orFault 3 (Option·map (mapEnv f) o) (mapEnv f env) n) (λ e _ m. got (tt {0}) e m) ≡ mapResult f same (andThen (orFault 3 o env n) (λ e _ m. got (tt {0}) e m))
   store-same none env n = refl
   store-same (some e) env n = refl
 

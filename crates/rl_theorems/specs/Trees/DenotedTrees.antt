@@ -4,7 +4,7 @@ use Prim.Native.Nat.{ℕ, zero, suc, _+_, _^_, _<_}
 use mathlib.Core.Path.{_≡_, refl, ap, ap₂, sym, _∙_}
 use mathlib.Core.Bool.{Bool, true, false, cond}
 use mathlib.Core.List.{List, [], _∷_, map, map-map}
-use mathlib.Core.Option.{Option, none, some}
+use mathlib.Core.Option.{Option, none, some, Option·map}
 use native.Mathlib.Omega.{arith}
 use lib.Dec.{ltb, eqb}
 use lib.IntN.{pos}
@@ -20,10 +20,11 @@ use Rattle.rl_spec.specs.Tree.{Expr, literal, identifier, unary, binary, groupi
 use Rattle.rl_spec.specs.Statement.{declaration, expression, return, returnAlone, conditional, while, loop, break, continue, otherStatement, Body, nil, _▸_, Branch, branch, Else, noElse, elseBranch, elseConditional, Item, aStatement, aBranch, asStatement, asBranch, asElse, bodyFrom, bodyBy, conditionBy, elseBy, statementBy, itemBy, itemTree, bodyTree}
 use Rattle.rl_spec.specs.Ranges.{interval}
 use Rattle.rl_spec.specs.Ranges.{upFrom}
-use Rattle.rl_spec.specs.Functions.{Text, mapOption, mapConst, mapExpr, mapStmt, mapBody, mapBranch, mapElse}
+use Rattle.rl_spec.specs.Mapped.{Text, mapConst, mapExpr, mapStmt, mapBody, mapElse, mapItem}
 use Rattle.rl_spec.specs.Make.{made}
 use Rattle.rl_laws.specs.Descend.{tree-is, item-is, below-earlier, under-earlier}
-use Rattle.rl_theorems.specs.Trees.Denotes.{AllSay, noneSay, alsoSays, Holds, Plain, anInteger, anSInt, aUInt, aBool, aFloat, anSFloat, isRes, callTree, IsExpr, stands, Reads, aNull, aLiteral, aString, anIdentifier, aBinary, aUnary, aGrouping, anAssign, aCall, anOk, anErr, anOther, Args, noArgs, anArg, Line, line, arm, asStmt, IsCondition, noCondition, aCondition, IsLine, standsLine, ReadsLine, aDeclaration, anExpression, aReturn, aReturnAlone, aConditional, anArm, aWhile, aLoop, aBreak, aContinue, anOtherLine, IsElse, withoutElse, anElse, aChain, Rows, noRows, aRow}
+use Rattle.rl_theorems.specs.Trees.MappedItems.{statement-mapped, branch-mapped, else-mapped}
+use Rattle.rl_theorems.specs.Trees.Denotes.{AllSay, noneSay, alsoSays, Holds, Plain, anInteger, anSInt, aUInt, aBool, aFloat, anSFloat, isRes, callTree, IsExpr, stands, Reads, aNull, aLiteral, aString, anIdentifier, aBinary, aUnary, aGrouping, anAssign, aCall, anOk, anErr, anOther, Args, noArgs, anArg, IsCondition, noCondition, aCondition, IsLine, standsLine, ReadsLine, aDeclaration, anExpression, aReturn, aReturnAlone, aConditional, anArm, aWhile, aLoop, aBreak, aContinue, anOtherLine, IsElse, withoutElse, anElse, aChain, Rows, noRows, aRow}
 
 -- ---- lists
 
@@ -65,7 +66,7 @@ module _ {im : Image} where
 -- ---- expressions
 
 unsigned-is : (f : ℕ → Text) (n : ℕ) (b : Bool) →
-    mapOption f (mapConst f) (foldedOf (cond b (Value (Int (pos n))) Nothing)) ≡ cond b (some (int (pos n))) none
+    Option·map (mapConst f) (foldedOf (cond b (Value (Int (pos n))) Nothing)) ≡ cond b (some (int (pos n))) none
 unsigned-is f n true = refl
 unsigned-is f n false = refl
 
@@ -127,107 +128,62 @@ module _ (im : Image) where
 
   -- ---- statements
 
-  abbrev lineOf : Item → Line
-  lineOf (aStatement s) = line (mapStmt texts s)
-  lineOf (aBranch b) = arm (mapBranch texts b)
-
-  abbrev armOf : Line → Branch Text
-  armOf (line s) = branch none nil
-  armOf (arm b) = b
-
-  abbrev elseLine : Line → Else Text
-  elseLine (line (declaration x e)) = noElse
-  elseLine (line (expression e)) = noElse
-  elseLine (line (return e)) = noElse
-  elseLine (line returnAlone) = noElse
-  elseLine (line (conditional b e)) = elseConditional b e
-  elseLine (line (while e b)) = noElse
-  elseLine (line (loop b)) = noElse
-  elseLine (line break) = noElse
-  elseLine (line continue) = noElse
-  elseLine (line otherStatement) = noElse
-  elseLine (arm b) = elseBranch b
-
-  statement-of : (x : Item) → mapStmt texts (asStatement x) ≡ asStmt (lineOf x)
-  unfolding mapStmt
-  statement-of (aStatement s) = refl
-  statement-of (aBranch b) = refl
-
-  arm-of : (x : Item) → mapBranch texts (asBranch x) ≡ armOf (lineOf x)
-  unfolding mapStmt
-  arm-of (aStatement s) = refl
-  arm-of (aBranch b) = refl
-
-  else-of : (x : Item) → mapElse texts (asElse x) ≡ elseLine (lineOf x)
-  unfolding mapStmt
-  else-of (aStatement (declaration x e)) = refl
-  else-of (aStatement (expression e)) = refl
-  else-of (aStatement (return e)) = refl
-  else-of (aStatement returnAlone) = refl
-  else-of (aStatement (conditional b e)) = refl
-  else-of (aStatement (while e b)) = refl
-  else-of (aStatement (loop b)) = refl
-  else-of (aStatement break) = refl
-  else-of (aStatement continue) = refl
-  else-of (aStatement otherStatement) = refl
-  else-of (aBranch b) = refl
-
-  condition-of : {n : ℕ} {c : Option (Expr Text)} → IsCondition im n c → mapOption texts (mapExpr texts) (conditionBy im n) ≡ c
+  condition-of : {n : ℕ} {c : Option (Expr Text)} → IsCondition im n c → Option·map (mapExpr texts) (conditionBy im n) ≡ c
   condition-of (noCondition q) = rw q refl
   condition-of (aCondition {n = n} (stands k fs h d)) =
       rw (ne-eqb n 65535 (λ q. omega (arith, h .small))) (ap some (tree-of (stands k fs h d)))
 
   -- the items before the i-th
-  abbrev items : ℕ → ℕ → Item
+  abbrev items : ℕ → ℕ → Item ℕ
   items i = below i (aStatement otherStatement) (itemTree im)
 
-  earlier : {i n : ℕ} {x : Line} → n < i → lineOf (itemTree im n) ≡ x → lineOf (items i n) ≡ x
-  earlier {i} {n} l h = ap lineOf (under-earlier (aStatement otherStatement) (itemTree im) i n l) ∙ h
+  earlier : {i n : ℕ} {x : Item Text} → n < i → mapItem texts (itemTree im n) ≡ x → mapItem texts (items i n) ≡ x
+  earlier {i} {n} l h = ap (mapItem texts) (under-earlier (aStatement otherStatement) (itemTree im) i n l) ∙ h
 
-  pub not-none : {n : ℕ} {x : Line} → IsLine im n x → eqb n 65535 ≡ false
+  pub not-none : {n : ℕ} {x : Item Text} → IsLine im n x → eqb n 65535 ≡ false
   not-none {n} (standsLine k fs h d) = ne-eqb n 65535 (λ q. omega (arith, h .small))
 
-  list-is : (item : ℕ → Item) (list : Field) (ns : List ℕ) → Holds im list ns → bodyBy im item (interval list) ≡ bodyFrom (map item ns)
+  list-is : (item : ℕ → Item ℕ) (list : Field) (ns : List ℕ) → Holds im list ns → bodyBy im item (interval list) ≡ bodyFrom (map item ns)
   list-is item list ns h = ap bodyFrom (sym (map-map item (entryOf im) (upFrom (first list) (second list))) ∙ ap (map item) (h .is))
 
   mutual
     unfolding statementBy mapStmt
 
-    pub line-of : {i : ℕ} {x : Line} → IsLine im i x → lineOf (itemTree im i) ≡ x
+    pub line-of : {i : ℕ} {x : Item Text} → IsLine im i x → mapItem texts (itemTree im i) ≡ x
     line-of (standsLine {i = i} k fs h d) =
-        ap lineOf (item-is im i ∙ ap (λ r. itemBy im (statementBy r) (items i)) (h .is)) ∙ line-reads d
+        ap (mapItem texts) (item-is im i ∙ ap (λ r. itemBy im (statementBy r) (items i)) (h .is)) ∙ line-reads d
 
-    line-reads : {i k : ℕ} {fs : List Field} {x : Line} → ReadsLine im i k fs x → lineOf (itemBy im (statementBy (made k fs)) (items i)) ≡ x
-    line-reads (aDeclaration q t h) = rw q (ap₂ (λ x e. line (declaration x e)) (t .is) (tree-of h))
-    line-reads (anExpression q h) = rw q (ap (λ e. line (expression e)) (tree-of h))
-    line-reads (aReturn q h) = rw q (ap (λ e. line (return e)) (tree-of h))
+    line-reads : {i k : ℕ} {fs : List Field} {x : Item Text} → ReadsLine im i k fs x → mapItem texts (itemBy im (statementBy (made k fs)) (items i)) ≡ x
+    line-reads (aDeclaration q t h) = rw q (ap₂ (λ x e. aStatement (declaration x e)) (t .is) (tree-of h))
+    line-reads (anExpression q h) = rw q (ap (λ e. aStatement (expression e)) (tree-of h))
+    line-reads (aReturn q h) = rw q (ap (λ e. aStatement (return e)) (tree-of h))
     line-reads (aReturnAlone q) = rw q refl
     line-reads (aConditional {i = i} {n = n} q l h e) =
-        rw q (ap₂ (λ b e. line (conditional b e)) (arm-of (items i n) ∙ ap armOf (earlier l (line-of h))) (else-reads e))
+        rw q (ap₂ (λ b e. aStatement (conditional b e)) (branch-mapped texts (items i n) ∙ ap asBranch (earlier l (line-of h))) (else-reads e))
     line-reads (anArm {i = i} {list = list} {ns = ns} q c h b) =
-        rw q (ap₂ (λ c b. arm (branch c b)) (condition-of c) (ap (mapBody texts) (list-is (items i) list ns h) ∙ rows-read b))
+        rw q (ap₂ (λ c b. aBranch (branch c b)) (condition-of c) (ap (mapBody texts) (list-is (items i) list ns h) ∙ rows-read b))
     line-reads (aWhile {i = i} {list = list} {ns = ns} q e h b) =
-        rw q (ap₂ (λ e b. line (while e b)) (tree-of e) (ap (mapBody texts) (list-is (items i) list ns h) ∙ rows-read b))
+        rw q (ap₂ (λ e b. aStatement (while e b)) (tree-of e) (ap (mapBody texts) (list-is (items i) list ns h) ∙ rows-read b))
     line-reads (aLoop {i = i} {list = list} {ns = ns} q h b) =
-        rw q (ap (λ b. line (loop b)) (ap (mapBody texts) (list-is (items i) list ns h) ∙ rows-read b))
+        rw q (ap (λ b. aStatement (loop b)) (ap (mapBody texts) (list-is (items i) list ns h) ∙ rows-read b))
     line-reads (aBreak q) = rw q refl
     line-reads (aContinue q) = rw q refl
-    line-reads (anOtherLine {i = i} {fs = fs} k) = ap (λ f. lineOf (itemBy im f (items i))) (k fs)
+    line-reads (anOtherLine {i = i} {fs = fs} k) = ap (λ f. mapItem texts (itemBy im f (items i))) (k fs)
 
     else-reads : {i n : ℕ} {e : Else Text} → IsElse im i n e → mapElse texts (elseBy (items i) n) ≡ e
     else-reads (withoutElse q) = rw q refl
-    else-reads (anElse {i = i} {n = n} l h) = rw (not-none h) (else-of (items i n) ∙ ap elseLine (earlier l (line-of h)))
-    else-reads (aChain {i = i} {n = n} l h) = rw (not-none h) (else-of (items i n) ∙ ap elseLine (earlier l (line-of h)))
+    else-reads (anElse {i = i} {n = n} l h) = rw (not-none h) (else-mapped texts (items i n) ∙ ap asElse (earlier l (line-of h)))
+    else-reads (aChain {i = i} {n = n} l h) = rw (not-none h) (else-mapped texts (items i n) ∙ ap asElse (earlier l (line-of h)))
 
     rows-read : {i : ℕ} {ns : List ℕ} {b : Body Text} → Rows im i ns b → mapBody texts (bodyFrom (map (items i) ns)) ≡ b
     rows-read noRows = refl
     rows-read (aRow {i = i} {n = n} l h q hs) =
-        ap₂ (λ s b. s ▸ b) (statement-of (items i n) ∙ ap asStmt (earlier l (line-of h)) ∙ sym q) (rows-read hs)
+        ap₂ (λ s b. s ▸ b) (statement-mapped texts (items i n) ∙ ap asStatement (earlier l (line-of h)) ∙ sym q) (rows-read hs)
 
   body-rows : {i : ℕ} {ns : List ℕ} {b : Body Text} → Rows im i ns b → mapBody texts (bodyFrom (map (itemTree im) ns)) ≡ b
   unfolding mapStmt
   body-rows noRows = refl
-  body-rows (aRow {n = n} l h q hs) = ap₂ (λ s b. s ▸ b) (statement-of (itemTree im n) ∙ ap asStmt (line-of h) ∙ sym q) (body-rows hs)
+  body-rows (aRow {n = n} l h q hs) = ap₂ (λ s b. s ▸ b) (statement-mapped texts (itemTree im n) ∙ ap asStatement (line-of h) ∙ sym q) (body-rows hs)
 
   -- THEOREM: the body of a list
   pub body-of : {i : ℕ} {ns : List ℕ} {b : Body Text} (list : Field) → Holds im list ns → Rows im i ns b →

@@ -17,9 +17,9 @@ use Rattle.rl_spec.specs.declared.StatementForm.the-variants as form
 use Rattle.rl_spec.specs.Image.{Field, num, Rec, Image, sizeOf, recordOf, fieldOf, first, second, entryOf, textOf}
 use Rattle.rl_spec.specs.Values.{ConstVal, int, float, str, bool, sameText}
 use Rattle.rl_spec.specs.Tree.{Expr, null, literal, identifier, unary, binary, grouping, assign, okLiteral, errLiteral, isErr, resultUnwrap, other, ascii, signed, formBy}
-use Rattle.rl_spec.specs.Statement.{Stmt, declaration, expression, return, returnAlone, conditional, while, loop, break, continue, otherStatement, Body, nil, _▸_, Branch, branch, Else, noElse, elseBranch, elseConditional, statementBy}
+use Rattle.rl_spec.specs.Statement.{Stmt, declaration, expression, return, returnAlone, conditional, while, loop, break, continue, otherStatement, Body, nil, _▸_, Branch, branch, Else, noElse, elseBranch, elseConditional, Item, aStatement, aBranch, asStatement, statementBy}
 use Rattle.rl_spec.specs.Ranges.{upFrom}
-use Rattle.rl_spec.specs.Functions.{Text}
+use Rattle.rl_spec.specs.Mapped.{Text}
 use Rattle.rl_spec.specs.Make.{made, entriesOf}
 use Rattle.rl_images.specs.Lowering.Grows.{Grows, size-grows, record-kept, entry-kept, text-kept, longer-length}
 use Rattle.rl_images.specs.Lowering.NewRecords.{At}
@@ -99,16 +99,6 @@ mutual
 
 -- ---- statements
 
--- a record of the section of statements is a statement or a branch
-pub data Line : Type 0 where
-  line : Stmt Text → Line
-  arm : Branch Text → Line
-
--- a branch among statements is a form that is not taken
-abbrev pub asStmt : Line → Stmt Text
-asStmt (line s) = s
-asStmt (arm b) = otherStatement
-
 abbrev pub OtherLine : ℕ → Type 0
 OtherLine k = (fs : List Field) → statementBy (made k fs) ≡ form.Other
 
@@ -118,41 +108,41 @@ pub data IsCondition (im : Image) : ℕ → Option (Expr Text) → Type 0 where
   aCondition : {n : ℕ} {e : Expr Text} → IsExpr im n e → IsCondition im n (some e)
 
 mutual
-  pub data IsLine (im : Image) : ℕ → Line → Type 0 where
-    standsLine : {i : ℕ} {x : Line} (k : ℕ) (fs : List Field) → At im Statements i (made k fs) → ReadsLine im i k fs x → IsLine im i x
+  pub data IsLine (im : Image) : ℕ → Item Text → Type 0 where
+    standsLine : {i : ℕ} {x : Item Text} (k : ℕ) (fs : List Field) → At im Statements i (made k fs) → ReadsLine im i k fs x → IsLine im i x
 
   -- as the i-th statement
-  pub data ReadsLine (im : Image) : ℕ → ℕ → List Field → Line → Type 0 where
+  pub data ReadsLine (im : Image) : ℕ → ℕ → List Field → Item Text → Type 0 where
     aDeclaration : {i t n k : ℕ} {s type rest : Field} {x : Text} {e : Expr Text} → k ≡ 64 → Says im t x → IsExpr im n e →
-        ReadsLine im i k (s ∷ num t ∷ type ∷ num n ∷ rest ∷ []) (line (declaration x e))
+        ReadsLine im i k (s ∷ num t ∷ type ∷ num n ∷ rest ∷ []) (aStatement (declaration x e))
     anExpression : {i n k : ℕ} {s : Field} {e : Expr Text} → k ≡ 65 → IsExpr im n e →
-        ReadsLine im i k (s ∷ num n ∷ []) (line (expression e))
-    aReturn : {i n k : ℕ} {s : Field} {e : Expr Text} → k ≡ 66 → IsExpr im n e → ReadsLine im i k (s ∷ num n ∷ []) (line (return e))
-    aReturnAlone : {i k : ℕ} {s : Field} → k ≡ 67 → ReadsLine im i k (s ∷ []) (line returnAlone)
-    aConditional : {i n o k : ℕ} {s : Field} {b : Branch Text} {e : Else Text} → k ≡ 68 → n < i → IsLine im n (arm b) → IsElse im i o e →
-        ReadsLine im i k (s ∷ num n ∷ num o ∷ []) (line (conditional b e))
+        ReadsLine im i k (s ∷ num n ∷ []) (aStatement (expression e))
+    aReturn : {i n k : ℕ} {s : Field} {e : Expr Text} → k ≡ 66 → IsExpr im n e → ReadsLine im i k (s ∷ num n ∷ []) (aStatement (return e))
+    aReturnAlone : {i k : ℕ} {s : Field} → k ≡ 67 → ReadsLine im i k (s ∷ []) (aStatement returnAlone)
+    aConditional : {i n o k : ℕ} {s : Field} {b : Branch Text} {e : Else Text} → k ≡ 68 → n < i → IsLine im n (aBranch b) → IsElse im i o e →
+        ReadsLine im i k (s ∷ num n ∷ num o ∷ []) (aStatement (conditional b e))
     anArm : {i n k : ℕ} {s list scope : Field} {ns : List ℕ} {c : Option (Expr Text)} {b : Body Text} → k ≡ 69 → IsCondition im n c →
         Holds im list ns →
-        Rows im i ns b → ReadsLine im i k (s ∷ num n ∷ list ∷ scope ∷ []) (arm (branch c b))
+        Rows im i ns b → ReadsLine im i k (s ∷ num n ∷ list ∷ scope ∷ []) (aBranch (branch c b))
     aWhile : {i n k : ℕ} {s list : Field} {ns : List ℕ} {e : Expr Text} {b : Body Text} → k ≡ 70 → IsExpr im n e → Holds im list ns →
         Rows im i ns b →
-        ReadsLine im i k (s ∷ num n ∷ list ∷ []) (line (while e b))
+        ReadsLine im i k (s ∷ num n ∷ list ∷ []) (aStatement (while e b))
     aLoop : {i k : ℕ} {s list : Field} {ns : List ℕ} {b : Body Text} → k ≡ 71 → Holds im list ns → Rows im i ns b →
-        ReadsLine im i k (s ∷ list ∷ []) (line (loop b))
-    aBreak : {i k : ℕ} {s : Field} → k ≡ 77 → ReadsLine im i k (s ∷ []) (line break)
-    aContinue : {i k : ℕ} {s : Field} → k ≡ 78 → ReadsLine im i k (s ∷ []) (line continue)
-    anOtherLine : {i k : ℕ} {fs : List Field} → OtherLine k → ReadsLine im i k fs (line otherStatement)
+        ReadsLine im i k (s ∷ list ∷ []) (aStatement (loop b))
+    aBreak : {i k : ℕ} {s : Field} → k ≡ 77 → ReadsLine im i k (s ∷ []) (aStatement break)
+    aContinue : {i k : ℕ} {s : Field} → k ≡ 78 → ReadsLine im i k (s ∷ []) (aStatement continue)
+    anOtherLine : {i k : ℕ} {fs : List Field} → OtherLine k → ReadsLine im i k fs (aStatement otherStatement)
 
   pub data IsElse (im : Image) : ℕ → ℕ → Else Text → Type 0 where
     withoutElse : {i n : ℕ} → n ≡ 65535 → IsElse im i n noElse
-    anElse : {i n : ℕ} {b : Branch Text} → n < i → IsLine im n (arm b) → IsElse im i n (elseBranch b)
-    aChain : {i n : ℕ} {b : Branch Text} {e : Else Text} → n < i → IsLine im n (line (conditional b e)) →
+    anElse : {i n : ℕ} {b : Branch Text} → n < i → IsLine im n (aBranch b) → IsElse im i n (elseBranch b)
+    aChain : {i n : ℕ} {b : Branch Text} {e : Else Text} → n < i → IsLine im n (aStatement (conditional b e)) →
         IsElse im i n (elseConditional b e)
 
   -- statements in a row, all before the i-th
   pub data Rows (im : Image) : ℕ → List ℕ → Body Text → Type 0 where
     noRows : {i : ℕ} → Rows im i [] nil
-    aRow : {i n : ℕ} {x : Line} {ns : List ℕ} {s : Stmt Text} {b : Body Text} → n < i → IsLine im n x → s ≡ asStmt x → Rows im i ns b →
+    aRow : {i n : ℕ} {x : Item Text} {ns : List ℕ} {s : Stmt Text} {b : Body Text} → n < i → IsLine im n x → s ≡ asStatement x → Rows im i ns b →
         Rows im i (n ∷ ns) (s ▸ b)
 
 -- ---- growth keeps them
@@ -210,10 +200,10 @@ module _ {im im′ : Image} (g : Grows im im′) where
   keep-condition (aCondition h) = aCondition (keep h)
 
   mutual
-    pub keep-line : {i : ℕ} {x : Line} → IsLine im i x → IsLine im′ i x
+    pub keep-line : {i : ℕ} {x : Item Text} → IsLine im i x → IsLine im′ i x
     keep-line (standsLine k fs h d) = standsLine k fs (keep-at h) (keep-reads-line d)
 
-    pub keep-reads-line : {i k : ℕ} {fs : List Field} {x : Line} → ReadsLine im i k fs x → ReadsLine im′ i k fs x
+    pub keep-reads-line : {i k : ℕ} {fs : List Field} {x : Item Text} → ReadsLine im i k fs x → ReadsLine im′ i k fs x
     keep-reads-line (aDeclaration q t h) = aDeclaration q (keep-says t) (keep h)
     keep-reads-line (anExpression q h) = anExpression q (keep h)
     keep-reads-line (aReturn q h) = aReturn q (keep h)

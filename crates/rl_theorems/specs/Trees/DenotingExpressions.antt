@@ -15,7 +15,7 @@ use Rattle.rl_spec.specs.Schema.{limits, schema, sortOf, fieldsIn, fieldsOf}
 use Rattle.rl_spec.specs.Image.{Field, Rec, Image, sizeOf, recordOf, fieldOf, first, second, entryOf, textOf, Entries, RecordFits, WellFormed}
 use Rattle.rl_spec.specs.Tree.{Expr, formBy}
 use Rattle.rl_spec.specs.Ranges.{upFrom}
-use Rattle.rl_spec.specs.Functions.{Text}
+use Rattle.rl_spec.specs.Mapped.{Text}
 use Rattle.rl_spec.specs.Make.{made}
 use Rattle.rl_laws.specs.Tests.{by-eqb}
 use Rattle.rl_images.specs.Images.SchemaSorts.{kind-range}

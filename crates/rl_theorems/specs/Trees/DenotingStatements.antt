@@ -16,13 +16,13 @@ use Rattle.rl_spec.specs.declared.StatementForm.the-variants as form
 use Rattle.rl_spec.specs.Schema.{schema, sortOf, fieldsIn, fieldsOf}
 use Rattle.rl_spec.specs.Image.{Field, pair, Image, sizeOf, recordOf, entryOf, Refers, Entries, RecordFits, WellFormed}
 use Rattle.rl_spec.specs.Tree.{Expr}
-use Rattle.rl_spec.specs.Statement.{conditional, Body, nil, _▸_, Branch, Else, statementBy}
+use Rattle.rl_spec.specs.Statement.{conditional, Body, nil, _▸_, Branch, Else, statementBy, Item, aStatement, aBranch, asStatement}
 use Rattle.rl_spec.specs.Ranges.{upFrom}
-use Rattle.rl_spec.specs.Functions.{Text}
+use Rattle.rl_spec.specs.Mapped.{Text}
 use Rattle.rl_spec.specs.Make.{made}
 use Rattle.rl_laws.specs.Tests.{by-eqb}
 use Rattle.rl_images.specs.Images.FieldViews.{aRaw, aByte, aReference, anOption, aList, AllFit, noFields, _▹_, record-view}
-use Rattle.rl_theorems.specs.Trees.Denotes.{Holds, IsExpr, Line, line, arm, asStmt, OtherLine, IsCondition, noCondition, aCondition, IsLine, standsLine, ReadsLine, aDeclaration, anExpression, aReturn, aReturnAlone, aConditional, anArm, aWhile, aLoop, aBreak, aContinue, anOtherLine, IsElse, withoutElse, anElse, aChain, Rows, noRows, aRow}
+use Rattle.rl_theorems.specs.Trees.Denotes.{Holds, IsExpr, OtherLine, IsCondition, noCondition, aCondition, IsLine, standsLine, ReadsLine, aDeclaration, anExpression, aReturn, aReturnAlone, aConditional, anArm, aWhile, aLoop, aBreak, aContinue, anOtherLine, IsElse, withoutElse, anElse, aChain, Rows, noRows, aRow}
 use Rattle.rl_theorems.specs.Trees.DenotingExpressions.{at-record, text-says, expression-stands}
 
 -- ---- kinds of branches
@@ -45,7 +45,7 @@ pub not-other : {A : Type 0} (k : ℕ) (fs : List Field) → OtherLine k → isT
 not-other k fs o h = absurd (false≢true (sym (ap isTaken (o fs)) ∙ h))
 
 module _ {im : Image} where
-  reads-arm : {n k : ℕ} {fs : List Field} {x : Line} → ReadsLine im n k fs x → k ≡ 69 → (b : Branch Text) × (x ≡ arm b)
+  reads-arm : {n k : ℕ} {fs : List Field} {x : Item Text} → ReadsLine im n k fs x → k ≡ 69 → (b : Branch Text) × (x ≡ aBranch b)
   unfolding statementBy
   reads-arm (aDeclaration q t h) e = absurd (omega arith)
   reads-arm (anExpression q h) e = absurd (omega arith)
@@ -59,8 +59,8 @@ module _ {im : Image} where
   reads-arm (aContinue q) e = absurd (omega arith)
   reads-arm (anOtherLine {k = k} {fs = fs} o) e = not-other k fs o (rw e refl)
 
-  reads-chain : {n k : ℕ} {fs : List Field} {x : Line} → ReadsLine im n k fs x → k ≡ 68 →
-      (b : Branch Text) × (e : Else Text) × (x ≡ line (conditional b e))
+  reads-chain : {n k : ℕ} {fs : List Field} {x : Item Text} → ReadsLine im n k fs x → k ≡ 68 →
+      (b : Branch Text) × (e : Else Text) × (x ≡ aStatement (conditional b e))
   unfolding statementBy
   reads-chain (aDeclaration q t h) e = absurd (omega arith)
   reads-chain (anExpression q h) e = absurd (omega arith)
@@ -74,20 +74,20 @@ module _ {im : Image} where
   reads-chain (aContinue q) e = absurd (omega arith)
   reads-chain (anOtherLine {k = k} {fs = fs} o) e = not-other k fs o (rw e refl)
 
-  pub is-arm : {n : ℕ} {x : Line} → IsLine im n x → recordOf im Statements n .kind ≡ 69 → (b : Branch Text) × IsLine im n (arm b)
+  pub is-arm : {n : ℕ} {x : Item Text} → IsLine im n x → recordOf im Statements n .kind ≡ 69 → (b : Branch Text) × IsLine im n (aBranch b)
   is-arm {n} (standsLine k fs h d) e =
       let r = reads-arm d (sym (ap (λ r. r .kind) (h .is)) ∙ e) in
       (r .0, subst (IsLine im n) (r .1) (standsLine k fs h d))
 
-  pub is-chain : {n : ℕ} {x : Line} → IsLine im n x → recordOf im Statements n .kind ≡ 68 →
-      (b : Branch Text) × (e : Else Text) × IsLine im n (line (conditional b e))
+  pub is-chain : {n : ℕ} {x : Item Text} → IsLine im n x → recordOf im Statements n .kind ≡ 68 →
+      (b : Branch Text) × (e : Else Text) × IsLine im n (aStatement (conditional b e))
   is-chain {n} (standsLine k fs h d) e =
       let r = reads-chain d (sym (ap (λ r. r .kind) (h .is)) ∙ e) in
       (r .0, r .1, subst (IsLine im n) (r .2) (standsLine k fs h d))
 
 module _ (im : Image) (wf : WellFormed im) where
   abbrev Some : ℕ → ℕ → List Field → Type 0
-  Some i k fs = (x : Line) × ReadsLine im i k fs x
+  Some i k fs = (x : Item Text) × ReadsLine im i k fs x
 
   abbrev Fit : ℕ → ℕ → List Field → Type 0
   Fit i k fs = AllFit im Statements i (map sortOf (fieldsOf k)) fs
@@ -99,16 +99,16 @@ module _ (im : Image) (wf : WellFormed im) where
   condition (inl q) = (none, noCondition q)
   condition (inr r) = let e = node r in (some (e .0), aCondition (e .1))
 
-  module _ (i : ℕ) (earlier : (n : ℕ) → n < i → (x : Line) × IsLine im n x) where
+  module _ (i : ℕ) (earlier : (n : ℕ) → n < i → (x : Item Text) × IsLine im n x) where
     rows-stand : (n k : ℕ) → Entries im Statements i n k Statement Statement → (b : Body Text) × Rows im i (map (entryOf im) (upFrom k n)) b
     unfolding upFrom
     rows-stand zero k h = (nil, noRows)
     rows-stand (suc n) k h =
         let x = earlier (entryOf im k) (h .0 .earlier) in
         let r = rows-stand n (k + 1) (h .1) in
-        (asStmt (x .0) ▸ r .0, aRow (h .0 .earlier) (x .1) refl (r .1))
+        (asStatement (x .0) ▸ r .0, aRow (h .0 .earlier) (x .1) refl (r .1))
 
-    branch-stands : {n : ℕ} → Refers im Statements i ABranch n → (b : Branch Text) × IsLine im n (arm b)
+    branch-stands : {n : ℕ} → Refers im Statements i ABranch n → (b : Branch Text) × IsLine im n (aBranch b)
     branch-stands {n} r = is-arm (earlier n (r .earlier) .1) (eqb-true (recordOf im Statements n .kind) 69 (r .taken))
 
     else-by : (n k : ℕ) → n < i → recordOf im Statements n .kind ≡ k → (t : Bool) → eqb k 69 ≡ t → cond t true (eqb k 68) ≡ true →
@@ -184,7 +184,7 @@ module _ (im : Image) (wf : WellFormed im) where
         try K found not =
             by-eqb k K (λ q. subst (λ k. Some i k fs) (sym q) (found (subst (λ k. Fit i k fs) q h))) (λ n. not (ne-eqb k K n))
 
-  all-below : (b i : ℕ) → i < b → i < sizeOf im Statements → (x : Line) × IsLine im i x
+  all-below : (b i : ℕ) → i < b → i < sizeOf im Statements → (x : Item Text) × IsLine im i x
   all-below zero i l h = absurd (omega arith)
   all-below (suc b) i l h =
       let f : RecordFits im Statements i (recordOf im Statements i) = wf .fits Statements i h in
@@ -192,5 +192,5 @@ module _ (im : Image) (wf : WellFormed im) where
       (r .0, standsLine _ _ (at-record im wf Statements i h) (r .1))
 
   -- THEOREM: each statement stands for something
-  pub statement-stands : (i : ℕ) → i < sizeOf im Statements → (x : Line) × IsLine im i x
+  pub statement-stands : (i : ℕ) → i < sizeOf im Statements → (x : Item Text) × IsLine im i x
   statement-stands i h = all-below (suc i) i (omega arith) h

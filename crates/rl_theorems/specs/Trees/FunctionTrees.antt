@@ -4,6 +4,7 @@ use Prim.Native.Nat.{ℕ, zero, suc, _+_, _≤_, _<_}
 use mathlib.Core.Path.{_≡_, refl, sym, subst}
 use mathlib.Core.Logic.{_⊎_, inl, inr}
 use mathlib.Core.List.{List, map}
+use mathlib.Core.Option.{Option·map}
 use native.Mathlib.Omega.{arith}
 use lib.ListN.{length}
 use borrow.Author.Tests.{ne-eqb}
@@ -12,15 +13,16 @@ use Rattle.rl_spec.specs.declared.Target.the-variants.{Statement}
 use Rattle.rl_spec.specs.Schema.{schema, sortOf, fieldsIn, fieldsOf}
 use Rattle.rl_spec.specs.Image.{Field, Rec, Image, sizeOf, recordOf, fieldOf, first, second, entryOf, textOf, Entries, RecordFits, WellFormed}
 use Rattle.rl_spec.specs.Tree.{number, exprTree}
-use Rattle.rl_spec.specs.Statement.{Body, nil, _▸_, bodyTree}
+use Rattle.rl_spec.specs.Statement.{Body, nil, _▸_, bodyTree, asStatement}
 use Rattle.rl_spec.specs.Ranges.{interval}
 use Rattle.rl_spec.specs.Records.{paramAt, clauseAt}
 use Rattle.rl_spec.specs.Ranges.{upFrom}
 use Rattle.rl_spec.specs.Contracts.{clauseOf, messageNode}
-use Rattle.rl_spec.specs.Functions.{Text, mapExpr, mapBody, messageOr, clauseCheck}
+use Rattle.rl_spec.specs.Mapped.{Text, mapExpr, mapBody, mapClause}
+use Rattle.rl_spec.specs.Functions.{messageOr, clauseCheck}
 use Rattle.rl_spec.specs.Make.{made}
 use Rattle.rl_images.specs.Images.FunctionFields.{clause-fits, function-fits}
-use Rattle.rl_theorems.specs.Trees.Denotes.{IsExpr, asStmt, noRows, aRow}
+use Rattle.rl_theorems.specs.Trees.Denotes.{IsExpr, noRows, aRow}
 use Rattle.rl_theorems.specs.Trees.DenotedTrees.{tree-of, body-of}
 use Rattle.rl_theorems.specs.Trees.DenotingExpressions.{few, expression-stands}
 use Rattle.rl_theorems.specs.Trees.DenotingStatements.{statement-stands}
@@ -35,12 +37,12 @@ module _ (im : Image) (wf : WellFormed im) where
   -- ---- clauses
 
   message-is : (default : Text) (n : ℕ) → (n ≡ 65535) ⊎ (n < sizeOf im Expressions) →
-      IsMessage im default n (messageOr im default (messageNode im n))
+      IsMessage im default n (messageOr default (Option·map (mapExpr (textOf im)) (messageNode im n)))
   message-is default n (inl q) = rw q (noMessage refl)
   message-is default n (inr h) = rw (ne-eqb n 65535 (λ q. omega (arith, few im wf Expressions))) (aMessage (expression-is n h))
 
   pub clauses-check : (default : Text) (a n : ℕ) → a + n ≤ sizeOf im Clauses →
-      Checks im default (map (clauseAt im) (upFrom a n)) (map (λ i. clauseCheck im default (clauseOf im i)) (upFrom a n))
+      Checks im default (map (clauseAt im) (upFrom a n)) (map (clauseCheck default) (map (mapClause (textOf im)) (map (clauseOf im) (upFrom a n))))
   unfolding upFrom clauseAt clauseOf
   clauses-check default a zero h = noChecks
   clauses-check default a (suc n) h =
@@ -55,7 +57,7 @@ module _ (im : Image) (wf : WellFormed im) where
   rows-stand f (suc n) k h =
       let x = statement-stands im wf (entryOf im k) (h .0 .earlier) in
       let r = rows-stand f n (k + 1) (h .1) in
-      (asStmt (x .0) ▸ r .0, aRow (h .0 .earlier) (x .1) refl (r .1))
+      (asStatement (x .0) ▸ r .0, aRow (h .0 .earlier) (x .1) refl (r .1))
 
   pub body-stands : (f : ℕ) → f < sizeOf im Functions → let list = fieldOf (recordOf im Functions f) 4 in
       Lines im (map (entryOf im) (upFrom (first list) (second list))) (mapBody (textOf im) (bodyTree im (interval list)))

@@ -18,7 +18,7 @@ use Rattle.rl_spec.specs.declared.StatementForm.the-variants as line
 use Rattle.rl_spec.specs.declared.StatementForm.the-variants.{Declaration, Expression, Return, ReturnAlone, Conditional, Branch as ABranch, While, Loop, Break, Continue}
 use Rattle.rl_spec.specs.Tree.{Expr, other, isResPath, callForm, formBy, descend, treeBy, exprTree}
 use Rattle.rl_spec.specs.Statement.{declaration, expression, return, while, otherStatement, branch, Item, aStatement, aBranch, bodyBy, statementOf, itemBy, itemTree, bodyTree}
-use Rattle.rl_spec.specs.Functions.{mapExpr, mapBody}
+use Rattle.rl_spec.specs.Mapped.{mapExpr, mapBody}
 use Rattle.rl_spec.specs.Make.{withRecords}
 use Rattle.rl_images.specs.Lowering.Grows.{records-other}
 
@@ -56,7 +56,7 @@ module _ (im : Image) where
   unfolding exprTree
   expr-tables = λ j. descend other (λ i tree. tree-by (form-tables (recordOf im Expressions i) j) tree j)
 
-  item-by : (form : StatementForm) (item : ℕ → Item) → itemBy im form item ≡ itemBy (tablesOf im) form item
+  item-by : (form : StatementForm) (item : ℕ → Item ℕ) → itemBy im form item ≡ itemBy (tablesOf im) form item
   item-by (Declaration x n) item = λ i. aStatement (declaration x (expr-tables i n))
   item-by (Expression n) item = λ i. aStatement (expression (expr-tables i n))
   item-by (Return n) item = λ i. aStatement (return (expr-tables i n))
