@@ -3,9 +3,18 @@
 # the gate's own.
 set -eu
 cd "$(dirname "$0")/.."
+
+# each check of the prover writes thousands of small files: in memory, where there is room for them and programs run from there
+memory=''
+if [ "$(df -Pk /dev/shm 2>/dev/null | awk 'NR == 2 { print $4 }')" -gt 4000000 ] 2>/dev/null && memory=$(mktemp -d /dev/shm/test.XXXXXX); then
+    chmod 711 "$memory"
+    if cp /bin/true "$memory" && "$memory/true"; then export TMPDIR="$memory"; fi
+fi
 log=$(mktemp)
 new=$(mktemp -d)
-trap 'rm -rf "$log" "$new"' EXIT
+trap 'rm -rf "$log" "$new" $memory' EXIT
+began=$(date +%s)
+phase() { echo "seconds: $1 $(($(date +%s) - began))"; began=$(date +%s); }
 
 rt fmt --check
 (cd tools && cargo fmt --check)
@@ -18,10 +27,12 @@ case "$last" in
 *" passed, 0 failed") ;;
 *) echo "$last"; exit 1 ;;
 esac
+phase gate
 
 # wrong definitions are refused by the theorems, and what no run shows by the stored cases
 sh tools/definition_edits.sh
 sh tools/shared_condition.sh
+phase definitions
 
 # the library, compared with an independent reader, folder, prover, runner and lowering and with the original; the printer too
 rt staticlib rl_abi >"$new/library" 2>&1 || { cat "$new/library"; exit 1; }
@@ -56,5 +67,6 @@ if [ -e "$new/prove/stdin" ]; then
     cmp "$new/prove/stdin" crates/vectors_prove/stdin
     cmp "$new/prove/stdout" crates/vectors_prove/stdout
 fi
+phase comparisons
 
 echo "$last"

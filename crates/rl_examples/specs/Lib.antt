@@ -2,8 +2,9 @@
 -- ---- text and values
 pub mod Utf8Examples
 pub mod ValueExamples
--- ---- runs and readings
+-- ---- runs and readings, and the functions of an image
 pub mod RunExamples
+pub mod FunctionExamples
 -- ---- small images, and what lowering makes of them
 pub mod MarkedImages
 pub mod LowerExamples
