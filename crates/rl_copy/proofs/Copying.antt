@@ -15,6 +15,7 @@ use Rattle.rl_spec.specs.declared.Section.the-variants.{Lists, Expressions}
 use Rattle.rl_spec.specs.declared.Sort.{Sort}
 use Rattle.rl_spec.specs.Schema.{sortOf, widthOf, fieldsOf}
 use Rattle.rl_spec.specs.Image.{Field, Rec, Image, sizeOf, noRecord, recordsOf, recordOf, fieldOf, entryOf, first, fieldIn, fieldsAt, recordIn, FieldFits, FieldsFit, RecordFits, WellFormed}
+use Rattle.rl_images.specs.Images.FieldFacts.{first-fits, others-fit}
 use Rattle.rl_spec.specs.Found.{recordAs, recordFound, imageFound}
 use Rattle.rl_spec.specs.Tree.{descend}
 use Rattle.rl_spec.specs.Ranges.{upFrom}
@@ -108,7 +109,7 @@ pub record Copying (s p : List ℕ) (c : Counts) (id row at : ℕ) (start here :
   pub size : length words ≡ 8
   pub done : List Field
   pub shown : (ws : List ℕ) → take j ws ≡ take j words → wordFields (codes row) ws 0 ≡ done ++ wordFields (codes rest) ws j
-  pub fits : WellFormed (imageFound s p c) → (before : ℕ) × FieldsFit (imageFound s p c) Expressions id before (codes rest) (fieldsAt s (codes rest) place)
+  pub fits : WellFormed (imageFound s p c) → (before : ℕ) × FieldsFit (imageFound s p c) Expressions id before (map sortOf (codes rest)) (fieldsAt s (codes rest) place)
   pub follows : (gs : List Field) (t : State) → Does (imageFound s p c) 0 0 nothing (cloneFields (cloneBelow id) (codes rest) (fieldsAt s (codes rest) place)) here gs t →
       Does (imageFound s p c) 0 0 nothing (cloneFields (cloneBelow id) (codes row) (fieldsAt s (codes row) at)) start (done ++ gs) t
 
@@ -127,7 +128,7 @@ module _ (s p : List ℕ) (c : Counts) (id row at : ℕ) (start : State) where
         size = size;
         done = [];
         shown = λ ws v. refl;
-        fits = λ wf. (0, rw is (rw a (subst (λ r. FieldsFit (imageFound s p c) Expressions id 0 (fieldsOf (r .kind)) (r .fields)) (record-is s p c id start₀ kind h e q) (wf .fits Expressions id (rw (size-found s p c Expressions) h) .fields))));
+        fits = λ wf. (0, rw is (rw a (subst (λ r. FieldsFit (imageFound s p c) Expressions id 0 (map sortOf (fieldsOf (r .kind))) (r .fields)) (record-is s p c id start₀ kind h e q) (wf .fits Expressions id (rw (size-found s p c Expressions) h) .fields))));
         follows = λ gs t d. d;
       }
     where
@@ -140,7 +141,7 @@ module _ (s p : List ℕ) (c : Counts) (id row at : ℕ) (start : State) where
     copying-field q = λ wf. (w .fits wf .0, fitted wf)
       where
         fitted : (wf : WellFormed (imageFound s p c)) → FieldFits (imageFound s p c) Expressions id (w .fits wf .0) (sortOf (rest % 256)) (fieldIn s (sortOf (rest % 256)) place)
-        fitted wf = subst (λ cs. FieldsFit (imageFound s p c) Expressions id (w .fits wf .0) cs (fieldsAt s cs place)) (codes-more rest (w .small) q) (w .fits wf .1) .0
+        fitted wf = first-fits (subst (λ cs. FieldsFit (imageFound s p c) Expressions id (w .fits wf .0) (map sortOf cs) (fieldsAt s cs place)) (codes-more rest (w .small) q) (w .fits wf .1))
 
     pub copying-more : (q : rest ≡ 0 → ⊥) (word width : ℕ) (next : State) (words′ : List ℕ) → CopiesField (imageFound s p c) s id (rest % 256) place here word next →
         width ≡ widthOf (sortOf (rest % 256)) → words′ ≡ set words j word → Copying s p c id row at start next words′ (rest / 256) (place + width) (j + 1)
@@ -157,7 +158,7 @@ module _ (s p : List ℕ) (c : Counts) (id row at : ℕ) (start : State) where
               ∙ ap (λ cs. w .done ++ wordFields cs ws j) split
               ∙ ap (λ x. w .done ++ wordField (sortOf (rest % 256)) x ∷ wordFields (codes (rest / 256)) ws (j + 1)) (same-word ws words′ j e ∙ ap (λ l. getD l j 0) o ∙ getD-set-same words j word 0 (omega (arith, w .size, w .few, counted)))
               ∙ sym (append-assoc (w .done) (wordField (sortOf (rest % 256)) word ∷ []) (wordFields (codes (rest / 256)) ws (j + 1)));
-          fits = λ wf. (first (fieldIn s (sortOf (rest % 256)) place), rw v (subst (λ cs. FieldsFit (imageFound s p c) Expressions id (w .fits wf .0) cs (fieldsAt s cs place)) split (w .fits wf .1) .1));
+          fits = λ wf. (first (fieldIn s (sortOf (rest % 256)) place), rw v (others-fit (subst (λ cs. FieldsFit (imageFound s p c) Expressions id (w .fits wf .0) (map sortOf cs) (fieldsAt s cs place)) split (w .fits wf .1))));
           follows = λ gs t f.
               subst (λ z. Does (imageFound s p c) 0 0 nothing (cloneFields (cloneBelow id) (codes row) (fieldsAt s (codes row) at)) start z t)
               (sym (append-assoc (w .done) (wordField (sortOf (rest % 256)) word ∷ []) gs))

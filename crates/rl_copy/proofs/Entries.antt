@@ -27,6 +27,7 @@ use Rattle.rl_spec.specs.Make.{Context, Make, andThen, _>>=_, give, fail, self,
 use Rattle.rl_spec.specs.Lower.{isNode, cloneEntries, cloneField, deepCloneExpr}
 use Rattle.rl_laws.specs.Tests.{by-ltb}
 use Rattle.rl_encode.specs.Words.{wordField}
+use Rattle.rl_images.specs.Images.FieldFacts.{list-says}
 use Rattle.rl_images.specs.Lowering.Gives.{gives, after}
 use Rattle.rl_context.specs.declared.Ctx.{Ctx}
 use Rattle.rl_context.specs.Additions.{Live}
@@ -77,7 +78,7 @@ said (Many l r n) = go (isNode l || isNode r) refl
   where
     go : (b : Bool) → isNode l || isNode r ≡ b → Said (Many l r n) (cond b (plan.List l r) plan.Keep)
     go true e =
-        (refl, (λ clone f. ap (λ b. cond b (self >>= λ ctx. cloneEntries clone l r (entriesOf (ctx .image) f) >>= newList) (give f)) e, λ im i before a m h. h .0))
+        (refl, (λ clone f. ap (λ b. cond b (self >>= λ ctx. cloneEntries clone l r (entriesOf (ctx .image) f) >>= newList) (give f)) e, λ im i before a m h. list-says h .0))
     go false e = λ clone f. ap (λ b. cond b (self >>= λ ctx. cloneEntries clone l r (entriesOf (ctx .image) f) >>= newList) (give f)) e
 said (Range o) = λ clone f. refl
 said OperandSort = λ clone f. refl

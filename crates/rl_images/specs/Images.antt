@@ -1,7 +1,7 @@
--- What a well-formed image keeps to: which sorts of field its sections have (SchemaSorts), its limits (Limits), the fields of a record
--- one by one (FieldViews), those of clauses, parameters and functions (FunctionFields), and how tall its trees are (Heights).
+-- What a well-formed image keeps to: which sorts of field its sections have (SchemaSorts), what a field says (FieldFacts), those of
+-- clauses, parameters and functions (FunctionFields), its limits (Limits), and how tall its trees are (Heights).
 pub mod SchemaSorts
-pub mod Limits
-pub mod FieldViews
+pub mod FieldFacts
 pub mod FunctionFields
+pub mod Limits
 pub mod Heights

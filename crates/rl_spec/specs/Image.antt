@@ -249,37 +249,29 @@ SortFits zero x = x ≡ 0
 SortFits (suc refinement) x = (1 ≤ x) × (x ≤ 4)
 
 -- what a field holds; `before` is the number in the field before it
-abbrev pub FieldFits : Image → Section → ℕ → ℕ → Sort → Field → Type 0
-FieldFits im o i before (Raw n) (num x) = x < 256 ^ n
-FieldFits im o i before (Byte low high) (num x) = (low ≤ x) × (x ≤ high)
-FieldFits im o i before Scalar (num x) = isScalar x ≡ true
-FieldFits im o i before Part (pair a n) = (a + n ≤ length (im .bytes)) × (utf8 (take n (drop a (im .bytes))) ≡ true)
-FieldFits im o i before (One t) (num x) = Refers im o i t x
-FieldFits im o i before (Maybe t) (num x) = (x ≡ 65535) ⊎ Refers im o i t x
-FieldFits im o i before (Many l r m) (pair a n) = (a + n ≤ sizeOf im Lists) × ((n % m ≡ 0) × Entries im o i n a l r)
-FieldFits im o i before (Range q) (pair a n) = a + n ≤ sizeOf im q
-FieldFits im o i before OperandSort (num x) = SortFits before x
-FieldFits im o i before Operand (num x) = OperandFits im before x
-FieldFits im o i before (Raw n) (pair a b) = ⊥
-FieldFits im o i before (Byte low high) (pair a b) = ⊥
-FieldFits im o i before Scalar (pair a b) = ⊥
-FieldFits im o i before Part (num x) = ⊥
-FieldFits im o i before (One t) (pair a b) = ⊥
-FieldFits im o i before (Maybe t) (pair a b) = ⊥
-FieldFits im o i before (Many l r m) (num x) = ⊥
-FieldFits im o i before (Range q) (num x) = ⊥
-FieldFits im o i before OperandSort (pair a b) = ⊥
-FieldFits im o i before Operand (pair a b) = ⊥
+pub data FieldFits (im : Image) (o : Section) (i before : ℕ) : Sort → Field → Type 0 where
+  aRaw : {n x : ℕ} → x < 256 ^ n → FieldFits im o i before (Raw n) (num x)
+  aByte : {low high x : ℕ} → low ≤ x → x ≤ high → FieldFits im o i before (Byte low high) (num x)
+  aScalar : {x : ℕ} → isScalar x ≡ true → FieldFits im o i before Scalar (num x)
+  aPart : {a n : ℕ} → a + n ≤ length (im .bytes) → utf8 (take n (drop a (im .bytes))) ≡ true → FieldFits im o i before Part (pair a n)
+  aReference : {t : Target} {x : ℕ} → Refers im o i t x → FieldFits im o i before (One t) (num x)
+  anOption : {t : Target} {x : ℕ} → (x ≡ 65535) ⊎ Refers im o i t x → FieldFits im o i before (Maybe t) (num x)
+  aList : {l r : Target} {m a n : ℕ} → a + n ≤ sizeOf im Lists → n % m ≡ 0 → Entries im o i n a l r →
+      FieldFits im o i before (Many l r m) (pair a n)
+  aRange : {q : Section} {a n : ℕ} → a + n ≤ sizeOf im q → FieldFits im o i before (Range q) (pair a n)
+  aSort : {x : ℕ} → SortFits before x → FieldFits im o i before OperandSort (num x)
+  anOperand : {x : ℕ} → OperandFits im before x → FieldFits im o i before Operand (num x)
 
-abbrev pub FieldsFit : Image → Section → ℕ → ℕ → List ℕ → List Field → Type 0
-FieldsFit im o i before [] [] = Unit {0}
-FieldsFit im o i before [] (f ∷ fs) = ⊥
-FieldsFit im o i before (c ∷ cs) [] = ⊥
-FieldsFit im o i before (c ∷ cs) (f ∷ fs) = FieldFits im o i before (sortOf c) f × FieldsFit im o i (first f) cs fs
+-- the fields of a record, by their sorts
+infixr 20 _▹_
+pub data FieldsFit (im : Image) (o : Section) (i : ℕ) : ℕ → List Sort → List Field → Type 0 where
+  noFields : {before : ℕ} → FieldsFit im o i before [] []
+  _▹_ : {before : ℕ} {k : Sort} {ks : List Sort} {f : Field} {fs : List Field} → FieldFits im o i before k f →
+      FieldsFit im o i (first f) ks fs → FieldsFit im o i before (k ∷ ks) (f ∷ fs)
 
 pub record RecordFits (im : Image) (o : Section) (i : ℕ) (r : Rec) : Type 0 where
   pub kind : inSection o (r .kind) ≡ true
-  pub fields : FieldsFit im o i 0 (fieldsOf (r .kind)) (r .fields)
+  pub fields : FieldsFit im o i 0 (map sortOf (fieldsOf (r .kind))) (r .fields)
   pub height : getD (heights im o) i 0 ≤ tallest o
 
 abbrev pub AllBytes : List ℕ → Type 0

@@ -32,6 +32,7 @@ use Rattle.rl_laws.specs.Found.{size-found}
 use Rattle.rl_laws.specs.Tests.{by-eqb}
 use Rattle.rl_transform.proofs.Rebuilding.{statement-is}
 use Rattle.rl_encode.specs.Words.{wordField}
+use Rattle.rl_images.specs.Images.FieldFacts.{reference-says, option-says, list-says, first-fits, others-fit}
 use Rattle.rl_images.specs.Lowering.Gives.{gives}
 use Rattle.rl_context.specs.declared.Ctx.{Ctx}
 use Rattle.rl_context.specs.Additions.{Live}
@@ -172,19 +173,19 @@ pub record Holds (s : List ℕ) (start k : ℕ) : Type 0 where
   pub stands : fieldOf (recordAs s k start) (listField k) ≡ pair (u16At s (start + listPlace k)) (u16At s (start + listPlace k + 2))
   pub again : (w : ℕ) → rebuilt (recordAs s k start) (listField k) w (flagField k) 0
       ≡ made k (set (set (recordAs s k start .fields) (listField k) (pair (w % 65536) (w / 65536))) (flagField k) (num 0))
-  pub ranges : (im : Image) (i : ℕ) → FieldsFit im Statements i 0 (fieldsOf k) (fieldsAt s (fieldsOf k) (start + 1)) →
+  pub ranges : (im : Image) (i : ℕ) → FieldsFit im Statements i 0 (map sortOf (fieldsOf k)) (fieldsAt s (fieldsOf k) (start + 1)) →
       first (fieldOf (recordAs s k start) (listField k)) + second (fieldOf (recordAs s k start) (listField k)) ≤ sizeOf im Lists
 
 holds : (s : List ℕ) (start k : ℕ) → (listField k ≡ 0 → ⊥) → Holds s start k
 unfolding recordAs fieldsAt fieldsOf fieldsIn schema sortOf
 holds s start k h =
-    by-eqb k 69 (λ g. subst (Holds s start) (sym g) (record { stands = at-place (start + 1 + 4 + 2) (start + 7) (omega arith); again = λ w. refl; ranges = λ im i f. f .1 .1 .0 .0 })) (λ a.
-    by-eqb k 70 (λ g. subst (Holds s start) (sym g) (record { stands = at-place (start + 1 + 4 + 2) (start + 7) (omega arith); again = λ w. refl; ranges = λ im i f. f .1 .1 .0 .0 })) (λ b.
-    by-eqb k 71 (λ g. subst (Holds s start) (sym g) (record { stands = at-place (start + 1 + 4) (start + 5) (omega arith); again = λ w. refl; ranges = λ im i f. f .1 .0 .0 })) (λ d.
-    by-eqb k 72 (λ g. subst (Holds s start) (sym g) (record { stands = at-place (start + 1 + 4 + 2 + 2 + 2) (start + 11) (omega arith); again = λ w. refl; ranges = λ im i f. f .1 .1 .1 .1 .0 .0 })) (λ e.
-    by-eqb k 73 (λ g. subst (Holds s start) (sym g) (record { stands = at-place (start + 1 + 4 + 2 + 2) (start + 9) (omega arith); again = λ w. refl; ranges = λ im i f. f .1 .1 .1 .0 .0 })) (λ f.
-    by-eqb k 74 (λ g. subst (Holds s start) (sym g) (record { stands = at-place (start + 1 + 4 + 2 + 2) (start + 9) (omega arith); again = λ w. refl; ranges = λ im i f. f .1 .1 .1 .0 .0 })) (λ i.
-    by-eqb k 76 (λ g. subst (Holds s start) (sym g) (record { stands = at-place (start + 1 + 4 + 2) (start + 7) (omega arith); again = λ w. refl; ranges = λ im i f. f .1 .1 .0 .0 })) (λ j.
+    by-eqb k 69 (λ g. subst (Holds s start) (sym g) (record { stands = at-place (start + 1 + 4 + 2) (start + 7) (omega arith); again = λ w. refl; ranges = λ im i f. list-says (first-fits (others-fit (others-fit f))) .0 })) (λ a.
+    by-eqb k 70 (λ g. subst (Holds s start) (sym g) (record { stands = at-place (start + 1 + 4 + 2) (start + 7) (omega arith); again = λ w. refl; ranges = λ im i f. list-says (first-fits (others-fit (others-fit f))) .0 })) (λ b.
+    by-eqb k 71 (λ g. subst (Holds s start) (sym g) (record { stands = at-place (start + 1 + 4) (start + 5) (omega arith); again = λ w. refl; ranges = λ im i f. list-says (first-fits (others-fit f)) .0 })) (λ d.
+    by-eqb k 72 (λ g. subst (Holds s start) (sym g) (record { stands = at-place (start + 1 + 4 + 2 + 2 + 2) (start + 11) (omega arith); again = λ w. refl; ranges = λ im i f. list-says (first-fits (others-fit (others-fit (others-fit (others-fit f))))) .0 })) (λ e.
+    by-eqb k 73 (λ g. subst (Holds s start) (sym g) (record { stands = at-place (start + 1 + 4 + 2 + 2) (start + 9) (omega arith); again = λ w. refl; ranges = λ im i f. list-says (first-fits (others-fit (others-fit (others-fit f)))) .0 })) (λ f.
+    by-eqb k 74 (λ g. subst (Holds s start) (sym g) (record { stands = at-place (start + 1 + 4 + 2 + 2) (start + 9) (omega arith); again = λ w. refl; ranges = λ im i f. list-says (first-fits (others-fit (others-fit (others-fit f)))) .0 })) (λ i.
+    by-eqb k 76 (λ g. subst (Holds s start) (sym g) (record { stands = at-place (start + 1 + 4 + 2) (start + 7) (omega arith); again = λ w. refl; ranges = λ im i f. list-says (first-fits (others-fit (others-fit f))) .0 })) (λ j.
     absurd (h (rw (ne-eqb k 69 a, ne-eqb k 70 b, ne-eqb k 71 d, ne-eqb k 72 e, ne-eqb k 73 f, ne-eqb k 74 i, ne-eqb k 76 j) refl)))))))))
   where
     at-place : (a b : ℕ) → a ≡ b → pair (u16At s a) (u16At s (a + 2)) ≡ pair (u16At s b) (u16At s (b + 2))
@@ -208,10 +209,10 @@ module _ (s p : List ℕ) (c : Counts) (rows : List ℕ) (ensured : Interval) (r
   abbrev wf : WellFormed of
   wf = ready .well
 
-  fits-record : (x start kind : ℕ) → x < c .statements → recordOf of Statements x ≡ recordAs s kind start → FieldsFit of Statements x 0 (fieldsOf kind) (fieldsAt s (fieldsOf kind) (start + 1))
+  fits-record : (x start kind : ℕ) → x < c .statements → recordOf of Statements x ≡ recordAs s kind start → FieldsFit of Statements x 0 (map sortOf (fieldsOf kind)) (fieldsAt s (fieldsOf kind) (start + 1))
   unfolding recordAs
   fits-record x start kind h e =
-      subst (λ r. FieldsFit of Statements x 0 (fieldsOf (r .kind)) (r .fields)) e (wf .fits Statements x (rw (size-found s p c Statements) h) .fields)
+      subst (λ r. FieldsFit of Statements x 0 (map sortOf (fieldsOf (r .kind))) (r .fields)) e (wf .fits Statements x (rw (size-found s p c Statements) h) .fields)
 
   -- ---- a list transformed, and its record again
 
@@ -315,12 +316,12 @@ module _ (s p : List ℕ) (c : Counts) (rows : List ℕ) (ensured : Interval) (r
 
     pub branch-earlier : (a : ℕ) → a ≡ u16At s (start + 5) → a < c .statements
     unfolding recordAs fieldsAt fieldsOf fieldsIn schema sortOf
-    branch-earlier a f = omega (arith, subst (λ z. z < id) (first-is a f) (fits-record id start 68 h is-68 .1 .0 .earlier))
+    branch-earlier a f = omega (arith, subst (λ z. z < id) (first-is a f) (reference-says (first-fits (others-fit (fits-record id start 68 h is-68))) .earlier))
 
     pub else-earlier : (a : ℕ) → a ≡ u16At s (start + 7) → (a ≡ 65535 → ⊥) → a < c .statements
     unfolding recordAs fieldsAt fieldsOf fieldsIn schema sortOf
     else-earlier a f n =
-        elim (fits-record id start 68 h is-68 .1 .1 .0) [ inl z ↦ absurd (n (sym (second-is a f) ∙ z)) | inr z ↦ omega (arith, subst (λ y. y < id) (second-is a f) (z .earlier)) ]
+        elim (option-says (first-fits (others-fit (others-fit (fits-record id start 68 h is-68))))) [ inl z ↦ absurd (n (sym (second-is a f) ∙ z)) | inr z ↦ omega (arith, subst (λ y. y < id) (second-is a f) (z .earlier)) ]
 
     few-statements : c .statements ≤ 2048
     unfolding limits imageFound sections
@@ -385,7 +386,9 @@ module _ (s p : List ℕ) (c : Counts) (rows : List ℕ) (ensured : Interval) (r
 
       arms-fit : (a + n ≤ sizeOf of Lists) × Entries of Statements id n a Arm Arm
       unfolding recordAs fieldsAt fieldsOf fieldsIn schema sortOf
-      arms-fit = subst (λ z. (first z + second z ≤ sizeOf of Lists) × Entries of Statements id (second z) (first z) Arm Arm) arms-field (fits-record id start 75 h is-75 .1 .1 .0 .0, fits-record id start 75 h is-75 .1 .1 .0 .1 .1)
+      arms-fit =
+          let q = list-says (first-fits (others-fit (others-fit (fits-record id start 75 h is-75)))) in
+          subst (λ z. (first z + second z ≤ sizeOf of Lists) × Entries of Statements id (second z) (first z) Arm Arm) arms-field (q .0, q .2)
 
       pub arms-in : ArmsIn s p c a n
       arms-in i l =

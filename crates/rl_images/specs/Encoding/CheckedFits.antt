@@ -3,7 +3,7 @@
 use Prim.Native.Nat.{ℕ, zero, suc, _+_, _-_, _%_, _^_, _≤_, _<_, max}
 use mathlib.Core.Path.{_≡_, refl, ap, subst}
 use mathlib.Core.Bool.{Bool, true, false, cond, _||_, false≢true}
-use mathlib.Core.List.{List, [], _∷_}
+use mathlib.Core.List.{List, [], _∷_, map}
 use mathlib.Core.Logic.{_⊎_, inl, inr}
 use native.Mathlib.Omega.{arith}
 use native.Mathlib.Nat.{pow-suc}
@@ -27,7 +27,7 @@ use Rattle.rl_spec.specs.Bytes.{numAt, u16At, u32At, past}
 use Rattle.rl_spec.specs.Schema.{textBytesAt, countOf, inSection, tallest, operandSort, sortOf, widthOf, fieldsOf}
 use Rattle.rl_spec.specs.Utf8.{utf8, isScalar}
 use Rattle.rl_spec.specs.Fields.{zeros, allowed, entryAt, rangeOf, partOf, byteIn, operandSortOf, checked, heightStep, referTo, referOrNone, entriesFrom, listOf, operandOf, valueOf, fieldAt, fieldsFrom, recordAt}
-use Rattle.rl_spec.specs.Image.{num, pair, Rec, Image, orderOf, sizeOf, first, encodeRecord, entryOf, isPair, fieldIn, fieldsAt, recordIn, tallestChild, heights, Refers, Entries, OperandFits, SortFits, FieldFits, FieldsFit, RecordFits, AllBytes}
+use Rattle.rl_spec.specs.Image.{Field, num, pair, Rec, Image, orderOf, sizeOf, first, encodeRecord, entryOf, isPair, fieldIn, fieldsAt, recordIn, tallestChild, heights, Refers, Entries, OperandFits, SortFits, FieldFits, aRaw, aByte, aScalar, aPart, aReference, anOption, aList, aRange, aSort, anOperand, FieldsFit, noFields, _▹_, RecordFits, AllBytes}
 use Rattle.rl_images.specs.Encoding.BytesAt.{Stands, piece, byte-number, u16-number, u32-number}
 use Rattle.rl_images.specs.Images.SchemaSorts.{refers, suits, isNarrow, allSuit, inTurn, and-left, and-right, schema-suits, schema-turns}
 use Rattle.rl_images.specs.Encoding.FieldWidths.{Bounded, all-sized, fields-stand}
@@ -148,13 +148,13 @@ module _ (im : Image) (s w p : List ℕ) (bytes : AllBytes s) (seen : Counts) (o
       let d = holds-true (allowed s p seen l (entryAt s seen k)) _ BadReference x e in
       (ready .refer l (entryOf im k) u (rw (ready .entry k (omega arith)) at (d .0)), entries-fit n (k + 1) r l _ x v u (omega arith) (d .1))
 
-  list-fits : (a n : ℕ) (l r : Target) (m tall x : ℕ) → refers o l ≡ true → refers o r ≡ true → listOf s w p seen o a n l r m tall ≡ Holds x → (a + n ≤ sizeOf im Lists) × ((n % m ≡ 0) × Entries im o i n a l r)
+  list-fits : {before : ℕ} (a n : ℕ) (l r : Target) (m tall x : ℕ) → refers o l ≡ true → refers o r ≡ true → listOf s w p seen o a n l r m tall ≡ Holds x → FieldFits im o i before (Many l r m) (pair a n)
   unfolding listOf
   list-fits a n l r m tall x u v e =
       let d = holds-false (ltb (seen .lists) (a + n)) _ BadReference x e in
       let f = holds-true (eqb (n % m) 0) (entriesFrom s w p seen o n a l r tall) BadReference x (d .1) in
       let q : a + n ≤ sizeOf im Lists = rw (ready .lists) at (ltb-false (seen .lists) (a + n) (d .0)) in
-      (q, (eqb-true (n % m) 0 (f .0), entries-fit n a l r tall x u v q (f .1)))
+      aList q (eqb-true (n % m) 0 (f .0)) (entries-fit n a l r tall x u v q (f .1))
 
   range-fits : (q : Section) (a n tall x : ℕ) → ltb 3 (orderOf o) ≡ true → rangeOf seen a n q tall ≡ Holds x → a + n ≤ sizeOf im q
   unfolding rangeOf
@@ -163,12 +163,12 @@ module _ (im : Image) (s w p : List ℕ) (bytes : AllBytes s) (seen : Counts) (o
 
   -- ---- texts and operands
 
-  part-fits : (a n tall x : ℕ) → partOf s seen a n tall ≡ Holds x → (a + n ≤ length (im .bytes)) × (utf8 (take n (drop a (im .bytes))) ≡ true)
+  part-fits : {before : ℕ} (a n tall x : ℕ) → partOf s seen a n tall ≡ Holds x → FieldFits im o i before Part (pair a n)
   unfolding partOf
   part-fits a n tall x e =
       let d = holds-false (ltb (seen .bytes) (a + n)) _ BadText x e in
       let q : a + n ≤ length (im .bytes) = rw (ready .bytes) at (ltb-false (seen .bytes) (a + n) (d .0)) in
-      (q, rw (piece (ready .text) a n q) at (holds-true (utf8 (take n (drop (textBytesAt + a) s))) (Holds tall) BadText x (d .1) .0))
+      aPart q (rw (piece (ready .text) a n q) at (holds-true (utf8 (take n (drop (textBytesAt + a) s))) (Holds tall) BadText x (d .1) .0))
 
   text-fits : (at tall x : ℕ) → cond (zeros s (at + 2) 6) (referTo s w p seen o Text (u16At s at) tall) (Fails BadValue) ≡ Holds x → numAt s at 8 < sizeOf im Texts
   unfolding referTo allowed
@@ -193,36 +193,36 @@ module _ (im : Image) (s w p : List ℕ) (bytes : AllBytes s) (seen : Counts) (o
 
   value-fits : (narrow sorted : Bool) (before at tall x : ℕ) (k : Sort) → suits o narrow k ≡ true → isNarrow k || suits o sorted k ≡ true → (narrow ≡ true → getD s (at - 1) 0 ≡ before) → (sorted ≡ true → before ≤ 4) → valueOf s w p seen o k at tall ≡ Holds x → FieldFits im o i before k (fieldIn s k at)
   unfolding valueOf
-  value-fits narrow sorted before at tall x (Raw n) u v b m e = number-below s bytes n at
-  value-fits narrow sorted before at tall x (Byte low high) u v b m e = rw (← byte-number s at) (byte-fits low high (getD s at 0) tall x e)
-  value-fits narrow sorted before at tall x Scalar u v b m e = rw (← u32-number s at) (holds-true (isScalar (u32At s at)) (Holds tall) BadValue x e .0)
+  value-fits narrow sorted before at tall x (Raw n) u v b m e = aRaw (number-below s bytes n at)
+  value-fits narrow sorted before at tall x (Byte low high) u v b m e = let d = byte-fits low high (getD s at 0) tall x e in rw (← byte-number s at) (aByte (d .0) (d .1))
+  value-fits narrow sorted before at tall x Scalar u v b m e = rw (← u32-number s at) (aScalar (holds-true (isScalar (u32At s at)) (Holds tall) BadValue x e .0))
   value-fits narrow sorted before at tall x Part u v b m e = part-fits (u16At s at) (u16At s (at + 2)) tall x e
-  value-fits narrow sorted before at tall x (One t) u v b m e = rw (← u16-number s at) (refer-fits t (u16At s at) tall x u e)
-  value-fits narrow sorted before at tall x (Maybe t) u v b m e = rw (← u16-number s at) (maybe-fits t (u16At s at) tall x u e)
+  value-fits narrow sorted before at tall x (One t) u v b m e = rw (← u16-number s at) (aReference (refer-fits t (u16At s at) tall x u e))
+  value-fits narrow sorted before at tall x (Maybe t) u v b m e = rw (← u16-number s at) (anOption (maybe-fits t (u16At s at) tall x u e))
   value-fits narrow sorted before at tall x (Many l r n) u v b m e = list-fits (u16At s at) (u16At s (at + 2)) l r n tall x (and-left (refers o l) (refers o r) u) (and-right (refers o l) (refers o r) u) e
-  value-fits narrow sorted before at tall x (Range q) u v b m e = range-fits q (u16At s at) (u16At s (at + 2)) tall x u e
-  value-fits narrow sorted before at tall x OperandSort u v b m e = rw (← byte-number s at) (sort-fits before (getD s at 0) tall x (rw (b u) at e))
-  value-fits narrow sorted before at tall x Operand u v b m e = operand-fits before at tall x (m v) (rw (b u) at e)
+  value-fits narrow sorted before at tall x (Range q) u v b m e = aRange (range-fits q (u16At s at) (u16At s (at + 2)) tall x u e)
+  value-fits narrow sorted before at tall x OperandSort u v b m e = rw (← byte-number s at) (aSort (sort-fits before (getD s at 0) tall x (rw (b u) at e)))
+  value-fits narrow sorted before at tall x Operand u v b m e = anOperand (operand-fits before at tall x (m v) (rw (b u) at e))
 
   -- ---- the fields; `sorted` says that the one before is an operand's sort
 
-  sorted-most : (c before at : ℕ) → FieldFits im o i before (sortOf c) (fieldIn s (sortOf c) at) → eqb c operandSort ≡ true → first (fieldIn s (sortOf c) at) ≤ 4
+  sorted-most : {before : ℕ} {f : Field} (c : ℕ) → FieldFits im o i before (sortOf c) f → eqb c operandSort ≡ true → first f ≤ 4
   unfolding sortOf
-  sorted-most c before at f e =
-      let d : c ≡ operandSort = eqb-true c operandSort e in
-      let g : SortFits before (numAt s at 1) = subst (λ (k : ℕ). FieldFits im o i before (sortOf k) (fieldIn s (sortOf k) at)) d f in
-      rw d (sort-most before (numAt s at 1) g)
+  sorted-most {before} {f} c h e = go (subst (λ (k : ℕ). FieldFits im o i before (sortOf k) f) (eqb-true c operandSort e) h)
+    where
+      go : {f : Field} → FieldFits im o i before OperandSort f → first f ≤ 4
+      go (aSort {x} h) = sort-most before x h
 
-  fields-fit : (narrow sorted : Bool) (before at tall a x : ℕ) (cs : List ℕ) → allSuit o narrow cs ≡ true → inTurn o sorted cs ≡ true → (narrow ≡ true → getD s (at - 1) 0 ≡ before) → (sorted ≡ true → before ≤ 4) → fieldsFrom s w p seen o cs at tall ≡ Next a x → FieldsFit im o i before cs (fieldsAt s cs at)
+  fields-fit : (narrow sorted : Bool) (before at tall a x : ℕ) (cs : List ℕ) → allSuit o narrow cs ≡ true → inTurn o sorted cs ≡ true → (narrow ≡ true → getD s (at - 1) 0 ≡ before) → (sorted ≡ true → before ≤ 4) → fieldsFrom s w p seen o cs at tall ≡ Next a x → FieldsFit im o i before (map sortOf cs) (fieldsAt s cs at)
   unfolding fieldsFrom fieldAt fieldsAt
-  fields-fit narrow sorted before at tall a x [] u v b m e = tt
+  fields-fit narrow sorted before at tall a x [] u v b m e = noFields
   fields-fit narrow sorted before at tall a x (c ∷ cs) u v b m e =
       let k : Sort = sortOf c in
       let q = checked-next (fieldAt s w p seen o k at tall) at a x (λ t. fieldsFrom s w p seen o cs (at + widthOf k) t) e in
       let value = holds-false (past s at (widthOf k)) (valueOf s w p seen o k at tall) BytesEnd (q .0) (q .1) .1 in
       let f = value-fits narrow sorted before at tall (q .0) k (and-left (suits o narrow k) (allSuit o (isNarrow k) cs) u) (and-left (isNarrow k || suits o sorted k) (inTurn o (eqb c operandSort) cs) v) b m value in
-      let rest = fields-fit (isNarrow k) (eqb c operandSort) (first (fieldIn s k at)) (at + widthOf k) (q .0) a x cs (and-right (suits o narrow k) (allSuit o (isNarrow k) cs) u) (and-right (isNarrow k || suits o sorted k) (inTurn o (eqb c operandSort) cs) v) (narrow-byte s k at) (sorted-most c before at f) (q .2) in
-      (f, rest)
+      let rest = fields-fit (isNarrow k) (eqb c operandSort) (first (fieldIn s k at)) (at + widthOf k) (q .0) a x cs (and-right (suits o narrow k) (allSuit o (isNarrow k) cs) u) (and-right (isNarrow k || suits o sorted k) (inTurn o (eqb c operandSort) cs) v) (narrow-byte s k at) (sorted-most c f) (q .2) in
+      f ▹ rest
 
   -- ---- the record, h being the heights of the section's earlier ones
 
@@ -235,8 +235,8 @@ module _ (im : Image) (s w p : List ℕ) (bytes : AllBytes s) (seen : Counts) (o
       let y = height-next o at a x (fieldsFrom s w p seen o cs (at + 1) 0) (q .1) in
       let u = schema-suits o g (q .0) in
       let f = fields-fit false false 0 (at + 1) 0 a (y .0) cs u (schema-turns o g (q .0)) (λ d. absurd (false≢true d)) (λ d. absurd (false≢true d)) (y .1) in
-      let z = all-sized im bounded o i short 0 false cs (fieldsAt s cs (at + 1)) u f in
-      let d = fields-good im bounded s w p seen o i h short ready false 0 (at + 1) 0 cs (fieldsAt s cs (at + 1)) u (λ d. absurd (false≢true d)) f z (fields-stand (recordIn s at) st) in
+      let z = all-sized im bounded o i short false cs u f in
+      let d = fields-good im bounded s w p seen o i h short ready false (at + 1) 0 cs u (λ d. absurd (false≢true d)) f z (fields-stand (recordIn s at) st) in
       let m : y .0 ≡ max 0 (tallestChild im o h cs (fieldsAt s cs (at + 1))) = cc in
       record { kind = q .0; fields = f; height = omega (arith, y .2) }
 

@@ -16,14 +16,13 @@ use Rattle.rl_spec.specs.declared.Section.the-variants.{Texts, Lists, Expressio
 use Rattle.rl_spec.specs.declared.Target.{Target}
 use Rattle.rl_spec.specs.declared.Target.the-variants.{Text}
 use Rattle.rl_spec.specs.declared.Sort.{Sort}
-use Rattle.rl_spec.specs.declared.Sort.the-variants.{Raw, Byte, Scalar, Part, One, Maybe, Many, Range, OperandSort, Operand}
 use Rattle.rl_spec.specs.declared.Check.{Check}
 use Rattle.rl_spec.specs.declared.Check.the-variants.{Holds, Fails}
 use Rattle.rl_spec.specs.Bytes.{u16At}
 use Rattle.rl_spec.specs.Schema.{textBytesAt, countOf}
 use Rattle.rl_spec.specs.Utf8.{utf8}
 use Rattle.rl_spec.specs.Fields.{zeros, allowed, childHeight, entryAt, rangeOf, partOf, byteIn, operandSortOf, referTo, referOrNone, entriesFrom, listOf, operandOf, valueOf}
-use Rattle.rl_spec.specs.Image.{Field, num, pair, Image, orderOf, sizeOf, entryOf, bytesOf, encodeField, heightOf, tallestEntry, tallestIn, Refers, Entries, OperandFits, SortFits, FieldFits}
+use Rattle.rl_spec.specs.Image.{Field, Image, orderOf, sizeOf, entryOf, bytesOf, encodeField, heightOf, tallestEntry, tallestIn, Refers, Entries, OperandFits, SortFits, FieldFits, aRaw, aByte, aScalar, aPart, aReference, anOption, aList, aRange, aSort, anOperand}
 use Rattle.rl_images.specs.Encoding.BytesAt.{Stands, head, tail, left, right, piece, number, byte-number, u32-number, zeros-stand}
 use Rattle.rl_images.specs.Images.SchemaSorts.{refers, suits, and-left, and-right}
 use Rattle.rl_images.specs.Encoding.FieldWidths.{Bounded, Sized, u16-stands, first-stands, second-stands, reference-small}
@@ -137,26 +136,15 @@ module _ (im : Image) (bounded : Bounded im) (s w p : List ℕ) (seen : Counts) 
 
   -- ---- a field; `before` is the byte before an operand's sort and before an operand
 
-  pub value-good : (narrow : Bool) (before at tall : ℕ) (k : Sort) (f : Field) → suits o narrow k ≡ true → (narrow ≡ true → getD s (at - 1) 0 ≡ before) → FieldFits im o i before k f → Sized k f → Stands s at (encodeField k f) → valueOf s w p seen o k at tall ≡ Holds (max tall (tallestIn im o h k f))
+  pub value-good : {before : ℕ} {k : Sort} {f : Field} (narrow : Bool) (at tall : ℕ) → suits o narrow k ≡ true → (narrow ≡ true → getD s (at - 1) 0 ≡ before) → FieldFits im o i before k f → Sized k f → Stands s at (encodeField k f) → valueOf s w p seen o k at tall ≡ Holds (max tall (tallestIn im o h k f))
   unfolding valueOf
-  value-good narrow before at tall (Raw n) (num x) u b d z st = same tall
-  value-good narrow before at tall (Byte low high) (num x) u b d z st =
-      rw (byte-number s at, number 1 x (z .1) st) (byte-good low high x tall (d .0) (d .1) ∙ same tall)
-  value-good narrow before at tall Scalar (num x) u b d z st = rw (u32-number s at, number 4 x (z .1) st, d) (same tall)
-  value-good narrow before at tall Part (pair a n) u b d z st = rw (first-stands a n (z .2) st, second-stands a n (z .3) st) (part-good a n tall (d .0) (d .1) ∙ same tall)
-  value-good narrow before at tall (One t) (num x) u b d z st = rw (u16-stands x (z .1) st) (refer-good t x tall u d)
-  value-good narrow before at tall (Maybe t) (num x) u b d z st = rw (u16-stands x (z .1) st) (maybe-good t x tall u d)
-  value-good narrow before at tall (Many l r m) (pair a n) u b d z st = rw (first-stands a n (z .2) st, second-stands a n (z .3) st) (list-good a n l r m tall (and-left (refers o l) (refers o r) u) (and-right (refers o l) (refers o r) u) (d .0) (d .1 .0) (d .1 .1))
-  value-good narrow before at tall (Range q) (pair a n) u b d z st = rw (first-stands a n (z .2) st, second-stands a n (z .3) st) (range-good q a n tall u d ∙ same tall)
-  value-good narrow before at tall OperandSort (num x) u b d z st = rw (b u, byte-number s at, number 1 x (z .1) st) (sort-good before x tall d ∙ same tall)
-  value-good narrow before at tall Operand (num x) u b d z st = rw (b u) (operand-good before at x tall d st ∙ same tall)
-  value-good narrow before at tall (Raw n) (pair a c) u b d z st = absurd d
-  value-good narrow before at tall (Byte low high) (pair a c) u b d z st = absurd d
-  value-good narrow before at tall Scalar (pair a c) u b d z st = absurd d
-  value-good narrow before at tall Part (num x) u b d z st = absurd d
-  value-good narrow before at tall (One t) (pair a c) u b d z st = absurd d
-  value-good narrow before at tall (Maybe t) (pair a c) u b d z st = absurd d
-  value-good narrow before at tall (Many l r m) (num x) u b d z st = absurd d
-  value-good narrow before at tall (Range q) (num x) u b d z st = absurd d
-  value-good narrow before at tall OperandSort (pair a c) u b d z st = absurd d
-  value-good narrow before at tall Operand (pair a c) u b d z st = absurd d
+  value-good narrow at tall u b (aRaw d) z st = same tall
+  value-good narrow at tall u b (aByte {low} {high} {x} d e) z st = rw (byte-number s at, number 1 x (z .1) st) (byte-good low high x tall d e ∙ same tall)
+  value-good narrow at tall u b (aScalar {x} d) z st = rw (u32-number s at, number 4 x (z .1) st, d) (same tall)
+  value-good narrow at tall u b (aPart {a} {n} d e) z st = rw (first-stands a n (z .2) st, second-stands a n (z .3) st) (part-good a n tall d e ∙ same tall)
+  value-good narrow at tall u b (aReference {t} {x} d) z st = rw (u16-stands x (z .1) st) (refer-good t x tall u d)
+  value-good narrow at tall u b (anOption {t} {x} d) z st = rw (u16-stands x (z .1) st) (maybe-good t x tall u d)
+  value-good narrow at tall u b (aList {l} {r} {m} {a} {n} d e es) z st = rw (first-stands a n (z .2) st, second-stands a n (z .3) st) (list-good a n l r m tall (and-left (refers o l) (refers o r) u) (and-right (refers o l) (refers o r) u) d e es)
+  value-good narrow at tall u b (aRange {q} {a} {n} d) z st = rw (first-stands a n (z .2) st, second-stands a n (z .3) st) (range-good q a n tall u d ∙ same tall)
+  value-good {before} narrow at tall u b (aSort {x} d) z st = rw (b u, byte-number s at, number 1 x (z .1) st) (sort-good before x tall d ∙ same tall)
+  value-good {before} narrow at tall u b (anOperand {x} d) z st = rw (b u) (operand-good before at x tall d st ∙ same tall)

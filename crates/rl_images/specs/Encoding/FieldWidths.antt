@@ -3,7 +3,7 @@
 use Prim.Native.Nat.{ℕ, zero, suc, _+_, _*_, _^_, _≤_, _<_}
 use mathlib.Core.Path.{_≡_, refl, ap, _∙_}
 use mathlib.Core.Bool.{Bool, true, false, cond}
-use mathlib.Core.List.{List, [], _∷_, _++_}
+use mathlib.Core.List.{List, [], _∷_, _++_, map}
 use mathlib.Core.Logic.{inl, inr}
 use native.Mathlib.Omega.{arith}
 use native.Mathlib.Nat.{zero-mul, suc-mul}
@@ -13,10 +13,9 @@ use Rattle.rl_spec.specs.declared.Section.{Section}
 use Rattle.rl_spec.specs.declared.Section.the-variants.{Texts, Lists}
 use Rattle.rl_spec.specs.declared.Target.{Target}
 use Rattle.rl_spec.specs.declared.Sort.{Sort}
-use Rattle.rl_spec.specs.declared.Sort.the-variants.{Raw, Byte, Scalar, Part, One, Maybe, Many, Range, OperandSort, Operand}
 use Rattle.rl_spec.specs.Bytes.{u16At}
 use Rattle.rl_spec.specs.Schema.{sortOf, widthOf, fieldsOf}
-use Rattle.rl_spec.specs.Image.{Field, num, pair, Rec, Image, sizeOf, sectionOf, sameSection, bytesOf, encodeField, encodeFields, encodeRecord, encodeRecords, isPair, fieldIn, fieldsAt, widthsOf, recordIn, nextAt, recordsIn, endAt, Refers, OperandFits, SortFits, FieldFits, FieldsFit, RecordFits, first}
+use Rattle.rl_spec.specs.Image.{Field, num, pair, Rec, Image, sizeOf, sectionOf, sameSection, bytesOf, encodeField, encodeFields, encodeRecord, encodeRecords, isPair, fieldIn, fieldsAt, widthsOf, recordIn, nextAt, recordsIn, endAt, Refers, OperandFits, SortFits, FieldFits, aRaw, aByte, aScalar, aPart, aReference, anOption, aList, aRange, aSort, anOperand, FieldsFit, noFields, _▹_, RecordFits}
 use Rattle.rl_images.specs.Reading.Utf8.{scalar-cases}
 use Rattle.rl_images.specs.Encoding.BytesAt.{Stands, left, right, head, tail, moved, length-bytes, number, u16-number}
 use Rattle.rl_images.specs.Images.SchemaSorts.{suits, isNarrow, allSuit, and-left, and-right, schema-suits}
@@ -72,28 +71,18 @@ module _ (im : Image) (bounded : Bounded im) (o : Section) (i : ℕ) (short : i 
   sort-small zero x h = omega arith
   sort-small (suc b) x h = omega arith
 
-  sized : (before : ℕ) (narrow : Bool) (k : Sort) (f : Field) → suits o narrow k ≡ true → FieldFits im o i before k f → Sized k f
-  sized b narrow (Raw n) (num x) u h = (refl, h)
-  sized b narrow (Byte low high) (num x) u h = (refl, omega (arith, ltb-true high 256 u))
-  sized b narrow Scalar (num x) u h = (refl, scalar-cases x h (λ p. omega arith) (λ p q. omega arith))
-  sized b narrow Part (pair a n) u h = (refl, refl, omega (arith, bounded .bytes), omega (arith, bounded .bytes))
-  sized b narrow (One t) (num x) u h = (refl, omega (arith, reference-small t x h))
-  sized b narrow (Maybe t) (num x) u (inl e) = (refl, omega arith)
-  sized b narrow (Maybe t) (num x) u (inr r) = (refl, omega (arith, reference-small t x r))
-  sized b narrow (Many l r m) (pair a n) u h = (refl, refl, omega (arith, bounded .sizes Lists), omega (arith, bounded .sizes Lists))
-  sized b narrow (Range q) (pair a n) u h = (refl, refl, omega (arith, bounded .sizes q), omega (arith, bounded .sizes q))
-  sized b narrow OperandSort (num x) u h = (refl, sort-small b x h)
-  sized b narrow Operand (num x) u h = (refl, operand-small b x h)
-  sized b narrow (Raw n) (pair c d) u h = absurd h
-  sized b narrow (Byte low high) (pair c d) u h = absurd h
-  sized b narrow Scalar (pair c d) u h = absurd h
-  sized b narrow Part (num x) u h = absurd h
-  sized b narrow (One t) (pair c d) u h = absurd h
-  sized b narrow (Maybe t) (pair c d) u h = absurd h
-  sized b narrow (Many l r m) (num x) u h = absurd h
-  sized b narrow (Range q) (num x) u h = absurd h
-  sized b narrow OperandSort (pair c d) u h = absurd h
-  sized b narrow Operand (pair c d) u h = absurd h
+  sized : {b : ℕ} {k : Sort} {f : Field} (narrow : Bool) → suits o narrow k ≡ true → FieldFits im o i b k f → Sized k f
+  sized narrow u (aRaw p) = (refl, p)
+  sized narrow u (aByte {high = high} p q) = (refl, omega (arith, ltb-true high 256 u))
+  sized narrow u (aScalar {x} p) = (refl, scalar-cases x p (λ p. omega arith) (λ p q. omega arith))
+  sized narrow u (aPart p e) = (refl, refl, omega (arith, bounded .bytes), omega (arith, bounded .bytes))
+  sized narrow u (aReference {t} {x} r) = (refl, omega (arith, reference-small t x r))
+  sized narrow u (anOption (inl e)) = (refl, omega arith)
+  sized narrow u (anOption {t} {x} (inr r)) = (refl, omega (arith, reference-small t x r))
+  sized narrow u (aList p e es) = (refl, refl, omega (arith, bounded .sizes Lists), omega (arith, bounded .sizes Lists))
+  sized narrow u (aRange {q} p) = (refl, refl, omega (arith, bounded .sizes q), omega (arith, bounded .sizes q))
+  sized {b} narrow u (aSort {x} p) = (refl, sort-small b x p)
+  sized {b} narrow u (anOperand {x} p) = (refl, operand-small b x p)
 
 -- ---- the fields of a record
 
@@ -126,15 +115,12 @@ fields-in (c ∷ cs) (f ∷ fs) z st =
     rw (e, fields-in cs fs (z .1) (next-field c cs f fs (z .0) st))
 
 module _ (im : Image) (bounded : Bounded im) (o : Section) (i : ℕ) (short : i ≤ 4096) where
-  pub all-sized : (before : ℕ) (narrow : Bool) (cs : List ℕ) (fs : List Field) → allSuit o narrow cs ≡ true → FieldsFit im o i before cs fs → AllSized cs fs
-  all-sized b narrow [] [] u h = tt
-  all-sized b narrow [] (f ∷ fs) u h = absurd h
-  all-sized b narrow (c ∷ cs) [] u h = absurd h
-  all-sized b narrow (c ∷ cs) (f ∷ fs) u h =
+  pub all-sized : {b : ℕ} {fs : List Field} (narrow : Bool) (cs : List ℕ) → allSuit o narrow cs ≡ true → FieldsFit im o i b (map sortOf cs) fs → AllSized cs fs
+  all-sized narrow [] u noFields = tt
+  all-sized narrow (c ∷ cs) u (h ▹ hs) =
       let v : Bool = suits o narrow (sortOf c) in
       let r : Bool = allSuit o (isNarrow (sortOf c)) cs in
-      let z : Sized (sortOf c) f = sized im bounded o i short b narrow (sortOf c) f (and-left v r u) (h .0) in
-      (z, all-sized (first f) (isNarrow (sortOf c)) cs fs (and-right v r u) (h .1))
+      (sized im bounded o i short narrow (and-left v r u) h, all-sized (isNarrow (sortOf c)) cs (and-right v r u) hs)
 
 -- ---- records
 
@@ -143,7 +129,7 @@ SizedRecord r = AllSized (fieldsOf (r .kind)) (r .fields)
 
 pub record-sized : (im : Image) → Bounded im → (o : Section) (i : ℕ) → i ≤ 4096 → (r : Rec) → RecordFits im o i r → SizedRecord r
 record-sized im bounded o i short r fits =
-    all-sized im bounded o i short 0 false (fieldsOf (r .kind)) (r .fields) (schema-suits o (r .kind) (fits .kind)) (fits .fields)
+    all-sized im bounded o i short false (fieldsOf (r .kind)) (schema-suits o (r .kind) (fits .kind)) (fits .fields)
 
 pub length-record : (r : Rec) → SizedRecord r → length (encodeRecord r) ≡ suc (widthsOf (fieldsOf (r .kind)))
 unfolding encodeRecord

@@ -3,7 +3,7 @@
 use Prim.Native.Nat.{ℕ, _+_, _-_, _≤_, max}
 use mathlib.Core.Path.{_≡_, refl, _∙_}
 use mathlib.Core.Bool.{Bool, true, false, false≢true}
-use mathlib.Core.List.{List, [], _∷_}
+use mathlib.Core.List.{List, [], _∷_, map}
 use native.Mathlib.Omega.{arith}
 use lib.ListN.{length, getD}
 use borrow.Author.Tests.{lt-ltb, eqb-true}
@@ -13,7 +13,7 @@ use Rattle.rl_spec.specs.declared.Sort.{Sort}
 use Rattle.rl_spec.specs.declared.Step.the-variants.{Next}
 use Rattle.rl_spec.specs.Schema.{tallest, sortOf, widthOf, fieldsOf}
 use Rattle.rl_spec.specs.Fields.{fieldAt, fieldsFrom, recordAt}
-use Rattle.rl_spec.specs.Image.{Field, num, pair, Rec, Image, first, encodeField, encodeFields, encodeRecord, widthsOf, tallestIn, tallestChild, FieldsFit, RecordFits}
+use Rattle.rl_spec.specs.Image.{Field, num, pair, Rec, Image, first, encodeField, encodeFields, encodeRecord, widthsOf, tallestIn, tallestChild, FieldsFit, noFields, _▹_, RecordFits}
 use Rattle.rl_images.specs.Encoding.BytesAt.{Stands, left, there, number, byte-number}
 use Rattle.rl_images.specs.Images.SchemaSorts.{suits, isNarrow, allSuit, and-left, and-right, schema-suits}
 use Rattle.rl_images.specs.Encoding.FieldWidths.{Bounded, Sized, AllSized, SizedRecord, width, next-field, record-sized, length-record, kind-stands, fields-stand}
@@ -31,19 +31,16 @@ next : {a b x y : ℕ} → a ≡ b → x ≡ y → Next a x ≡ Next b y
 next d e = cc
 
 module _ (im : Image) (bounded : Bounded im) (s w p : List ℕ) (seen : Counts) (o : Section) (i : ℕ) (h : List ℕ) (short : i ≤ 4096) (ready : Ready im s w p seen o i h) where
-  pub fields-good : (narrow : Bool) (before at tall : ℕ) (cs : List ℕ) (fs : List Field) → allSuit o narrow cs ≡ true → (narrow ≡ true → getD s (at - 1) 0 ≡ before) → FieldsFit im o i before cs fs → AllSized cs fs → Stands s at (encodeFields cs fs) → fieldsFrom s w p seen o cs at tall ≡ Next (at + widthsOf cs) (max tall (tallestChild im o h cs fs))
+  pub fields-good : {before : ℕ} {fs : List Field} (narrow : Bool) (at tall : ℕ) (cs : List ℕ) → allSuit o narrow cs ≡ true → (narrow ≡ true → getD s (at - 1) 0 ≡ before) → FieldsFit im o i before (map sortOf cs) fs → AllSized cs fs → Stands s at (encodeFields cs fs) → fieldsFrom s w p seen o cs at tall ≡ Next (at + widthsOf cs) (max tall (tallestChild im o h cs fs))
   unfolding fieldsFrom fieldAt encodeFields widthsOf tallestChild
-  fields-good narrow before at tall [] [] u b d z st = next (omega arith) (omega arith)
-  fields-good narrow before at tall [] (f ∷ fs) u b d z st = absurd d
-  fields-good narrow before at tall (c ∷ cs) [] u b d z st = absurd d
-  fields-good narrow before at tall (c ∷ cs) (f ∷ fs) u b d z st =
+  fields-good narrow at tall [] u b noFields z st = next (omega arith) (omega arith)
+  fields-good narrow at tall (c ∷ cs) u b (_▹_ {f = f} {fs = fs} d ds) z st =
       let k : Sort = sortOf c in
       let here = left (encodeField k f) (encodeFields cs fs) st in
-      let v = and-left (suits o narrow k) (allSuit o (isNarrow k) cs) u in
-      let e = value-good im bounded s w p seen o i h short ready narrow before at tall k f v b (d .0) (z .0) here in
+      let e = value-good im bounded s w p seen o i h short ready narrow at tall (and-left (suits o narrow k) (allSuit o (isNarrow k) cs) u) b d (z .0) here in
       rw (there here (widthOf k) (width k f (z .0)), e)
-      (fields-good (isNarrow k) (first f) (at + widthOf k) (max tall (tallestIn im o h k f)) cs fs (and-right (suits o narrow k) (allSuit o (isNarrow k) cs) u)
-      (last-byte k f (z .0) here) (d .1) (z .1) (next-field c cs f fs (z .0) st)
+      (fields-good (isNarrow k) (at + widthOf k) (max tall (tallestIn im o h k f)) cs (and-right (suits o narrow k) (allSuit o (isNarrow k) cs) u)
+      (last-byte k f (z .0) here) ds (z .1) (next-field c cs f fs (z .0) st)
       ∙ next (omega arith) (omega arith))
 
   module _ (r : Rec) (fits : RecordFits im o i r) where
@@ -54,6 +51,6 @@ module _ (im : Image) (bounded : Bounded im) (s w p : List ℕ) (seen : Counts) 
         let most : ℕ = tallestChild im o h cs (r .fields) in
         let z : SizedRecord r = record-sized im bounded o i short r fits in
         let here = there (left (r .kind ∷ []) (encodeFields cs (r .fields)) st) 1 refl in
-        let e = fields-good false 0 (at + 1) 0 cs (r .fields) (schema-suits o (r .kind) (fits .kind)) (λ d. absurd (false≢true d)) (fits .fields) z (fields-stand r st) in
+        let e = fields-good false (at + 1) 0 cs (schema-suits o (r .kind) (fits .kind)) (λ d. absurd (false≢true d)) (fits .fields) z (fields-stand r st) in
         let m : max 0 most ≡ most = omega arith in
         rw (here, kind-stands r st, fits .kind, e, m, lt-ltb most (tallest o) (omega arith)) (next (omega (arith, length-record r z)) refl)

@@ -3,7 +3,7 @@
 use Prim.Native.Nat.{ℕ, zero, suc, _+_, _≤_, _<_}
 use mathlib.Core.Path.{_≡_, refl, ap, _∙_}
 use mathlib.Core.Bool.{Bool, true, false, cond}
-use mathlib.Core.List.{List, [], _∷_, _++_}
+use mathlib.Core.List.{List, [], _∷_, _++_, map}
 use native.Mathlib.Omega.{arith}
 use lib.Dec.{eqb}
 use lib.ListN.{length, getD, length-append, List·getD-eq-default}
@@ -16,12 +16,10 @@ use Rattle.rl_spec.specs.declared.Form.{Form}
 use Rattle.rl_spec.specs.declared.Form.the-variants.{IsErr, ResultUnwrap, Other}
 use Rattle.rl_spec.specs.declared.Section.{Section}
 use Rattle.rl_spec.specs.declared.Section.the-variants.{Expressions}
-use Rattle.rl_spec.specs.declared.Sort.{Sort}
-use Rattle.rl_spec.specs.declared.Sort.the-variants.{One, Many}
 use Rattle.rl_spec.specs.declared.Target.the-variants.{Expression}
 use Rattle.rl_spec.specs.Schema.{sortOf, fieldsOf, fieldsIn, schema}
 use Rattle.rl_spec.specs.Read.{answerOf, startsOf}
-use Rattle.rl_spec.specs.Image.{Field, num, pair, noField, Rec, Image, recordsOf, sizeOf, noRecord, recordOf, fieldOf, first, second, entryOf, tallestEntry, tallestIn, tallestChild, heightsFrom, heights, imageOf, FieldFits, FieldsFit, AllBytes, WellFormed}
+use Rattle.rl_spec.specs.Image.{Field, noField, Rec, Image, recordsOf, sizeOf, noRecord, recordOf, fieldOf, first, second, entryOf, tallestEntry, tallestChild, heightsFrom, heights, imageOf, Entries, aRaw, aByte, aReference, aList, FieldsFit, noFields, _▹_, AllBytes, WellFormed}
 use Rattle.rl_spec.specs.Found.{imageFound}
 use Rattle.rl_spec.specs.Tree.{Expr, other, ascii, number, isResPath, below, callForm, formBy, treeBy, exprTree}
 use Rattle.rl_laws.specs.Tests.{by-ltb}
@@ -60,66 +58,49 @@ module _ (im : Image) (o : Section) where
   unfolding heights
   next-at i p = next-from (recordsOf im o) [] i i (omega arith) p
 
--- ---- the fields that the trees look at
-
-abbrev pub FieldIs : ℕ → ℕ → Sort → Type 0
-FieldIs k j o = (j < length (fieldsOf k)) × (sortOf (getD (fieldsOf k) j 0) ≡ o)
-
-binary-left : FieldIs 32 1 (One Expression)
-unfolding fieldsOf fieldsIn schema sortOf
-binary-left = (omega arith, refl)
-
-binary-right : FieldIs 32 3 (One Expression)
-unfolding fieldsOf fieldsIn schema sortOf
-binary-right = (omega arith, refl)
-
-unary-node : FieldIs 33 2 (One Expression)
-unfolding fieldsOf fieldsIn schema sortOf
-unary-node = (omega arith, refl)
-
-grouping-node : FieldIs 34 1 (One Expression)
-unfolding fieldsOf fieldsIn schema sortOf
-grouping-node = (omega arith, refl)
-
-assign-node : FieldIs 39 2 (One Expression)
-unfolding fieldsOf fieldsIn schema sortOf
-assign-node = (omega arith, refl)
-
-call-arguments : FieldIs 41 2 (Many Expression Expression 1)
-unfolding fieldsOf fieldsIn schema sortOf
-call-arguments = (omega arith, refl)
-
-ok-node : FieldIs 49 1 (One Expression)
-unfolding fieldsOf fieldsIn schema sortOf
-ok-node = (omega arith, refl)
-
-err-node : FieldIs 50 1 (One Expression)
-unfolding fieldsOf fieldsIn schema sortOf
-err-node = (omega arith, refl)
-
 -- ---- the tree of a record that fits, t being the trees of the records before it and h their heights
 
 module _ (im : Image) (i : ℕ) (h : List ℕ) (t : ℕ → Expr ℕ) (low : (n : ℕ) → n < i → exprHeight (t n) ≤ getD h n 0) where
-  one-low : (b : ℕ) (o : Sort) (f : Field) → o ≡ One Expression → FieldFits im Expressions i b o f → exprHeight (t (first f)) ≤ tallestIn im Expressions h o f
-  one-low b o (num x) e p = let q : FieldFits im Expressions i b (One Expression) (num x) = rw e at p in rw e (low x (q .earlier))
-  one-low b o (pair x n) e p = let q : FieldFits im Expressions i b (One Expression) (pair x n) = rw e at p in absurd q
+  abbrev Fit : ℕ → List Field → Type 0
+  Fit k fs = FieldsFit im Expressions i 0 (map sortOf (fieldsOf k)) fs
 
-  entry-low : (b : ℕ) (o : Sort) (f : Field) → o ≡ Many Expression Expression 1 → second f ≡ 1 → FieldFits im Expressions i b o f → exprHeight (t (entryOf im (first f))) ≤ tallestIn im Expressions h o f
-  unfolding tallestEntry
-  entry-low b o (num x) e d p = let q : FieldFits im Expressions i b (Many Expression Expression 1) (num x) = rw e at p in absurd q
-  entry-low b o (pair x n) e d p =
-      let q : FieldFits im Expressions i b (Many Expression Expression 1) (pair x 1) = rw (e, d) at p in
-      rw (e, d) (omega (arith, low (entryOf im x) (q .1 .1 .0 .earlier)))
+  -- the n-th tree is no taller than the children
+  abbrev Under : ℕ → List Field → ℕ → Type 0
+  Under k fs n = exprHeight (t n) ≤ tallestChild im Expressions h (fieldsOf k) fs
 
-  -- what one field bounds, the whole record does
-  field-low : (x b j : ℕ) (cs : List ℕ) (fs : List Field) → j < length cs → FieldsFit im Expressions i b cs fs → ((a : ℕ) → FieldFits im Expressions i a (sortOf (getD cs j 0)) (getD fs j noField) → x ≤ tallestIn im Expressions h (sortOf (getD cs j 0)) (getD fs j noField)) → x ≤ tallestChild im Expressions h cs fs
-  unfolding tallestChild
-  field-low x b j [] fs l p f = absurd (omega arith)
-  field-low x b j (c ∷ cs) [] l p f = absurd p
-  field-low x b zero (c ∷ cs) (v ∷ fs) l p f = omega (arith, f b (p .0))
-  field-low x b (suc j) (c ∷ cs) (v ∷ fs) l p f = omega (arith, field-low x (first v) j cs fs (omega arith) (p .1) f)
+  binary-low : {fs : List Field} → Fit 32 fs → Under 32 fs (first (getD fs 1 noField)) × Under 32 fs (first (getD fs 3 noField))
+  unfolding fieldsOf fieldsIn schema sortOf tallestChild
+  binary-low (aRaw w ▹ aReference {x = m} p ▹ aByte l u ▹ aReference {x = n} q ▹ noFields) =
+      (omega (arith, low m (p .earlier)), omega (arith, low n (q .earlier)))
 
-  module _ (r : Rec) (fits : FieldsFit im Expressions i 0 (fieldsOf (r .kind)) (r .fields)) where
+  unary-low : {fs : List Field} → Fit 33 fs → Under 33 fs (first (getD fs 2 noField))
+  unfolding fieldsOf fieldsIn schema sortOf tallestChild
+  unary-low (aRaw w ▹ aByte l u ▹ aReference {x = n} p ▹ noFields) = omega (arith, low n (p .earlier))
+
+  grouping-low : {fs : List Field} → Fit 34 fs → Under 34 fs (first (getD fs 1 noField))
+  unfolding fieldsOf fieldsIn schema sortOf tallestChild
+  grouping-low (aRaw w ▹ aReference {x = n} p ▹ noFields) = omega (arith, low n (p .earlier))
+
+  assign-low : {fs : List Field} → Fit 39 fs → Under 39 fs (first (getD fs 2 noField))
+  unfolding fieldsOf fieldsIn schema sortOf tallestChild
+  assign-low (aRaw w ▹ aReference r ▹ aReference {x = n} p ▹ noFields) = omega (arith, low n (p .earlier))
+
+  ok-low : {fs : List Field} → Fit 49 fs → Under 49 fs (first (getD fs 1 noField))
+  unfolding fieldsOf fieldsIn schema sortOf tallestChild
+  ok-low (aRaw w ▹ aReference {x = n} p ▹ noFields) = omega (arith, low n (p .earlier))
+
+  err-low : {fs : List Field} → Fit 50 fs → Under 50 fs (first (getD fs 1 noField))
+  unfolding fieldsOf fieldsIn schema sortOf tallestChild
+  err-low (aRaw w ▹ aReference {x = n} p ▹ noFields) = omega (arith, low n (p .earlier))
+
+  -- the argument of a call that has one
+  argument-low : {fs : List Field} → Fit 41 fs → second (getD fs 2 noField) ≡ 1 → Under 41 fs (entryOf im (first (getD fs 2 noField)))
+  unfolding fieldsOf fieldsIn schema sortOf tallestChild tallestEntry
+  argument-low (aRaw w ▹ aList l m ts ▹ aList {a = a} p q es ▹ noFields) d =
+      let e : Entries im Expressions i 1 a Expression Expression = rw d at es in
+      rw d (omega (arith, low (entryOf im a) (e .0 .earlier)))
+
+  module _ (r : Rec) (fits : Fit (r .kind) (r .fields)) where
     abbrev top : ℕ
     top = tallestChild im Expressions h (fieldsOf (r .kind)) (r .fields) + 1
 
@@ -133,16 +114,8 @@ module _ (im : Image) (i : ℕ) (h : List ℕ) (t : ℕ → Expr ℕ) (low : (n 
     by-kind : (m : ℕ) (x y : Form) → (r .kind ≡ m → Low x) → Low y → Low (cond (eqb (r .kind) m) x y)
     by-kind m x y f g = by-test (eqb (r .kind) m) x y (λ e. f (eqb-true (r .kind) m e)) g
 
-    child-low : (k j : ℕ) → FieldIs k j (One Expression) → r .kind ≡ k → exprHeight (t (number r j)) + 1 ≤ top
-    child-low k j p e =
-        let q : sortOf (getD (fieldsOf (r .kind)) j 0) ≡ One Expression = rw e (p .1) in
-        omega (arith, field-low (exprHeight (t (number r j))) 0 j (fieldsOf (r .kind)) (r .fields) (rw e (p .0)) fits (λ a z. one-low a (sortOf (getD (fieldsOf (r .kind)) j 0)) (fieldOf r j) q z))
-
-    -- the argument of a call that has one
-    argument-low : r .kind ≡ 41 → second (fieldOf r 2) ≡ 1 → exprHeight (t (entryOf im (number r 2))) + 1 ≤ top
-    argument-low e d =
-        let q : sortOf (getD (fieldsOf (r .kind)) 2 0) ≡ Many Expression Expression 1 = rw e (call-arguments .1) in
-        omega (arith, field-low (exprHeight (t (entryOf im (number r 2)))) 0 2 (fieldsOf (r .kind)) (r .fields) (rw e (call-arguments .0)) fits (λ a z. entry-low a (sortOf (getD (fieldsOf (r .kind)) 2 0)) (fieldOf r 2) q d z))
+    child-low : {k x : ℕ} → r .kind ≡ k → x ≤ tallestChild im Expressions h (fieldsOf k) (r .fields) → x + 1 ≤ top
+    child-low e p = rw e (omega arith)
 
     by-tests : (a b c : Bool) (n : ℕ) → (a ≡ true → exprHeight (t n) + 1 ≤ top) → Low (cond a (cond b (IsErr n) (cond c (ResultUnwrap n) Other)) Other)
     unfolding exprHeight
@@ -153,7 +126,7 @@ module _ (im : Image) (i : ℕ) (h : List ℕ) (t : ℕ → Expr ℕ) (low : (n 
 
     call-low : r .kind ≡ 41 → Low (callForm im (fieldOf r 1) (fieldOf r 2))
     unfolding callForm
-    call-low e = by-tests (eqb (second (fieldOf r 2)) 1) (isResPath im (fieldOf r 1) (ascii "is_err")) (isResPath im (fieldOf r 1) (ascii "result_unwrap")) (entryOf im (number r 2)) (λ d. argument-low e (eqb-true (second (fieldOf r 2)) 1 d))
+    call-low e = by-tests (eqb (second (fieldOf r 2)) 1) (isResPath im (fieldOf r 1) (ascii "is_err")) (isResPath im (fieldOf r 1) (ascii "result_unwrap")) (entryOf im (number r 2)) (λ d. child-low e (argument-low (rw e at fits) (eqb-true (second (fieldOf r 2)) 1 d)))
 
     form-low : Low (formBy im r)
     unfolding formBy exprHeight
@@ -167,13 +140,13 @@ module _ (im : Image) (i : ℕ) (h : List ℕ) (t : ℕ → Expr ℕ) (low : (n 
         (by-kind 27 _ _ (λ e. omega arith)
         (by-kind 28 _ _ (λ e. omega arith)
         (by-kind 30 _ _ (λ e. omega arith)
-        (by-kind 32 _ _ (λ e. omega (arith, child-low 32 1 binary-left e, child-low 32 3 binary-right e))
-        (by-kind 33 _ _ (λ e. omega (arith, child-low 33 2 unary-node e))
-        (by-kind 34 _ _ (λ e. omega (arith, child-low 34 1 grouping-node e))
-        (by-kind 39 _ _ (λ e. omega (arith, child-low 39 2 assign-node e))
+        (by-kind 32 _ _ (λ e. let p = binary-low (rw e at fits) in omega (arith, child-low e (p .0), child-low e (p .1)))
+        (by-kind 33 _ _ (λ e. omega (arith, child-low e (unary-low (rw e at fits))))
+        (by-kind 34 _ _ (λ e. omega (arith, child-low e (grouping-low (rw e at fits))))
+        (by-kind 39 _ _ (λ e. omega (arith, child-low e (assign-low (rw e at fits))))
         (by-kind 41 _ _ call-low
-        (by-kind 49 _ _ (λ e. omega (arith, child-low 49 1 ok-node e))
-        (by-kind 50 _ _ (λ e. omega (arith, child-low 50 1 err-node e)) (omega arith))))))))))))))))
+        (by-kind 49 _ _ (λ e. omega (arith, child-low e (ok-low (rw e at fits))))
+        (by-kind 50 _ _ (λ e. omega (arith, child-low e (err-low (rw e at fits)))) (omega arith))))))))))))))))
 
 -- ---- the tree at an index
 

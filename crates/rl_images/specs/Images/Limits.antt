@@ -1,20 +1,18 @@
 -- What a well-formed image keeps to: the limits of its sections, and the ranges of its functions.
 -- Assumes nothing.
-use Prim.Native.Nat.{ℕ, zero, suc, _+_, _≤_, _<_}
-use mathlib.Core.Path.{_≡_, refl, sym, ap, subst, _∙_}
-use mathlib.Core.Bool.{true, false}
+use Prim.Native.Nat.{ℕ, zero, suc, _≤_, _<_}
+use mathlib.Core.Path.{_≡_, refl, sym, subst}
 use mathlib.Core.List.{List, [], _∷_, map}
 use native.Mathlib.Omega.{arith}
 use native.Mathlib.Nat.{le-refl}
-use lib.Dec.{T, leb}
 use lib.ListN.{length, getD, List·getD-eq-default}
-use borrow.Author.Tests.{leb-true, lt-ltb, le-ltb}
 use Rattle.rl_laws.specs.Tests.{by-ltb}
 use Rattle.rl_spec.specs.declared.Section.{Section}
 use Rattle.rl_spec.specs.declared.Section.the-variants.{Texts, Parameters, Functions}
-use Rattle.rl_spec.specs.Schema.{limits, inSection, sortOf, fieldsOf, fieldsIn, schema}
-use Rattle.rl_spec.specs.Image.{Field, num, pair, noField, Rec, Image, orderOf, recordsOf, sizeOf, noRecord, recordOf, fieldOf, second, FieldsFit, AllBytes, AllWithin, WellFormed}
+use Rattle.rl_spec.specs.Schema.{limits}
+use Rattle.rl_spec.specs.Image.{Rec, Image, orderOf, recordsOf, sizeOf, noRecord, recordOf, fieldOf, second, AllBytes, AllWithin, WellFormed}
 use Rattle.rl_spec.specs.Records.{functionAt}
+use Rattle.rl_images.specs.Images.FunctionFields.{function-fits}
 
 -- ---- the limits
 
@@ -36,23 +34,6 @@ size-within im wf o =
     subst (λ (n : ℕ). n ≤ getD limits (suc (orderOf o)) 0) (length-at (im .records) (orderOf o))
     (within-at (length (im .bytes) ∷ map length (im .records)) limits (wf .counts) (suc (orderOf o)))
 
--- ---- the parameters of a function
-
-is-function : (k : ℕ) → inSection Functions k ≡ true → k ≡ 82
-unfolding inSection
-is-function k h =
-    by-ltb k 82 (λ l. let z : false ≡ true = rw (lt-ltb k 82 l) at h in absurd (subst T (sym z) tt))
-    (λ l. let z : leb k 82 ≡ true = rw (le-ltb k 82 l) at h in omega (arith, leb-true k 82 z))
-
--- the third field is a range of parameters
-third : (im : Image) (i : ℕ) (fs : List Field) → FieldsFit im Functions i 0 (fieldsOf 82) fs → second (getD fs 2 noField) ≤ sizeOf im Parameters
-unfolding fieldsOf fieldsIn schema sortOf
-third im i [] h = omega arith
-third im i (a ∷ []) h = omega arith
-third im i (a ∷ b ∷ []) h = omega arith
-third im i (a ∷ b ∷ num x ∷ fs) h = omega arith
-third im i (a ∷ b ∷ pair x n ∷ fs) h = omega (arith, h .1 .1 .0)
-
 module _ (im : Image) (wf : WellFormed im) where
   -- THEOREMS: there are at most 2,048 texts, and a function has at most 256 parameters
   pub texts-within : sizeOf im Texts ≤ 2048
@@ -63,11 +44,7 @@ module _ (im : Image) (wf : WellFormed im) where
   unfolding functionAt limits
   parameters-within f =
       by-ltb f (sizeOf im Functions)
-      (λ l.
-      let r = wf .fits Functions f l in
-      let k : recordOf im Functions f .kind ≡ 82 = is-function (recordOf im Functions f .kind) (r .kind) in
-      let n = third im f (recordOf im Functions f .fields) (subst (λ (x : ℕ). FieldsFit im Functions f 0 (fieldsOf x) (recordOf im Functions f .fields)) k (r .fields)) in
-      omega (arith, n, size-within im wf Parameters))
+      (λ l. omega (arith, function-fits im wf f l .params, size-within im wf Parameters))
       (λ l.
       let e : recordOf im Functions f ≡ noRecord = List·getD-eq-default (recordsOf im Functions) noRecord l in
       subst (λ (r : Rec). second (fieldOf r 2) ≤ 256) (sym e) (omega arith))

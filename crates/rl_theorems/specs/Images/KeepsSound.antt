@@ -3,7 +3,7 @@
 use Prim.Native.Nat.{ℕ, zero, suc, _+_, _%_, _^_, _≤_, _<_}
 use mathlib.Core.Path.{_≡_, refl, ap, _∙_}
 use mathlib.Core.Bool.{Bool, true, false, cond}
-use mathlib.Core.List.{List, [], _∷_, _++_}
+use mathlib.Core.List.{List, [], _∷_, _++_, map}
 use mathlib.Core.Option.{Option, none, some}
 use native.Mathlib.Omega.{arith}
 use lib.ListN.{length, getD, drop, take, length-append, length-map}
@@ -16,7 +16,7 @@ use Rattle.rl_spec.specs.declared.Sort.{Sort}
 use Rattle.rl_spec.specs.declared.Sort.the-variants.{Many}
 use Rattle.rl_spec.specs.Schema.{inSection, sortOf, fieldsOf, fieldsIn, schema}
 use Rattle.rl_spec.specs.Fields.{takes}
-use Rattle.rl_spec.specs.Image.{Field, num, pair, noRecord, Rec, Image, recordsOf, sizeOf, recordOf, entryOf, sectionOf, sameSection, heightOf, tallestEntry, tallestChild, heights, Entries, FieldsFit, RecordFits}
+use Rattle.rl_spec.specs.Image.{Field, num, pair, noRecord, Rec, Image, recordsOf, sizeOf, recordOf, entryOf, sectionOf, sameSection, heightOf, tallestEntry, tallestChild, heights, Entries, aRaw, aPart, aList, FieldsFit, noFields, _▹_ as _▸_, RecordFits}
 use Rattle.rl_spec.specs.Make.{Context, Make, andThen, withImage, withBytes, append, made, newText, newList, most, mostBytes}
 use Rattle.rl_images.specs.Encoding.Header.{bounded}
 use Rattle.rl_images.specs.Lowering.Grows.{size-grows, appended, withText, textRecords, listRecords, records-own, Growing}
@@ -102,11 +102,11 @@ Lines h ns c = Refs (c .image) Statements h Statement Statement ns
 -- ---- a text
 
 text-fits : (im : Image) (s : List ℕ) → Proper s →
-    FieldsFit (withBytes im (im .bytes ++ s)) Texts (sizeOf im Texts) 0 (fieldsOf 2) (pair (length (im .bytes)) (length s) ∷ [])
+    FieldsFit (withBytes im (im .bytes ++ s)) Texts (sizeOf im Texts) 0 (map sortOf (fieldsOf 2)) (pair (length (im .bytes)) (length s) ∷ [])
 unfolding fieldsOf fieldsIn schema sortOf
 text-fits im s p =
     let e : take (length s) (drop (length (im .bytes)) (im .bytes ++ s)) ≡ s = rw (drop-append-seam (im .bytes) s) (take-length s) in
-    ((rw length-append (omega arith), rw e (p .is-utf8)), tt)
+    aPart {a = length (im .bytes)} {n = length s} (rw length-append (omega arith)) (rw e (p .is-utf8)) ▸ noFields
 
 text-low : (im : Image) (h : List ℕ) (f : Field) → tallestChild im Texts h (fieldsOf 2) (f ∷ []) ≡ 0
 unfolding tallestChild fieldsOf fieldsIn schema sortOf
@@ -150,7 +150,7 @@ lists-flat Arm = refl
 
 entry-fits : (im : Image) (i n : ℕ) → n < 65536 → RecordFits im Lists i (made 3 (num n ∷ []))
 unfolding inSection fieldsOf fieldsIn schema sortOf
-entry-fits im i n p = record { kind = refl; fields = (omega arith, tt); height = flat-height im Lists lists-flat i }
+entry-fits im i n p = record { kind = refl; fields = aRaw {n = 2} p ▸ noFields; height = flat-height im Lists lists-flat i }
 
 refs-small : {im : Image} {o : Section} {h : ℕ} {l r : Target} (ns : List ℕ) → Sound im → Refs im o h l r ns → (j : ℕ) → j < length ns →
     getD ns j 0 < 65536
@@ -194,7 +194,7 @@ list-held {im} {o} s ns xs e =
     let d : sizeOf (appended im Lists (listRecords ns)) Lists ≡ sizeOf im Lists + length ns =
     ap length (own s Lists tt (listRecords ns)) ∙ length-append (recordsOf im Lists) (listRecords ns)
     ∙ ap (λ (n : ℕ). sizeOf im Lists + n) (length-map ns (λ n. made 3 (num n ∷ []))) in
-    record { before = 0; fits = (omega arith, (e, q .0)); low = q .1 }
+    record { before = 0; fits = aList {a = sizeOf im Lists} {n = length ns} (omega arith) e (q .0); low = q .1 }
 
 pub list-sure : {o : Section} {h : ℕ} {l r : Target} (m : ℕ) (ns : List ℕ) (c : Context) → length ns % m ≡ 0 → Refs (c .image) o h l r ns →
     KeepsSound c (λ list d. Held (d .image) o h (Many l r m) list) (newList ns c)

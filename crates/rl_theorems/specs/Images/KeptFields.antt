@@ -3,9 +3,10 @@
 use Prim.Native.Nat.{ℕ, zero, suc, _+_, _≤_, _<_}
 use mathlib.Core.Path.{_≡_, refl, ap}
 use mathlib.Core.Bool.{Bool, true, false, cond}
-use mathlib.Core.List.{List, [], _∷_}
+use mathlib.Core.List.{List, []}
 use mathlib.Core.Logic.{inl, inr}
 use native.Mathlib.Omega.{arith}
+use native.Mathlib.Nat.{le-trans}
 use lib.ListN.{length, getD}
 use borrow.Author.Tests.{eqb-true}
 use Rattle.rl_spec.specs.declared.Section.{Section}
@@ -13,10 +14,8 @@ use Rattle.rl_spec.specs.declared.Section.the-variants.{Texts, Lists, Statement
 use Rattle.rl_spec.specs.declared.Target.{Target}
 use Rattle.rl_spec.specs.declared.Target.the-variants.{Text, Expression, Statement, Branch, ElseBranch, Arm}
 use Rattle.rl_spec.specs.declared.Sort.{Sort}
-use Rattle.rl_spec.specs.declared.Sort.the-variants.{Raw, Byte, Scalar, Part, One, Maybe, Many, Range, OperandSort, Operand}
-use Rattle.rl_spec.specs.Schema.{sortOf}
 use Rattle.rl_spec.specs.Fields.{takes}
-use Rattle.rl_spec.specs.Image.{Field, num, pair, Rec, Image, orderOf, sizeOf, recordOf, first, entryOf, sectionOf, sameSection, Refers, Entries, OperandFits, FieldFits, FieldsFit}
+use Rattle.rl_spec.specs.Image.{Field, Rec, Image, orderOf, sizeOf, recordOf, entryOf, sectionOf, sameSection, Refers, Entries, OperandFits, FieldFits, aRaw, aByte, aScalar, aPart, aReference, anOption, aList, aRange, aSort, anOperand, FieldsFit, noFields, _▹_}
 use Rattle.rl_images.specs.Lowering.Grows.{Longer, Grows, longer-length, longer-part, size-grows, record-kept, entry-kept}
 
 pub record Keeps (im im′ : Image) : Type 0 where
@@ -80,31 +79,19 @@ module _ {im im′ : Image} (k : Keeps im im′) (o : Section) (i j : ℕ) (l : 
   operand-kept (suc (suc (suc (suc zero)))) x h = omega (arith, k .sizes Texts)
   operand-kept (suc (suc (suc (suc (suc n))))) x h = h
 
-  pub field-kept : (b : ℕ) (s : Sort) (f : Field) → FieldFits im o i b s f → FieldFits im′ o j b s f
-  field-kept b (Raw n) (num x) h = h
-  field-kept b (Byte low high) (num x) h = h
-  field-kept b Scalar (num x) h = h
-  field-kept b Part (pair a n) h = (omega (arith, h .0, longer-length (k .bytes)), rw (longer-part a n (k .bytes) (h .0)) (h .1))
-  field-kept b (One t) (num x) h = refers-kept t x h
-  field-kept b (Maybe t) (num x) (inl e) = inl e
-  field-kept b (Maybe t) (num x) (inr r) = inr (refers-kept t x r)
-  field-kept b (Many t u n) (pair a c) h = (omega (arith, h .0, k .sizes Lists), (h .1 .0, entries-kept c a t u (h .0) (h .1 .1)))
-  field-kept b (Range q) (pair a n) h = omega (arith, h, k .sizes q)
-  field-kept b OperandSort (num x) h = h
-  field-kept b Operand (num x) h = operand-kept b x h
-  field-kept b (Raw n) (pair x y) h = h
-  field-kept b (Byte low high) (pair x y) h = h
-  field-kept b Scalar (pair x y) h = h
-  field-kept b Part (num x) h = h
-  field-kept b (One t) (pair x y) h = h
-  field-kept b (Maybe t) (pair x y) h = h
-  field-kept b (Many t u n) (num x) h = h
-  field-kept b (Range q) (num x) h = h
-  field-kept b OperandSort (pair x y) h = h
-  field-kept b Operand (pair x y) h = h
+  pub field-kept : {b : ℕ} {s : Sort} {f : Field} → FieldFits im o i b s f → FieldFits im′ o j b s f
+  field-kept (aRaw p) = aRaw p
+  field-kept (aByte p q) = aByte p q
+  field-kept (aScalar p) = aScalar p
+  field-kept (aPart {a} {n} p q) = aPart (le-trans p (longer-length (k .bytes))) (rw (longer-part a n (k .bytes) p) q)
+  field-kept (aReference {t} {x} r) = aReference (refers-kept t x r)
+  field-kept (anOption (inl e)) = anOption (inl e)
+  field-kept (anOption {t} {x} (inr r)) = anOption (inr (refers-kept t x r))
+  field-kept (aList {l = t} {r = u} {a = a} {n = n} p e h) = aList (le-trans p (k .sizes Lists)) e (entries-kept n a t u p h)
+  field-kept (aRange {q} p) = aRange (le-trans p (k .sizes q))
+  field-kept (aSort p) = aSort p
+  field-kept {b} (anOperand {x} p) = anOperand (operand-kept b x p)
 
-  pub fields-kept : (b : ℕ) (cs : List ℕ) (fs : List Field) → FieldsFit im o i b cs fs → FieldsFit im′ o j b cs fs
-  fields-kept b [] [] h = h
-  fields-kept b [] (f ∷ fs) h = h
-  fields-kept b (c ∷ cs) [] h = h
-  fields-kept b (c ∷ cs) (f ∷ fs) h = (field-kept b (sortOf c) f (h .0), fields-kept (first f) cs fs (h .1))
+  pub fields-kept : {b : ℕ} {ks : List Sort} {fs : List Field} → FieldsFit im o i b ks fs → FieldsFit im′ o j b ks fs
+  fields-kept noFields = noFields
+  fields-kept (h ▹ hs) = field-kept h ▹ fields-kept hs

@@ -3,7 +3,7 @@
 use Prim.Native.Nat.{ℕ, zero, suc, _+_, _≤_, _<_, max}
 use mathlib.Core.Path.{_≡_, refl, ap, ap₂, sym, _∙_}
 use mathlib.Core.Bool.{Bool, true, false, cond}
-use mathlib.Core.List.{List, [], _∷_, _++_}
+use mathlib.Core.List.{List, [], _∷_, _++_, map}
 use mathlib.Core.Logic.{_⊎_, inl, inr}
 use native.Mathlib.Omega.{arith}
 use lib.Dec.{eqb}
@@ -16,7 +16,7 @@ use Rattle.rl_spec.specs.declared.Target.{Target}
 use Rattle.rl_spec.specs.declared.Sort.{Sort}
 use Rattle.rl_spec.specs.declared.Sort.the-variants.{Raw, Byte, Scalar, Part, One, Maybe, Many, Range, OperandSort, Operand}
 use Rattle.rl_spec.specs.Schema.{sortOf, fieldsOf}
-use Rattle.rl_spec.specs.Image.{Field, num, pair, Rec, Image, recordsOf, sizeOf, noRecord, recordOf, first, second, entryOf, sectionOf, sameSection, heightOf, tallestEntry, tallestIn, tallestChild, heightsFrom, heights, Refers, Entries, FieldFits, FieldsFit}
+use Rattle.rl_spec.specs.Image.{Field, Rec, Image, recordsOf, sizeOf, noRecord, recordOf, first, second, entryOf, sectionOf, sameSection, heightOf, tallestEntry, tallestIn, tallestChild, heightsFrom, heights, Refers, Entries, FieldFits, aRaw, aByte, aScalar, aPart, aReference, anOption, aList, aRange, aSort, anOperand, FieldsFit, noFields, _▹_}
 use Rattle.rl_laws.specs.Tests.{by-ltb}
 use Rattle.rl_images.specs.Encoding.SectionLoop.{heights-kept}
 use Rattle.rl_images.specs.Encoding.Encoded.{heights-all}
@@ -49,27 +49,23 @@ module _ {im im′ : Image} (k : Keeps im im′) (o : Section) (i : ℕ) (h g : 
   maybe-height t x false d (inl e) = absurd (eqb-false x 65535 d e)
   maybe-height t x false d (inr r) = height-kept t x r
 
-  pub tallest-in : (b : ℕ) (s : Sort) (f : Field) → FieldFits im o i b s f → tallestIn im′ o g s f ≡ tallestIn im o h s f
-  tallest-in b (Raw n) f e = refl
-  tallest-in b (Byte low high) f e = refl
-  tallest-in b Scalar f e = refl
-  tallest-in b Part f e = refl
-  tallest-in b (One t) (num x) e = height-kept t x e
-  tallest-in b (One t) (pair x y) e = absurd e
-  tallest-in b (Maybe t) (num x) e = maybe-height t x (eqb x 65535) refl e
-  tallest-in b (Maybe t) (pair x y) e = absurd e
-  tallest-in b (Many t u n) (num x) e = absurd e
-  tallest-in b (Many t u n) (pair x y) e = entry-height y x t u (e .0) (e .1 .1)
-  tallest-in b (Range q) f e = refl
-  tallest-in b OperandSort f e = refl
-  tallest-in b Operand f e = refl
+  pub tallest-in : {b : ℕ} {s : Sort} {f : Field} → FieldFits im o i b s f → tallestIn im′ o g s f ≡ tallestIn im o h s f
+  tallest-in (aRaw p) = refl
+  tallest-in (aByte p q) = refl
+  tallest-in (aScalar p) = refl
+  tallest-in (aPart p q) = refl
+  tallest-in (aReference {t} {x} r) = height-kept t x r
+  tallest-in (anOption {t} {x} r) = maybe-height t x (eqb x 65535) refl r
+  tallest-in (aList {l = t} {r = u} {a = a} {n = n} p e es) = entry-height n a t u p es
+  tallest-in (aRange p) = refl
+  tallest-in (aSort p) = refl
+  tallest-in (anOperand p) = refl
 
-  pub tallest-child : (b : ℕ) (cs : List ℕ) (fs : List Field) → FieldsFit im o i b cs fs →
+  pub tallest-child : {b : ℕ} {fs : List Field} (cs : List ℕ) → FieldsFit im o i b (map sortOf cs) fs →
       tallestChild im′ o g cs fs ≡ tallestChild im o h cs fs
   unfolding tallestChild
-  tallest-child b [] fs e = refl
-  tallest-child b (c ∷ cs) [] e = refl
-  tallest-child b (c ∷ cs) (f ∷ fs) e = ap₂ max (tallest-in b (sortOf c) f (e .0)) (tallest-child (first f) cs fs (e .1))
+  tallest-child [] noFields = refl
+  tallest-child (c ∷ cs) (e ▹ es) = ap₂ max (tallest-in e) (tallest-child cs es)
 
 -- ---- the heights of a section that has grown
 
@@ -80,16 +76,16 @@ heights-append im o [] qs h = refl
 heights-append im o (r ∷ rs) qs h = heights-append im o rs qs (h ++ (tallestChild im o h (fieldsOf (r .kind)) (r .fields) + 1) ∷ [])
 
 abbrev pub AllFit : Image → Section → Type 0
-AllFit im o = (i : ℕ) → i < sizeOf im o → FieldsFit im o i 0 (fieldsOf (recordOf im o i .kind)) (recordOf im o i .fields)
+AllFit im o = (i : ℕ) → i < sizeOf im o → FieldsFit im o i 0 (map sortOf (fieldsOf (recordOf im o i .kind))) (recordOf im o i .fields)
 
 module _ {im im′ : Image} (k : Keeps im im′) (o : Section) where
   same-heights : (rs : List Rec) (h : List ℕ) →
-      ((j : ℕ) → j < length rs → (i : ℕ) × FieldsFit im o i 0 (fieldsOf (getD rs j noRecord .kind)) (getD rs j noRecord .fields)) →
+      ((j : ℕ) → j < length rs → (i : ℕ) × FieldsFit im o i 0 (map sortOf (fieldsOf (getD rs j noRecord .kind))) (getD rs j noRecord .fields)) →
       heightsFrom im′ o rs h ≡ heightsFrom im o rs h
   unfolding heightsFrom
   same-heights [] h fit = refl
   same-heights (r ∷ rs) h fit =
-      let e = tallest-child k o (fit 0 (omega arith) .0) h h (λ n p. refl) 0 (fieldsOf (r .kind)) (r .fields) (fit 0 (omega arith) .1) in
+      let e = tallest-child k o (fit 0 (omega arith) .0) h h (λ n p. refl) (fieldsOf (r .kind)) (fit 0 (omega arith) .1) in
       ap (λ (x : ℕ). heightsFrom im′ o rs (h ++ (x + 1) ∷ [])) e
       ∙ same-heights rs (h ++ (tallestChild im o h (fieldsOf (r .kind)) (r .fields) + 1) ∷ []) (λ j p. fit (suc j) (omega arith))
 
@@ -105,14 +101,14 @@ module _ {im im′ : Image} (k : Keeps im im′) (o : Section) where
 
   module _ (fit : AllFit im o) (r : Rec) (e : recordsOf im′ o ≡ recordsOf im o ++ r ∷ []) where
     -- the height of one new record
-    pub height-new : FieldsFit im o (sizeOf im o) 0 (fieldsOf (r .kind)) (r .fields) →
+    pub height-new : FieldsFit im o (sizeOf im o) 0 (map sortOf (fieldsOf (r .kind))) (r .fields) →
         getD (heights im′ o) (sizeOf im o) 0 ≡ tallestChild im o (heights im o) (fieldsOf (r .kind)) (r .fields) + 1
     unfolding heightsFrom
     height-new f =
         let h : List ℕ = heights im o in
         let x : ℕ = tallestChild im′ o h (fieldsOf (r .kind)) (r .fields) + 1 in
         let d : x ≡ tallestChild im o h (fieldsOf (r .kind)) (r .fields) + 1 =
-        ap (λ (n : ℕ). n + 1) (tallest-child k o (sizeOf im o) h h (λ n p. refl) 0 (fieldsOf (r .kind)) (r .fields) f) in
+        ap (λ (n : ℕ). n + 1) (tallest-child k o (sizeOf im o) h h (λ n p. refl) (fieldsOf (r .kind)) f) in
         ap (λ (l : List ℕ). getD l (sizeOf im o) 0) (heights-grown fit (r ∷ []) e) ∙ getD-at h x [] 0 (sizeOf im o) (heights-all im o) ∙ d
 
 -- the height of a record that is there
@@ -122,7 +118,7 @@ own-height im o fit i p =
     let next : Next im o (heights im o) i (recordOf im o i) = next-at im o i p in
     let r : Rec = recordOf im o i in
     let same : tallestChild im o (heights im o) (fieldsOf (r .kind)) (r .fields) ≡ tallestChild im o (next .earlier) (fieldsOf (r .kind)) (r .fields) =
-    tallest-child (grows-keeps grows-same) o i (next .earlier) (heights im o) (next .same) 0 (fieldsOf (r .kind)) (r .fields) (fit i p) in
+    tallest-child (grows-keeps grows-same) o i (next .earlier) (heights im o) (next .same) (fieldsOf (r .kind)) (fit i p) in
     next .here ∙ ap (λ (n : ℕ). n + 1) (sym same)
 
 -- ---- sections that nothing refers to

@@ -3,7 +3,7 @@
 use Prim.Native.Nat.{ℕ, zero, suc, _+_, _≤_, _<_}
 use mathlib.Core.Path.{_≡_, refl, ap, sym, _∙_}
 use mathlib.Core.Bool.{true}
-use mathlib.Core.List.{List, [], _∷_, append-nil}
+use mathlib.Core.List.{List, [], _∷_, append-nil, map}
 use mathlib.Core.Option.{some}
 use native.Mathlib.Omega.{arith}
 use lib.ListN.{length, getD, set, length-set}
@@ -15,7 +15,7 @@ use Rattle.rl_spec.specs.declared.Sort.the-variants.{Many}
 use Rattle.rl_spec.specs.declared.Answer.the-variants.{Accepted}
 use Rattle.rl_spec.specs.Schema.{sortOf, fieldsOf, fieldsIn, schema}
 use Rattle.rl_spec.specs.Read.{answerOf}
-use Rattle.rl_spec.specs.Image.{Field, num, pair, noRecord, Rec, Image, orderOf, recordsOf, sizeOf, recordOf, fieldOf, first, heights, encode, imageOf, Entries, FieldFits, FieldsFit, RecordFits, WellFormed}
+use Rattle.rl_spec.specs.Image.{Field, noRecord, Rec, Image, orderOf, recordsOf, sizeOf, recordOf, fieldOf, first, heights, encode, imageOf, Entries, FieldFits, aList, FieldsFit, RecordFits, WellFormed}
 use Rattle.rl_spec.specs.Make.{Context}
 use Rattle.rl_spec.specs.Lower.{newBody, start, bodied, withBody, lowered, paramsIn, bodyIn, requiresIn, ensuresIn}
 use Rattle.rl_laws.specs.Tests.{by-eqb}
@@ -27,13 +27,13 @@ use Rattle.rl_images.specs.Lowering.GrowsTo.{Later, good-is}
 use Rattle.rl_images.specs.Lowering.Followed.{Lowering, untouched, rebuilt, lowering}
 use Rattle.rl_theorems.specs.Images.KeptFields.{Keeps, fields-kept}
 use Rattle.rl_theorems.specs.Images.KeptHeights.{Flat, flat-height, height-stays}
-use Rattle.rl_images.specs.Images.SchemaSorts.{and-left, and-right}
+use Rattle.rl_images.specs.Images.SchemaSorts.{kind-range}
 use Rattle.rl_theorems.specs.Images.SoundImages.{Sound, well-formed-sound, sound-well-formed, all-fit, counts-set, same-order}
 use Rattle.rl_theorems.specs.Images.NewReferences.{Held}
 use Rattle.rl_theorems.specs.Images.KeepsSound.{Ready, KeepsSound, list-sure, _⇝_}
 use Rattle.rl_theorems.specs.Images.NewFields.{fields-set}
 use Rattle.rl_theorems.specs.Images.SoundBodies.{desugar-sure}
-use Rattle.rl_theorems.specs.Images.FunctionReady.{Under, function-kind, start-ready, params-ready, requires-ready, ensures-ready, body-ready}
+use Rattle.rl_theorems.specs.Images.FunctionReady.{Under, start-ready, params-ready, requires-ready, ensures-ready, body-ready}
 
 -- ---- the new body
 
@@ -90,10 +90,8 @@ module _ {im : Image} (s : Sound im) (f : ℕ) (p : f < sizeOf im Functions) (li
       }
 
   kept-fields : (o : Section) (i : ℕ) → i < sizeOf im o →
-      FieldsFit changed o i 0 (fieldsOf (recordOf im o i .kind)) (recordOf im o i .fields)
-  kept-fields o i l =
-      fields-kept changed-keeps o i i (omega arith) (omega arith) 0 (fieldsOf (recordOf im o i .kind)) (recordOf im o i .fields)
-      (all-fit s o i l)
+      FieldsFit changed o i 0 (map sortOf (fieldsOf (recordOf im o i .kind))) (recordOf im o i .fields)
+  kept-fields o i l = fields-kept changed-keeps o i i (omega arith) (omega arith) (all-fit s o i l)
 
   other-fits : (o : Section) → (orderOf Functions ≡ orderOf o → ⊥) → (i : ℕ) → i < sizeOf im o →
       RecordFits changed o i (recordOf changed o i)
@@ -112,16 +110,15 @@ module _ {im : Image} (s : Sound im) (f : ℕ) (p : f < sizeOf im Functions) (li
   entries-body zero a h = tt
   entries-body (suc n) a h = (record { earlier = h .0 .earlier; taken = h .0 .taken }, entries-body n (a + 1) (h .1))
 
-  list-fits : (list : Field) → Held im Statements 34 (Many Statement Statement 1) list → (a : ℕ) →
-      FieldFits im Functions f a (Many Statement Statement 1) list
-  list-fits (num x) e a = absurd (e .fits)
-  list-fits (pair x n) e a = (e .fits .0, (e .fits .1 .0, entries-body n x (e .fits .1 .1)))
+  list-fits : {a b : ℕ} {list : Field} → FieldFits im Statements (sizeOf im Statements) a (Many Statement Statement 1) list →
+      FieldFits im Functions f b (Many Statement Statement 1) list
+  list-fits (aList {a = a} {n = n} p e es) = aList p e (entries-body n a es)
 
-  body-fits : FieldsFit im Functions f 0 (fieldsOf (function .kind)) (set (function .fields) 4 list)
+  body-fits : FieldsFit im Functions f 0 (map sortOf (fieldsOf (function .kind))) (set (function .fields) 4 list)
   unfolding fieldsOf fieldsIn schema sortOf
   body-fits =
-      let e : function .kind ≡ 82 = function-kind s f p in
-      rw e (fields-set im Functions f 0 4 (fieldsOf 82) (function .fields) list refl (list-fits list held) (rw e at (all-fit s Functions f p)))
+      let e : function .kind ≡ 82 = omega (arith, kind-range Functions (function .kind) (s .fits Functions f p .kind)) in
+      rw e (fields-set 4 (fieldsOf 82) list refl (λ a. list-fits (held .fits)) (rw e at (all-fit s Functions f p)))
 
   function-fits : (i : ℕ) → i < sizeOf im Functions → RecordFits changed Functions i (recordOf changed Functions i)
   function-fits i l =
@@ -132,8 +129,7 @@ module _ {im : Image} (s : Sound im) (f : ℕ) (p : f < sizeOf im Functions) (li
       rw (← e, d)
       (record {
         kind = s .fits Functions f p .kind;
-        fields = fields-kept changed-keeps Functions f f (omega arith) (omega arith) 0 (fieldsOf (function .kind))
-            (set (function .fields) 4 list) body-fits;
+        fields = fields-kept changed-keeps Functions f f (omega arith) (omega arith) body-fits;
         height = flat-height changed Functions functions-flat f;
       }))
       (λ n.

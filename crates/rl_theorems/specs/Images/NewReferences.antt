@@ -3,7 +3,7 @@
 use Prim.Native.Nat.{ℕ, zero, suc, _+_, _^_, _≤_, _<_}
 use mathlib.Core.Path.{_≡_}
 use mathlib.Core.List.{List, [], _∷_, _++_, map}
-use mathlib.Core.Logic.{_⊎_, inl, inr}
+use mathlib.Core.Logic.{inl, inr}
 use native.Mathlib.Omega.{arith}
 use lib.ListN.{length, getD}
 use borrow.Author.Tests.{ne-eqb}
@@ -12,9 +12,10 @@ use Rattle.rl_spec.specs.declared.Target.{Target}
 use Rattle.rl_spec.specs.declared.Sort.{Sort}
 use Rattle.rl_spec.specs.declared.Sort.the-variants.{Raw, One, Maybe, Many}
 use Rattle.rl_spec.specs.Schema.{sortOf, fieldsOf}
-use Rattle.rl_spec.specs.Image.{Field, num, pair, noField, Rec, Image, sizeOf, recordOf, first, entryOf, sectionOf, heightOf, tallestEntry, tallestIn, tallestChild, heights, Refers, Entries, FieldFits, FieldsFit}
+use Rattle.rl_spec.specs.Image.{Field, noField, Rec, Image, sizeOf, recordOf, first, second, entryOf, sectionOf, heightOf, tallestEntry, tallestIn, tallestChild, heights, Refers, Entries, FieldFits, FieldsFit, noFields, _▹_}
 use Rattle.rl_spec.specs.Ranges.{upFrom}
 use Rattle.rl_spec.specs.Make.{entriesOf}
+use Rattle.rl_images.specs.Images.FieldFacts.{raw-says, reference-says, option-says, list-says}
 use Rattle.rl_images.specs.Lowering.Grows.{Longer, Grows, grows-records, grows-same}
 use Rattle.rl_theorems.specs.Images.KeptFields.{grows-keeps, refers-there, refers-kept, field-kept, fields-kept}
 use Rattle.rl_theorems.specs.Images.KeptHeights.{height-kept, tallest-in, tallest-child, height-stays, own-height}
@@ -41,7 +42,7 @@ pub record Held (im : Image) (o : Section) (h : ℕ) (s : Sort) (f : Field) : Ty
   pub low : tallestIn im o (heights im o) s f ≤ h
 
 pub record AllHeld (im : Image) (o : Section) (h b : ℕ) (cs : List ℕ) (fs : List Field) : Type 0 where
-  pub fits : FieldsFit im o (sizeOf im o) b cs fs
+  pub fits : FieldsFit im o (sizeOf im o) b (map sortOf cs) fs
   pub low : tallestChild im o (heights im o) cs fs ≤ h
 
 -- ---- growth keeps them
@@ -65,18 +66,18 @@ module _ {im im′ : Image} (s : Sound im) (g : Grows im im′) (o : Section) wh
   refs-kept (ref x xs) = ref (ref-kept x) (refs-kept xs)
 
   pub held-kept : {h : ℕ} {k : Sort} {f : Field} → Held im o h k f → Held im′ o h k f
-  held-kept {h} {k} {f} x =
+  held-kept x =
       record {
         before = x .before;
-        fits = field-kept (grows-keeps g) o (sizeOf im o) (sizeOf im′ o) at-end (omega arith) (x .before) k f (x .fits);
-        low = rw (tallest-in (grows-keeps g) o (sizeOf im o) (heights im o) (heights im′ o) stays (x .before) k f (x .fits)) (x .low);
+        fits = field-kept (grows-keeps g) o (sizeOf im o) (sizeOf im′ o) at-end (omega arith) (x .fits);
+        low = rw (tallest-in (grows-keeps g) o (sizeOf im o) (heights im o) (heights im′ o) stays (x .fits)) (x .low);
       }
 
   pub all-kept : {h b : ℕ} {cs : List ℕ} {fs : List Field} → AllHeld im o h b cs fs → AllHeld im′ o h b cs fs
-  all-kept {h} {b} {cs} {fs} x =
+  all-kept {cs = cs} x =
       record {
-        fits = fields-kept (grows-keeps g) o (sizeOf im o) (sizeOf im′ o) at-end (omega arith) b cs fs (x .fits);
-        low = rw (tallest-child (grows-keeps g) o (sizeOf im o) (heights im o) (heights im′ o) stays b cs fs (x .fits)) (x .low);
+        fits = fields-kept (grows-keeps g) o (sizeOf im o) (sizeOf im′ o) at-end (omega arith) (x .fits);
+        low = rw (tallest-child (grows-keeps g) o (sizeOf im o) (heights im o) (heights im′ o) stays cs (x .fits)) (x .low);
       }
 
 -- ---- a greater bound
@@ -106,8 +107,7 @@ module _ {im : Image} (s : Sound im) (o : Section) (i : ℕ) (p : i < sizeOf im 
   pub own-held : {h : ℕ} → getD (heights im o) i 0 ≤ h + 1 → AllHeld im o h 0 (fieldsOf (here .kind)) (here .fields)
   own-held {h} l =
       record {
-        fits = fields-kept (grows-keeps grows-same) o i (sizeOf im o) (omega arith) (omega arith) 0 (fieldsOf (here .kind)) (here .fields)
-            (all-fit s o i p);
+        fits = fields-kept (grows-keeps grows-same) o i (sizeOf im o) (omega arith) (omega arith) (all-fit s o i p);
         low = omega (arith, own-height im o (all-fit s o) i p);
       }
 
@@ -115,33 +115,29 @@ module _ {im : Image} (s : Sound im) (o : Section) (i : ℕ) (p : i < sizeOf im 
   own-tall = omega (arith, own-height im o (all-fit s o) i p)
 
 -- the j-th field
-pub held-at : {im : Image} {o : Section} {h : ℕ} (b j : ℕ) (cs : List ℕ) (fs : List Field) → j < length cs → AllHeld im o h b cs fs →
+pub held-at : {im : Image} {o : Section} {h b : ℕ} {fs : List Field} (j : ℕ) (cs : List ℕ) → j < length cs → AllHeld im o h b cs fs →
     Held im o h (sortOf (getD cs j 0)) (getD fs j noField)
 unfolding tallestChild
-held-at b j [] fs l x = absurd (omega arith)
-held-at b j (c ∷ cs) [] l x = absurd (x .fits)
-held-at b zero (c ∷ cs) (f ∷ fs) l x = record { before = b; fits = x .fits .0; low = omega (arith, x .low) }
-held-at b (suc j) (c ∷ cs) (f ∷ fs) l x =
-    held-at (first f) j cs fs (omega arith) (record { fits = x .fits .1; low = omega (arith, x .low) })
+held-at {im} {o} {h} j cs l x = go j cs l (x .fits) (x .low)
+  where
+    go : {b : ℕ} {fs : List Field} (j : ℕ) (cs : List ℕ) → j < length cs → FieldsFit im o (sizeOf im o) b (map sortOf cs) fs →
+        tallestChild im o (heights im o) cs fs ≤ h → Held im o h (sortOf (getD cs j 0)) (getD fs j noField)
+    go j [] l noFields low = absurd (omega arith)
+    go {b} zero (c ∷ cs) l (f ▹ fs) low = record { before = b; fits = f; low = omega (arith, low) }
+    go (suc j) (c ∷ cs) l (f ▹ fs) low = go j cs (omega arith) fs (omega (arith, low))
 
 -- ---- what a field says
 
 module _ {im : Image} {o : Section} {h : ℕ} where
   pub raw-below : {m : ℕ} (f : Field) → Held im o h (Raw m) f → first f < 256 ^ m
-  raw-below (num x) e = e .fits
-  raw-below (pair x y) e = absurd (e .fits)
+  raw-below f e = raw-says (e .fits)
 
   pub one-ref : {t : Target} (f : Field) → Held im o h (One t) f → Ref im o h t (first f)
-  one-ref (num x) e = record { refers = e .fits; low = e .low }
-  one-ref (pair x y) e = absurd (e .fits)
+  one-ref f e = record { refers = reference-says (e .fits); low = e .low }
 
   pub maybe-ref : {t : Target} (f : Field) → Held im o h (Maybe t) f → (first f ≡ 65535 → ⊥) → Ref im o h t (first f)
-  maybe-ref {t} (num x) e n = go (e .fits)
-    where
-      go : (x ≡ 65535) ⊎ Refers im o (sizeOf im o) t x → Ref im o h t x
-      go (inl d) = absurd (n d)
-      go (inr r) = record { refers = r; low = rw (ne-eqb x 65535 n) at (e .low) }
-  maybe-ref {t} (pair x y) e n = absurd (e .fits)
+  maybe-ref {t} f e n = record
+      { refers = elim (option-says (e .fits)) [ inl d ↦ absurd (n d) | inr r ↦ r ]; low = rw (ne-eqb (first f) 65535 n) at (e .low) }
 
   entries-refs : (n a : ℕ) (l r : Target) → Entries im o (sizeOf im o) n a l r → tallestEntry im o (heights im o) n a l r ≤ h →
       Refs im o h l r (map (entryOf im) (upFrom a n))
@@ -151,5 +147,4 @@ module _ {im : Image} {o : Section} {h : ℕ} where
       ref (record { refers = e .0; low = omega arith }) (entries-refs n (a + 1) r l (e .1) (omega arith))
 
   pub many-refs : {l r : Target} {m : ℕ} (f : Field) → Held im o h (Many l r m) f → Refs im o h l r (entriesOf im f)
-  many-refs (num x) e = absurd (e .fits)
-  many-refs {l} {r} (pair a n) e = entries-refs n a l r (e .fits .1 .1) (e .low)
+  many-refs {l} {r} f e = entries-refs (second f) (first f) l r (list-says (e .fits) .2) (e .low)

@@ -3,7 +3,7 @@
 use Prim.Native.Nat.{ℕ, zero, suc, _+_, _/_, _%_, _^_, _<_}
 use mathlib.Core.Path.{_≡_, refl, ap, _∙_}
 use mathlib.Core.Bool.{Bool, true, false, cond, _&&_}
-use mathlib.Core.List.{List, [], _∷_, _++_}
+use mathlib.Core.List.{List, [], _∷_, _++_, map}
 use mathlib.Core.Option.{some}
 use native.Mathlib.Omega.{arith}
 use lib.Dec.{ltb}
@@ -13,7 +13,7 @@ use borrow.Author.Tests.{ltb-true}
 use Rattle.rl_spec.specs.declared.Section.the-variants.{Texts}
 use Rattle.rl_spec.specs.Schema.{sortOf, fieldsOf, fieldsIn, schema}
 use Rattle.rl_spec.specs.Utf8.{utf8, octets, encodeText}
-use Rattle.rl_spec.specs.Image.{Field, num, pair, noField, Rec, Image, recordOf, first, second, textOf, FieldsFit, RecordFits, AllBytes}
+use Rattle.rl_spec.specs.Image.{Field, noField, Rec, Image, recordOf, first, second, textOf, aPart, FieldsFit, noFields, _▹_, RecordFits, AllBytes}
 use Rattle.rl_spec.specs.Values.{RefineOp, gt, ge, lt, le, eq, ne}
 use Rattle.rl_spec.specs.Tree.{ascii}
 use Rattle.rl_spec.specs.Words.{bits64}
@@ -75,18 +75,16 @@ decimal-proper n = decimal-by 20 n
 -- ---- a text of the image
 
 module _ (im : Image) (bytes : AllBytes (im .bytes)) where
-  part-proper : (t : ℕ) (fs : List Field) → FieldsFit im Texts t 0 (fieldsOf 2) fs →
+  part-proper : {t : ℕ} {fs : List Field} → FieldsFit im Texts t 0 (map sortOf (fieldsOf 2)) fs →
       Proper (take (second (getD fs 0 noField)) (drop (first (getD fs 0 noField)) (im .bytes)))
   unfolding fieldsOf fieldsIn schema sortOf
-  part-proper t [] h = absurd h
-  part-proper t (num x ∷ fs) h = absurd (h .0)
-  part-proper t (pair a n ∷ fs) h = record { bytes = take-bytes n (drop a (im .bytes)) (drop-bytes a (im .bytes) bytes); is-utf8 = h .0 .1 }
+  part-proper (aPart {a} {n} p u ▹ noFields) = record { bytes = take-bytes n (drop a (im .bytes)) (drop-bytes a (im .bytes) bytes); is-utf8 = u }
 
   pub text-proper : (t : ℕ) → RecordFits im Texts t (recordOf im Texts t) → Proper (textOf im t)
   text-proper t h =
       let r : Rec = recordOf im Texts t in
       let e : r .kind ≡ 2 = omega (arith, kind-range Texts (r .kind) (h .kind)) in
-      part-proper t (r .fields) (rw e at (h .fields))
+      part-proper (rw e at (h .fields))
 
 -- ---- the text of a refinement
 

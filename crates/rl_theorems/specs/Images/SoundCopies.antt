@@ -3,7 +3,7 @@
 use Prim.Native.Nat.{ℕ, zero, suc, _+_, _-_, _%_, _≤_}
 use mathlib.Core.Path.{_≡_, refl, ap, _∙_}
 use mathlib.Core.Bool.{Bool, true, false, cond, _&&_, _||_, false≢true}
-use mathlib.Core.List.{List, [], _∷_}
+use mathlib.Core.List.{List, [], _∷_, map}
 use native.Mathlib.Omega.{arith}
 use lib.Dec.{ltb}
 use lib.ListN.{length, length-map}
@@ -14,11 +14,12 @@ use Rattle.rl_spec.specs.declared.Target.the-variants.{Text, Expression, Statem
 use Rattle.rl_spec.specs.declared.Sort.{Sort}
 use Rattle.rl_spec.specs.declared.Sort.the-variants.{Raw, Byte, Scalar, Part, One, Maybe, Many, Range, OperandSort, Operand}
 use Rattle.rl_spec.specs.Schema.{inSection, sortOf, fieldsOf, fieldsIn, schema}
-use Rattle.rl_spec.specs.Image.{Field, num, pair, Rec, Image, sizeOf, recordOf, first, second, entryOf, tallestChild, FieldFits}
+use Rattle.rl_spec.specs.Image.{Field, Rec, Image, sizeOf, recordOf, first, second, entryOf, tallestChild, heights, FieldsFit, noFields, _▹_}
 use Rattle.rl_spec.specs.Tree.{below, descendBy, descend}
 use Rattle.rl_spec.specs.Ranges.{upFrom}
 use Rattle.rl_spec.specs.Make.{Context, Make, _>>=_, give, fail, self, append, made, newList, entriesOf}
 use Rattle.rl_spec.specs.Lower.{isNode, cloneEntries, cloneField, cloneFields, isLambda, cloneRecord, deepCloneExpr}
+use Rattle.rl_images.specs.Images.FieldFacts.{list-says}
 use Rattle.rl_images.specs.Images.SchemaSorts.{all-at, and-left, and-right, kind-range}
 use Rattle.rl_theorems.specs.Images.NewReferences.{Ref, ref-there, ref-higher, Refs, noRefs, ref, Held, AllHeld, own-held, own-tall, one-ref, many-refs}
 use Rattle.rl_theorems.specs.Images.NewFields.{allPlain, plain, nil-held, cons-held, one-held}
@@ -43,8 +44,7 @@ length-entries : (im : Image) (f : Field) → length (entriesOf im f) ≡ second
 length-entries im f = length-map (upFrom (first f) (second f)) (entryOf im) ∙ length-up (first f) (second f)
 
 many-turns : {im : Image} {o : Section} {h m : ℕ} {l r : Target} (f : Field) → Held im o h (Many l r m) f → second f % m ≡ 0
-many-turns (num x) e = absurd (e .fits)
-many-turns (pair a n) e = e .fits .1 .0
+many-turns f e = list-says (e .fits) .1
 
 -- ---- the copy, where `clone` copies what stands before it
 
@@ -96,15 +96,16 @@ module _ (h : ℕ) (clone : ℕ → Make ℕ) (copies : (n : ℕ) (c : Context) 
   field-sure OperandSort f c x = sure-given x
   field-sure Operand f c x = sure-given x
 
-  fields-sure : (b : ℕ) (cs : List ℕ) (fs : List Field) (c : Context) → allPlain cs ≡ true → AllHeld (c .image) Expressions h b cs fs →
+  fields-sure : {b : ℕ} {fs : List Field} (cs : List ℕ) (c : Context) → allPlain cs ≡ true →
+      FieldsFit (c .image) Expressions (sizeOf (c .image) Expressions) b (map sortOf cs) fs →
+      tallestChild (c .image) Expressions (heights (c .image) Expressions) cs fs ≤ h →
       KeepsSound c (λ gs d. (a : ℕ) → AllHeld (d .image) Expressions h a cs gs) (cloneFields clone cs fs c)
   unfolding cloneFields tallestChild
-  fields-sure b [] fs c p x = sure-given (λ a. nil-held)
-  fields-sure b (k ∷ cs) [] c p x = absurd (x .fits)
-  fields-sure b (k ∷ cs) (f ∷ fs) c p x =
-      field-sure (sortOf k) f c (record { before = b; fits = x .fits .0; low = omega (arith, x .low) }) ⇝ λ g d on y.
-      fields-sure (first f) cs fs d (and-right (plain (sortOf k)) (allPlain cs) p)
-      (all-on on (record { fits = x .fits .1; low = omega (arith, x .low) })) ⇝ λ gs e on′ ys.
+  fields-sure [] c p noFields low = sure-given (λ a. nil-held)
+  fields-sure {b} (k ∷ cs) c p (_▹_ {f = f} x xs) low =
+      field-sure (sortOf k) f c (record { before = b; fits = x; low = omega (arith, low) }) ⇝ λ g d on y.
+      let held : AllHeld (d .image) Expressions h (first f) cs _ = all-on on (record { fits = xs; low = omega (arith, low) }) in
+      fields-sure cs d (and-right (plain (sortOf k)) (allPlain cs) p) (held .fits) (held .low) ⇝ λ gs e on′ ys.
       sure-given (λ a. cons-held (and-left (plain (sortOf k)) (allPlain cs) p) (held-on on′ y) (ys (first g)))
 
 -- ---- the whole copy
@@ -130,7 +131,7 @@ record-sure clone copies h id c l x =
     (cloneFields clone (fieldsOf (r .kind)) (r .fields) >>= λ fs. append Expressions (made (r .kind) fs ∷ [])) c
     (λ e. sure-given x)
     (λ e. fields-sure (h - 1) clone
-    (λ n d y. copies (h - 1) n d (omega arith) y) 0 (fieldsOf (r .kind)) (r .fields) c (expression-plain (r .kind) kind) own ⇝ λ fs d on ys.
+    (λ n d y. copies (h - 1) n d (omega arith) y) (fieldsOf (r .kind)) c (expression-plain (r .kind) kind) (own .fits) (own .low) ⇝ λ fs d on ys.
     node-sure (r .kind) fs d kind (omega arith) (ys 0) ↠ λ n z on′ y. ref-higher q y)
 
 abbrev copyStep : ℕ → (ℕ → Make ℕ) → Make ℕ

@@ -6,7 +6,7 @@ use mathlib.Core.Bool.{Bool, true, false, cond}
 use mathlib.Core.List.{List, [], _∷_, _++_}
 use mathlib.Core.Logic.{inl, inr}
 use native.Mathlib.Omega.{arith}
-use lib.Dec.{eqb}
+use lib.Dec.{eqb, lit<, lit≤}
 use borrow.Author.Tests.{eqb-false}
 use Rattle.rl_spec.specs.declared.Section.{Section}
 use Rattle.rl_spec.specs.declared.Section.the-variants.{Texts, Expressions, Statements}
@@ -15,7 +15,7 @@ use Rattle.rl_spec.specs.declared.Target.the-variants.{Text, Expression, Statem
 use Rattle.rl_spec.specs.declared.Sort.the-variants.{Many}
 use Rattle.rl_spec.specs.declared.Clause.{Clause}
 use Rattle.rl_spec.specs.Schema.{inSection, sortOf, fieldsOf, fieldsIn, schema}
-use Rattle.rl_spec.specs.Image.{Field, num, pair, Image, sizeOf, tallestChild}
+use Rattle.rl_spec.specs.Image.{Field, num, Image, sizeOf, tallestChild, aRaw, aByte, aReference, anOption, noFields, _▹_ as _▸_}
 use Rattle.rl_spec.specs.Tree.{ascii}
 use Rattle.rl_spec.specs.Message.{decimal}
 use Rattle.rl_spec.specs.Make.{Context, Make, _>>=_, give, takeTemp, counted, each, newText, stmt, newStmt, absent}
@@ -23,6 +23,7 @@ use Rattle.rl_spec.specs.Lower.{expr, ident, strLit, errLit, resCall, unwrapCal
 use Rattle.rl_images.specs.Lowering.GrowsTo.{Every, noMore, more, temp-good, _▹_}
 use Rattle.rl_theorems.specs.Images.ProperTexts.{Proper, std-proper, res-proper, unwrap-proper, is-err-proper, ret-proper, temp-proper, ensures-proper}
 use Rattle.rl_theorems.specs.Images.NewReferences.{Ref, ref-there, ref-higher, Refs, noRefs, ref, refs-append, Held, AllHeld}
+use Rattle.rl_theorems.specs.Images.NewFields.{plain-fits}
 use Rattle.rl_theorems.specs.Images.KeepsSound.{Ready, Onward, KeepsSound, sure-given, sure-test, sure-ready, ref-on, refs-on, held-on, there-on, Node, Line, Lines, text-sure, list-sure, node-sure, statement-sure, _then_, _⇝_, _↠_}
 use Rattle.rl_theorems.specs.Images.SoundCopies.{clone-sure}
 
@@ -52,7 +53,7 @@ every-refs (more p ps) = ref p (every-refs ps)
 name-held : (im : Image) (kind span t : ℕ) → fieldsOf kind ≡ fieldsOf 30 → span < 256 ^ 4 → t < sizeOf im Texts →
     AllHeld im Expressions 0 0 (fieldsOf kind) (num span ∷ num t ∷ [])
 unfolding fieldsOf fieldsIn schema sortOf tallestChild
-name-held im kind span t e p q = rw e (record { fits = (p, (record { earlier = q; taken = refl }, tt)); low = omega arith })
+name-held im kind span t e p q = rw e (record { fits = aRaw p ▸ aReference (record { earlier = q; taken = refl }) ▸ noFields; low = omega arith })
 
 pub ident-sure : (s : List ℕ) → Proper s → (c : Context) → KeepsSound c (Node 1) (ident s c)
 unfolding ident expr inSection fieldsOf fieldsIn schema
@@ -67,20 +68,19 @@ string-sure s p c =
 err-held : {h : ℕ} (c : Context) (msg : ℕ) → Ready c → Node h msg c →
     AllHeld (c .image) Expressions h 0 (fieldsOf 50) (num (c .span) ∷ num msg ∷ [])
 unfolding fieldsOf fieldsIn schema sortOf tallestChild
-err-held c msg r x = record { fits = (r .span, (x .refers, tt)); low = omega (arith, x .low) }
+err-held c msg r x = record { fits = aRaw (r .span) ▸ aReference (x .refers) ▸ noFields; low = omega (arith, x .low) }
 
 not-held : {h : ℕ} (c : Context) (n : ℕ) → Ready c → Node h n c →
     AllHeld (c .image) Expressions h 0 (fieldsOf 33) (num (c .span) ∷ num 5 ∷ num n ∷ [])
 unfolding fieldsOf fieldsIn schema sortOf tallestChild
-not-held c n r x = record { fits = (r .span, ((omega arith, omega arith), (x .refers, tt))); low = omega (arith, x .low) }
+not-held c n r x = record { fits = aRaw (r .span) ▸ aByte (lit≤ tt) (lit≤ tt) ▸ aReference (x .refers) ▸ noFields; low = omega (arith, x .low) }
 
 call-held : {h : ℕ} (c : Context) (path args : Field) → Ready c → Held (c .image) Expressions 0 (Many Text Text 1) path →
     Held (c .image) Expressions h (Many Expression Expression 1) args →
     AllHeld (c .image) Expressions h 0 (fieldsOf 41) (num (c .span) ∷ path ∷ args ∷ [])
 unfolding fieldsOf fieldsIn schema sortOf tallestChild
-call-held c (num x) args r p q = absurd (p .fits)
-call-held c (pair a n) (num x) r p q = absurd (q .fits)
-call-held c (pair a n) (pair b m) r p q = record { fits = (r .span, (p .fits, (q .fits, tt))); low = omega (arith, p .low, q .low) }
+call-held c path args r p q =
+    record { fits = aRaw (r .span) ▸ plain-fits refl (p .fits) ▸ plain-fits refl (q .fits) ▸ noFields; low = omega (arith, p .low, q .low) }
 
 -- the texts of a path
 texts-sure : (ss : List (List ℕ)) (c : Context) → Every (λ s d. Proper s) c ss →
@@ -106,7 +106,7 @@ unwrap-sure x c l q = call-sure (ascii "result_unwrap") unwrap-proper x c l q
 there-held : (kind : ℕ) (c : Context) (n : ℕ) → fieldsOf kind ≡ fieldsOf 66 → Ready c → n < sizeOf (c .image) Expressions →
     AllHeld (c .image) Statements 0 0 (fieldsOf kind) (num (c .span) ∷ num n ∷ [])
 unfolding fieldsOf fieldsIn schema sortOf tallestChild
-there-held kind c n e r p = rw e (record { fits = (r .span, (record { earlier = p; taken = refl }, tt)); low = omega arith })
+there-held kind c n e r p = rw e (record { fits = aRaw (r .span) ▸ aReference (record { earlier = p; taken = refl }) ▸ noFields; low = omega arith })
 
 return-sure : (n : ℕ) (c : Context) → n < sizeOf (c .image) Expressions → KeepsSound c (Line 1) (newStmt 66 (num n ∷ []) c)
 unfolding stmt inSection
@@ -124,17 +124,17 @@ branch-held : {h : ℕ} (c : Context) (condition : ℕ) (body : Field) → Ready
     Held (c .image) Statements h (Many Statement Statement 1) body →
     AllHeld (c .image) Statements h 0 (fieldsOf 69) (num (c .span) ∷ num condition ∷ body ∷ num 0 ∷ [])
 unfolding fieldsOf fieldsIn schema sortOf tallestChild
-branch-held c condition (num x) r p q = absurd (q .fits)
-branch-held c condition (pair a n) r p q =
+branch-held c condition body r p q =
     record {
-      fits = (r .span, (inr (record { earlier = p; taken = refl }), (q .fits, ((omega arith, omega arith), tt))));
+      fits = aRaw (r .span) ▸ anOption (inr (record { earlier = p; taken = refl })) ▸ plain-fits refl (q .fits) ▸ aByte (lit≤ tt) (lit≤ tt)
+          ▸ noFields;
       low = omega (arith, q .low, cond-zero (eqb condition 65535));
     }
 
 only-held : {h : ℕ} (c : Context) (branch : ℕ) → Ready c → Ref (c .image) Statements h Branch branch →
     AllHeld (c .image) Statements h 0 (fieldsOf 68) (num (c .span) ∷ num branch ∷ absent ∷ [])
 unfolding fieldsOf fieldsIn schema sortOf tallestChild
-only-held c branch r x = record { fits = (r .span, (x .refers, (inl refl, tt))); low = omega (arith, x .low) }
+only-held c branch r x = record { fits = aRaw (r .span) ▸ aReference (x .refers) ▸ anOption (inl refl) ▸ noFields; low = omega (arith, x .low) }
 
 pub only-if-sure : {h : ℕ} (condition s : ℕ) (c : Context) → h < 34 → condition < sizeOf (c .image) Expressions → Line h s c →
     KeepsSound c (Line (h + 1 + 1)) (onlyIf condition s c)
@@ -198,7 +198,8 @@ declare-held : (c : Context) (t value : ℕ) → Ready c → t < sizeOf (c .imag
 unfolding fieldsOf fieldsIn schema sortOf tallestChild
 declare-held c t value r p q =
     record {
-      fits = (r .span, (record { earlier = p; taken = refl }, (omega arith, (record { earlier = q; taken = refl }, (omega arith, tt)))));
+      fits = aRaw (r .span) ▸ aReference (record { earlier = p; taken = refl }) ▸ aRaw (lit< tt)
+          ▸ aReference (record { earlier = q; taken = refl }) ▸ aRaw (lit< tt) ▸ noFields;
       low = omega arith;
     }
 

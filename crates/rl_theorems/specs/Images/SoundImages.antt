@@ -9,7 +9,7 @@ use lib.ListN.{length, getD, set, length-append}
 use lib.Seq.{getD-append-add}
 use Rattle.rl_spec.specs.declared.Section.{Section}
 use Rattle.rl_spec.specs.declared.Section.the-variants.{Texts, Lists, Expressions, Statements, Parameters, Clauses, Functions, Calls}
-use Rattle.rl_spec.specs.Schema.{limits, sections, tallest, inSection, fieldsOf}
+use Rattle.rl_spec.specs.Schema.{limits, sections, tallest, inSection, sortOf, fieldsOf}
 use Rattle.rl_spec.specs.Image.{Rec, Image, orderOf, recordsOf, sizeOf, noRecord, recordOf, tallestChild, heights, encode, FieldsFit, RecordFits, AllBytes, AllWithin, WellFormed}
 use Rattle.rl_spec.specs.Make.{withBytes, most, mostBytes}
 use Rattle.rl_laws.specs.Tests.{by-ltb, by-eqb}
@@ -69,7 +69,7 @@ fits-kept {im} {im′} s g o i p =
     rw (record-kept g o i p)
     (record {
       kind = f .kind;
-      fields = fields-kept (grows-keeps g) o i i (omega arith) (omega arith) 0 (fieldsOf (r .kind)) (r .fields) (f .fields);
+      fields = fields-kept (grows-keeps g) o i i (omega arith) (omega arith) (f .fields);
       height = rw (height-stays (grows-keeps g) o (all-fit s o) (l .rest) (l .is) i p) (f .height);
     })
 
@@ -136,11 +136,11 @@ module _ {im : Image} (s : Sound im) (q : Section) (k : Growing q) (rs : List Re
 
 -- one record
 module _ {im : Image} (s : Sound im) (q : Section) (k : Growing q) (r : Rec) where
-  pub new-height : FieldsFit im q (sizeOf im q) 0 (fieldsOf (r .kind)) (r .fields) →
+  pub new-height : FieldsFit im q (sizeOf im q) 0 (map sortOf (fieldsOf (r .kind))) (r .fields) →
       getD (heights (appended im q (r ∷ [])) q) (sizeOf im q) 0 ≡ tallestChild im q (heights im q) (fieldsOf (r .kind)) (r .fields) + 1
   new-height f = height-new (grows-keeps (longer-grows s q k (r ∷ []))) q (all-fit s q) r (own s q k (r ∷ [])) f
 
-  pub one-sound : inSection q (r .kind) ≡ true → FieldsFit im q (sizeOf im q) 0 (fieldsOf (r .kind)) (r .fields) →
+  pub one-sound : inSection q (r .kind) ≡ true → FieldsFit im q (sizeOf im q) 0 (map sortOf (fieldsOf (r .kind))) (r .fields) →
       tallestChild im q (heights im q) (fieldsOf (r .kind)) (r .fields) < tallest q → sizeOf im q + 1 ≤ most q →
       Sound (appended im q (r ∷ []))
   one-sound kind f h l = appended-sound s q k (r ∷ []) fits l
@@ -151,8 +151,7 @@ module _ {im : Image} (s : Sound im) (q : Section) (k : Growing q) (r : Rec) whe
           rw e
           (record {
             kind = kind;
-            fields = fields-kept (grows-keeps (longer-grows s q k (r ∷ []))) q (sizeOf im q) (sizeOf im q) (omega arith) (omega arith) 0
-                (fieldsOf (r .kind)) (r .fields) f;
+            fields = fields-kept (grows-keeps (longer-grows s q k (r ∷ []))) q (sizeOf im q) (sizeOf im q) (omega arith) (omega arith) f;
             height = rw (new-height f) (omega arith);
           })
       fits (suc j) p = absurd (omega arith)

@@ -8,7 +8,7 @@ use mathlib.Core.Option.{Option}
 use mathlib.Core.Logic.{inl, inr}
 use native.Mathlib.Omega.{arith}
 use lib.Dec.{eqb, ltb}
-use lib.ListN.{getD}
+use lib.ListN.{length, getD}
 use borrow.Author.Tests.{eqb-true, eqb-false}
 use Rattle.rl_spec.specs.declared.Section.{Section}
 use Rattle.rl_spec.specs.declared.Section.the-variants.{Statements}
@@ -19,12 +19,11 @@ use Rattle.rl_spec.specs.declared.Sort.the-variants.{Raw, Byte, One, Maybe, Man
 use Rattle.rl_spec.specs.declared.Clause.{Clause}
 use Rattle.rl_spec.specs.Schema.{inSection, sortOf, fieldsOf, fieldsIn, schema}
 use Rattle.rl_spec.specs.Fields.{takes}
-use Rattle.rl_spec.specs.Image.{Field, num, Rec, Image, sizeOf, recordOf, fieldOf, first, sectionOf, heights}
+use Rattle.rl_spec.specs.Image.{Field, num, Rec, Image, sizeOf, recordOf, fieldOf, first, sectionOf, heights, anOption}
 use Rattle.rl_spec.specs.Tree.{number, below, descendBy, descend}
 use Rattle.rl_spec.specs.Make.{Context, Make, andThen, _>>=_, give, fail, self, flatMap, append, made, stmt, entriesOf}
 use Rattle.rl_spec.specs.Lower.{expr, wrapReturn, transformList, transformBranchBy, transformBranch, transformElse, transformArmBy, transformArm, conditional, match, loop, transformStatementBy, transformStatement}
 use Rattle.rl_images.specs.Lowering.GrowsTo.{Every, noMore, more}
-use Rattle.rl_images.specs.Images.Heights.{FieldIs}
 use Rattle.rl_theorems.specs.Images.KeptFields.{same-size}
 use Rattle.rl_theorems.specs.Images.NewReferences.{Ref, ref-there, ref-higher, Refs, noRefs, ref, refs-higher, refs-append, Held, held-higher, held-at, AllHeld, own-held, own-tall, raw-below, one-ref, maybe-ref, many-refs}
 use Rattle.rl_theorems.specs.Images.KeepsSound.{Ready, Onward, KeepsSound, sure-given, sure-stopped, sure-test, sure-ready, ref-on, refs-on, held-on, Line, Lines, OfStatements, list-sure, node-sure, statement-sure, _then_, _⇝_, _↠_}
@@ -42,6 +41,10 @@ statement-low t o x = rw o at (x .low)
 statement-tall : {c : Context} {h n : ℕ} (t : Target) → OfStatements t → Ready c → Ref (c .image) Statements h t n → 1 ≤ h
 statement-tall {c} {h} {n} t o r x = omega (arith, own-tall (r .sound) Statements n (statement-there t o x), statement-low t o x)
 
+-- the j-th field of a record of kind k is of the sort o
+abbrev pub FieldIs : ℕ → ℕ → Sort → Type 0
+FieldIs k j o = (j < length (fieldsOf k)) × (sortOf (getD (fieldsOf k) j 0) ≡ o)
+
 -- its j-th field, where it is of kind k
 pub own-field : {c : Context} {h n : ℕ} {s : Sort} (t : Target) (k j : ℕ) → OfStatements t → Ready c → Ref (c .image) Statements h t n →
     recordOf (c .image) Statements n .kind ≡ k → FieldIs k j s →
@@ -51,7 +54,7 @@ own-field {c} {h} {n} {s} t k j o r x e f =
     let a : AllHeld (c .image) Statements (h - 1) 0 (fieldsOf (q .kind)) (q .fields) =
     own-held (r .sound) Statements n (statement-there t o x) (omega (arith, statement-low t o x)) in
     let b : AllHeld (c .image) Statements (h - 1) 0 (fieldsOf k) (q .fields) = rw e at a in
-    rw (sym (f .1)) (held-at 0 j (fieldsOf k) (q .fields) (f .0) b)
+    rw (sym (f .1)) (held-at j (fieldsOf k) (f .0) b)
 
 refs-every : {c : Context} {o : Section} {h : ℕ} {t : Target} {ns : List ℕ} {P : Context → Type 0} → P c → Refs (c .image) o h t t ns →
     Every (λ n d. Ref (d .image) o h t n × P d) c ns
@@ -115,9 +118,9 @@ module _ (ensures : List Clause) where
           KeepsSound c (λ n d. Held (d .image) Statements (h + 2) (Maybe ElseBranch) (num n)) (transformElse walk (first f) c)
       else-sure f c es x =
           sure-test (eqb (first f) 65535) (give (first f)) (transformBranch walk (first f)) c
-          (λ e. sure-given (record { before = 0; fits = inl (eqb-true (first f) 65535 e); low = rw e (omega arith) }))
+          (λ e. sure-given (record { before = 0; fits = anOption (inl (eqb-true (first f) 65535 e)); low = rw e (omega arith) }))
           (λ e. branch-sure ElseBranch (first f) c refl refl es (maybe-ref f x (eqb-false (first f) 65535 e)) ↠ λ n d on y.
-          record { before = 0; fits = inr (y .refers); low = cond-low (eqb n 65535) (y .low) })
+          record { before = 0; fits = anOption (inr (y .refers)); low = cond-low (eqb n 65535) (y .low) })
 
       arm-by-sure : (s : ℕ) (c : Context) → Every ClauseReady c ensures → Ref (c .image) Statements h Arm s →
           KeepsSound c (λ n d. Ref (d .image) Statements (h + 2) Arm n) (transformArmBy walk (recordOf (c .image) Statements s) c)

@@ -84,7 +84,7 @@ module _ (im : Image) (wf : WellFormed im) (f : ℕ) (inside : f < sizeOf im Fun
   made-body : Ensured (source .ensures) (source .body) → GrowsTo (start im f) Made (newBody im f (start im f))
   unfolding newBody contractFunction contractsOf functionAt
   made-body o =
-      let x : FunctionFits im wf f (recordOf im Functions f) = function-fits im wf f inside in
+      let x : FunctionFits im f (recordOf im Functions f) = function-fits im wf f inside in
       desugared-ok (numbersIn (functionAt im f .params)) (bodyIn im f) (requiresIn im f) (ensuresIn im f) (start im f) _ _ _
       (clauses-check im wf (ascii "requires violated") _ _ (x .required)) (clauses-check im wf (ascii "ensures violated") _ _ (x .ensured))
       (body-stands im wf f inside) o ▷ λ ms c₁ k₁ h₁. list-ok ms c₁ ▹ λ list c₂ k₂ h₂. (h₁ .0, ms, h₂, keep-lines (k₂ .image) (h₁ .1), h₁ .2)

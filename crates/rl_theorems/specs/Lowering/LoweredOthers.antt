@@ -14,8 +14,7 @@ use borrow.Author.Tests.{eqb-false, ne-eqb}
 use Rattle.rl_spec.specs.declared.Function as declared
 use Rattle.rl_spec.specs.declared.ParamRefinement.the-variants.{Unrefined, Refined}
 use Rattle.rl_spec.specs.declared.Section.the-variants.{Texts, Expressions, Parameters, Clauses, Functions}
-use Rattle.rl_spec.specs.Schema.{schema, sortOf, fieldsIn, fieldsOf}
-use Rattle.rl_spec.specs.Image.{Field, Rec, Image, recordsOf, sizeOf, noRecord, recordOf, fieldOf, first, second, textOf, SortFits, OperandFits, FieldsFit, RecordFits, WellFormed}
+use Rattle.rl_spec.specs.Image.{Field, Rec, Image, recordsOf, sizeOf, noRecord, recordOf, fieldOf, first, second, textOf, SortFits, OperandFits, WellFormed}
 use Rattle.rl_spec.specs.Tree.{identifier, binary, number, exprTree, ascii}
 use Rattle.rl_spec.specs.Statement.{bodyTree}
 use Rattle.rl_spec.specs.Records.{refineOp, refineOperand, refinementBy, paramBy, clauseBy, functionBy, paramAt, clauseAt, functionAt}
@@ -26,7 +25,6 @@ use Rattle.rl_spec.specs.Functions.{contracted, contractFunction}
 use Rattle.rl_spec.specs.Reading.{Check, Function}
 use Rattle.rl_spec.specs.Make.{Context}
 use Rattle.rl_spec.specs.Lower.{newBody, start, withBody, lowered}
-use Rattle.rl_images.specs.Images.SchemaSorts.{kind-range}
 use Rattle.rl_images.specs.Lowering.Grows.{eight-sections, records-own, records-other, text-kept}
 use Rattle.rl_images.specs.Lowering.GrowsTo.{Later, good-is}
 use Rattle.rl_theorems.specs.Trees.Denotes.{Says, keep-holds, keep}
@@ -34,9 +32,8 @@ use Rattle.rl_theorems.specs.Trees.DenotedTrees.{tree-of, body-of}
 use Rattle.rl_theorems.specs.Trees.DenotingExpressions.{few, text-says}
 use Rattle.rl_theorems.specs.Lowering.Guarded.{Lines, keep-lines}
 use Rattle.rl_theorems.specs.Trees.SameTrees.{expr-same, body-same, text-same}
-use Rattle.rl_images.specs.Images.FunctionFields.{ClauseFits, clause-fits, name-inside, function-fits}
+use Rattle.rl_images.specs.Images.FunctionFields.{ClauseFits, clause-fits, ParameterFits, parameter-fits, name-inside, function-fits}
 use Rattle.rl_theorems.specs.Trees.FunctionTrees.{expression-is, body-stands}
-use Rattle.rl_theorems.specs.Images.FunctionReady.{fit-after, sort-fits, operand-fits}
 use Rattle.rl_images.specs.Lowering.Followed.{Lowering, untouched, rebuilt, body-grow, lowering}
 
 -- the function of a record
@@ -77,16 +74,11 @@ module _ (im : Image) (wf : WellFormed im) where
   by-sort n sort x h o false e = operand-inside sort x (sort-some n sort (eqb-false n 0 e) h) o
 
   refinement-inside : (i : ℕ) → i < sizeOf im Parameters → RefinementInside im (paramOf im i .refinement)
-  unfolding paramOf paramAt fieldsOf fieldsIn schema sortOf
+  unfolding paramOf paramAt
   refinement-inside i p =
       let r : Rec = recordOf im Parameters i in
-      let x : RecordFits im Parameters i r = wf .fits Parameters i p in
-      let e : r .kind ≡ 80 = omega (arith, kind-range Parameters (r .kind) (x .kind)) in
-      let h : FieldsFit im Parameters i 0 (fieldsOf 80) (r .fields) = rw e at (x .fields) in
-      by-sort (number r 2) (number r 3) (number r 4)
-      (sort-fits im Parameters i (number r 2) (fieldOf r 3) (fit-after im Parameters i 0 2 (fieldsOf 80) (r .fields) (omega arith) h))
-      (operand-fits im Parameters i (number r 3) (fieldOf r 4) (fit-after im Parameters i 0 3 (fieldsOf 80) (r .fields) (omega arith) h))
-      (eqb (number r 2) 0) refl
+      let x : ParameterFits im r = parameter-fits im wf i p in
+      by-sort (number r 2) (number r 3) (number r 4) (x .sort) (x .operand) (eqb (number r 2) 0) refl
 
 -- ---- in the finished image
 
@@ -153,7 +145,7 @@ module _ (im : Image) (wf : WellFormed im) (f : ℕ) (c : Context) (later : Late
   same-clauseOf : (i : ℕ) → i < sizeOf im Clauses → mapClause (textOf end) (clauseOf end i) ≡ mapClause (textOf im) (clauseOf im i)
   unfolding clauseOf clauseAt
   same-clauseOf i h =
-      let x : ClauseFits im wf (recordOf im Clauses i) = clause-fits im wf i h in
+      let x : ClauseFits im (recordOf im Clauses i) = clause-fits im wf i h in
       (λ j. record {
         condition = mapExpr (textOf end) (exprTree end (same-clause i j .condition));
         message = Option·map (mapExpr (textOf end)) (messageNode end (same-clause i j .message));
