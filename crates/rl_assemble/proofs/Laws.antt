@@ -6,8 +6,7 @@ use mathlib.Core.Bool.{cond}
 use mathlib.Core.List.{List, _++_}
 use native.Mathlib.Omega.{arith}
 use native.Mathlib.Nat.{zero-add}
-use lib.Dec.{ltb}
-use lib.ListN.{length, getD, drop, replicate}
+use lib.ListN.{length, getD, drop}
 use lib.Seq.{paste, take-length}
 use borrow.Author.Tests.{lt-ltb, le-ltb}
 use Rattle.rl_spec.specs.declared.Counts.{Counts}
@@ -15,7 +14,6 @@ use Rattle.rl_spec.specs.declared.Interval.{Interval}
 use Rattle.rl_spec.specs.declared.Section.the-variants.{Functions, Statements}
 use Rattle.rl_spec.specs.Image.{Image, sizeOf, pair, encode}
 use Rattle.rl_spec.specs.Lower.{withBody}
-use Rattle.rl_images.specs.Reading.Filled.{drop-replicate}
 use Rattle.rl_images.specs.Encoding.ReaderKnows.{counts}
 use Rattle.rl_images.specs.Encoding.Sections.{placeOf}
 use Rattle.rl_text_out.specs.Put.{fitting, withText, afterText}

@@ -23,7 +23,7 @@ use Rattle.rl_spec.specs.declared.Step.the-variants.{Next, Stop}
 use Rattle.rl_spec.specs.Bytes.{u16At, u32At, past}
 use Rattle.rl_spec.specs.Schema.{limits, sections, countOf, inSection, fieldsOf}
 use Rattle.rl_spec.specs.Fields.{recordAt, heightStep, fieldsFrom}
-use Rattle.rl_spec.specs.Read.{after, countsOf, countsFrom, headerOf, Out, good, bad, outOf, seenBy, keep, recordsFrom, sectionsFrom, endOf, bodyOf, contentOf, mostStarts, readOf, answerOf, workOf, startsOf}
+use Rattle.rl_spec.specs.Read.{countsOf, countsFrom, headerOf, Out, good, bad, outOf, seenBy, keep, recordsFrom, sectionsFrom, endOf, bodyOf, contentOf, mostStarts, readOf, answerOf, workOf, startsOf}
 use Rattle.rl_fields.proofs.FieldLaws.{turn, ended}
 use Rattle.rl_fields.proofs.RecordLaws.{byte-there, record-by-table}
 use Rattle.rl_fields.specs.Checked.{recordBy}

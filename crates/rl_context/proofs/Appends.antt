@@ -1,23 +1,23 @@
 -- Where nothing is made: the context is full, or a limit would be passed.
 -- Assumes nothing.
-use Prim.Native.Nat.{ℕ, _+_, _≤_, _<_}
+use Prim.Native.Nat.{ℕ, _+_, _<_}
 use mathlib.Core.Path.{_≡_, refl, ap, sym, _∙_, subst}
 use mathlib.Core.Bool.{Bool, true, false, cond}
 use mathlib.Core.List.{List, [], _∷_, _++_}
 use mathlib.Core.Option.{Option, none, some}
 use native.Mathlib.Omega.{arith}
 use lib.Dec.{ltb}
-use lib.ListN.{length, length-append}
-use Rattle.rl_spec.specs.declared.Section.the-variants.{Texts, Lists, Expressions, Statements}
+use lib.ListN.{length}
+use Rattle.rl_spec.specs.declared.Section.the-variants.{Texts, Expressions, Statements}
 use Rattle.rl_spec.specs.Image.{pair, Rec, Image}
 use Rattle.rl_spec.specs.Make.{Context, Make, andThen, append, made, newText}
-use Rattle.rl_images.specs.Lowering.Gives.{Gives, stops, gives, after}
+use Rattle.rl_images.specs.Lowering.Gives.{Gives, stops, after}
 use Rattle.rl_context.specs.declared.Ctx.{Ctx}
 use Rattle.rl_context.specs.Additions.{contextOf, Live}
-use Rattle.rl_context.specs.Does.{State, at, nothing, one, Over, Ends, Start, Does, Pushes}
-use Rattle.rl_context.proofs.Composed.{not-both, by-full, ends-full, ends-live}
+use Rattle.rl_context.specs.Does.{State, at, nothing, Over, Start, Does}
+use Rattle.rl_context.proofs.Composed.{not-both, by-full, ends-full}
 use Rattle.rl_context.proofs.More.{More, more-append, more-text, keeps-more}
-use Rattle.rl_context.proofs.Grown.{with-bytes, bytes-appended, texts-appended, lists-appended, expressions-appended, statements-appended}
+use Rattle.rl_context.proofs.Grown.{with-bytes, bytes-appended, texts-appended, expressions-appended, statements-appended}
 
 pub stops-does : {A : Type 0} {im : Image} {j k : ℕ} {m : Make A} {s : State} {a : A} {t : State} (p : A → List ℕ) → t .ctx .full ≡ true → More m →
     ((x : Context) (ws : List ℕ) → s .ctx .full ≡ false → Live im j x ws (s .ctx) (s .scratch) (s .waiting) → m x ≡ none) → Does im j k p m s a t

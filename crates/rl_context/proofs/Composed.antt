@@ -1,20 +1,18 @@
 -- Computations that are carried out one after the other.
 -- Assumes nothing.
-use Prim.Native.Nat.{ℕ, _+_, _≤_, _<_}
+use Prim.Native.Nat.{ℕ, _+_}
 use mathlib.Core.Path.{_≡_, refl, ap, sym, _∙_, subst}
 use mathlib.Core.Bool.{Bool, true, false}
 use mathlib.Core.List.{List, [], _∷_, _++_, append-assoc, append-nil}
 use mathlib.Core.Option.{Option, none, some}
-use native.Mathlib.Omega.{arith}
 use lib.Dec.{T}
 use lib.ListN.{length}
-use Rattle.rl_spec.specs.declared.Section.the-variants.{Lists}
 use Rattle.rl_spec.specs.declared.Interval.{Interval}
-use Rattle.rl_spec.specs.Image.{Field, pair, Image, sizeOf}
-use Rattle.rl_spec.specs.Make.{Context, Make, andThen, _>>=_, give, self, newList, each, flatMap}
-use Rattle.rl_images.specs.Lowering.Gives.{Gives, stops, gives, after, weaker}
+use Rattle.rl_spec.specs.Image.{pair, Image}
+use Rattle.rl_spec.specs.Make.{Context, Make, andThen, _>>=_, give, newList, each, flatMap}
+use Rattle.rl_images.specs.Lowering.Gives.{Gives, stops, gives, after}
 use Rattle.rl_context.specs.Additions.{Live}
-use Rattle.rl_context.specs.Does.{State, nothing, one, all, Over, Lives, Ends, Start, Does, Pushes, Listed}
+use Rattle.rl_context.specs.Does.{State, nothing, one, all, Over, Ends, Start, Does, Pushes, Listed}
 
 pub not-both : {P : Type 0} {b : Bool} → b ≡ true → b ≡ false → P
 not-both e f = absurd (subst T (sym e ∙ f) tt)

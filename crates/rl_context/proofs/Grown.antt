@@ -1,10 +1,10 @@
 -- Appending to an image that has grown: the additions grow.
 -- Assumes nothing.
-use Prim.Native.Nat.{ℕ, _+_, _≤_}
-use mathlib.Core.Path.{_≡_, refl, ap, ap₂, sym, _∙_}
-use mathlib.Core.Bool.{true, false, cond}
+use Prim.Native.Nat.{ℕ, _+_}
+use mathlib.Core.Path.{_≡_, sym, _∙_}
+use mathlib.Core.Bool.{cond}
 use mathlib.Core.List.{List, [], _∷_, _++_, append-assoc}
-use mathlib.Core.Option.{Option, none, some}
+use mathlib.Core.Option.{none, some}
 use lib.Dec.{ltb}
 use lib.ListN.{length, length-append}
 use Rattle.rl_spec.specs.declared.Section.the-variants.{Texts, Lists, Expressions, Statements, Parameters, Clauses, Functions, Calls}
@@ -12,7 +12,7 @@ use Rattle.rl_spec.specs.Schema.{limits}
 use Rattle.rl_spec.specs.Image.{Rec, Image, recordsOf}
 use Rattle.rl_spec.specs.Make.{Context, append, appendBytes}
 use Rattle.rl_context.specs.declared.Ctx.{Ctx}
-use Rattle.rl_context.specs.Additions.{New, contextOf, Counted}
+use Rattle.rl_context.specs.Additions.{New, contextOf}
 
 abbrev pub with-bytes : New → List ℕ → New
 with-bytes new s =

@@ -1,6 +1,6 @@
 -- The entries that wait become a list.
 -- Assumes nothing.
-use Prim.Native.Nat.{ℕ, suc, _+_, _-_, _*_, _≤_, _<_}
+use Prim.Native.Nat.{ℕ, _+_, _-_, _*_, _≤_, _<_}
 use mathlib.Core.Path.{_≡_, refl, ap, ap₂, sym, _∙_, subst}
 use mathlib.Core.Bool.{Bool, true, false, cond}
 use mathlib.Core.List.{List, [], _∷_, _++_, append-nil}
@@ -8,19 +8,19 @@ use mathlib.Core.Option.{Option, none, some}
 use native.Mathlib.Omega.{arith}
 use lib.Dec.{ltb}
 use lib.ListN.{length, take, drop, length-append, length-map}
-use lib.Seq.{take-take, take-at, drop-at, take-append-seam}
+use lib.Seq.{take-take, drop-at, take-append-seam}
 use borrow.Author.Tests.{ltb-false}
 use Rattle.rl_spec.specs.declared.Section.the-variants.{Texts, Lists}
 use Rattle.rl_spec.specs.declared.Interval.{Interval}
 use Rattle.rl_spec.specs.Image.{num, pair, Field, Rec, Image, recordsOf, sizeOf, encodeRecords}
-use Rattle.rl_spec.specs.Make.{Context, Make, andThen, append, give, made, newList}
-use Rattle.rl_images.specs.Lowering.Gives.{Gives, stops, gives, after, weaker}
+use Rattle.rl_spec.specs.Make.{Context, andThen, give, made, newList}
+use Rattle.rl_images.specs.Lowering.Gives.{Gives, stops, after, weaker}
 use Rattle.rl_images.specs.Lowering.Grows.{listRecords, list-gives, records-own}
 use Rattle.rl_encode.specs.Words.{over}
 use Rattle.rl_encode.proofs.Over.{length-over}
 use Rattle.rl_context.specs.declared.Ctx.{Ctx}
-use Rattle.rl_context.specs.Additions.{New, contextOf, Kept, Counted, Waiting, Live}
-use Rattle.rl_context.specs.Does.{State, at, nothing, one, all, Over, Ends, Listed}
+use Rattle.rl_context.specs.Additions.{contextOf, Kept, Counted, Waiting, Live}
+use Rattle.rl_context.specs.Does.{State, at, nothing, Over, Ends, Listed}
 use Rattle.rl_context.proofs.Composed.{not-both, by-full, ends-full, ends-live}
 use Rattle.rl_context.proofs.Regions.{drop-take, held-before, held-after, held-more}
 use Rattle.rl_context.proofs.Grown.{with-lists, lists-appended}

@@ -1,32 +1,28 @@
 -- Where something is made: the additions, the counts and the scratch slice go on together.
 -- Assumes nothing.
-use Prim.Native.Nat.{ℕ, _+_, _-_, _*_, _≤_, _<_}
-use mathlib.Core.Path.{_≡_, refl, ap, ap₂, sym, _∙_, subst}
-use mathlib.Core.Bool.{Bool, true, false, cond}
-use mathlib.Core.List.{List, [], _∷_, _++_, append-nil}
+use Prim.Native.Nat.{ℕ, _+_, _-_, _*_, _≤_}
+use mathlib.Core.Path.{_≡_, refl, ap, sym, _∙_, subst}
+use mathlib.Core.Bool.{Bool, false, cond}
+use mathlib.Core.List.{List, [], _∷_, _++_}
 use mathlib.Core.Option.{Option, none, some}
 use native.Mathlib.Omega.{arith}
 use lib.Dec.{ltb}
-use lib.ListN.{length, take, length-append}
+use lib.ListN.{length, length-append}
 use borrow.Author.Tests.{ltb-false}
 use Rattle.rl_spec.specs.declared.Section.the-variants.{Texts, Lists, Expressions, Statements}
 use Rattle.rl_spec.specs.Schema.{fieldsOf}
-use Rattle.rl_spec.specs.Image.{pair, Rec, Image, sizeOf, bytesOf, encodeFields, encodeRecord, encodeRecords}
-use Rattle.rl_spec.specs.Make.{Context, Make, andThen, append, made, newText}
+use Rattle.rl_spec.specs.Image.{Rec, Image, sizeOf, encodeFields, encodeRecord, encodeRecords}
+use Rattle.rl_spec.specs.Make.{Context, Make, andThen, append}
 use Rattle.rl_schema.specs.Codes.{codes}
-use Rattle.rl_images.specs.Lowering.Gives.{gives}
-use Rattle.rl_images.specs.Encoding.BytesAt.{length-bytes}
 use Rattle.rl_encode.specs.Words.{wordFields, wordRecord, over}
 use Rattle.rl_encode.proofs.Over.{length-over}
-use Rattle.rl_text_out.specs.Put.{withText}
 use Rattle.rl_context.specs.declared.Ctx.{Ctx}
-use Rattle.rl_context.specs.Additions.{New, contextOf, Held, Kept, Counted, Waiting, Live}
-use Rattle.rl_context.specs.Does.{State, at, nothing, Over, Ends, Start, Does}
-use Rattle.rl_context.proofs.Composed.{not-both, by-full, ends-full, ends-live}
+use Rattle.rl_context.specs.Additions.{New, contextOf, Kept, Counted, Live}
+use Rattle.rl_context.specs.Does.{State, at, nothing, Ends, Does}
+use Rattle.rl_context.proofs.Composed.{ends-live}
 use Rattle.rl_context.proofs.Regions.{held-before, held-after, held-more}
-use Rattle.rl_context.proofs.More.{More, keeps-more}
-use Rattle.rl_context.proofs.Grown.{with-bytes, with-texts, with-expressions, with-statements, bytes-appended, texts-appended, expressions-appended, statements-appended}
-use Rattle.rl_context.proofs.Sizes.{records-one, record-bytes, record-narrow, text-record}
+use Rattle.rl_context.proofs.Grown.{with-expressions, with-statements, expressions-appended, statements-appended}
+use Rattle.rl_context.proofs.Sizes.{records-one, record-bytes, record-narrow}
 
 -- a computation that gives something wherever the code stands
 pub makes-does : {A : Type 0} {im : Image} {j k : ℕ} {m : Make A} {s : State} {a : A} {t : State} → s .ctx .full ≡ false → t .ctx .full ≡ false →

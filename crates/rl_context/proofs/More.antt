@@ -1,22 +1,20 @@
 -- No computation takes list entries away, so that what is over stays over.
 -- Assumes nothing.
-use Prim.Native.Nat.{ℕ, _+_, _≤_, _<_}
-use mathlib.Core.Path.{_≡_, refl, ap, sym, _∙_}
+use Prim.Native.Nat.{ℕ, _+_, _≤_}
+use mathlib.Core.Path.{_≡_, refl, sym, _∙_}
 use mathlib.Core.Bool.{Bool, true, false, cond}
 use mathlib.Core.List.{List, [], _∷_, _++_}
-use mathlib.Core.Option.{Option, none, some}
 use native.Mathlib.Omega.{arith}
 use lib.Dec.{ltb}
 use lib.ListN.{length, getD, set, length-append, length-set}
 use lib.Seq.{getD-set-same, getD-set-other, set-out}
 use Rattle.rl_spec.specs.declared.Section.{Section}
-use Rattle.rl_spec.specs.declared.Section.the-variants.{Texts, Lists, Expressions, Statements, Parameters, Clauses, Functions, Calls}
-use Rattle.rl_spec.specs.Image.{Field, Rec, Image, orderOf, recordsOf, sizeOf}
-use Rattle.rl_spec.specs.Make.{Context, Make, andThen, _>>=_, give, self, takeTemp, each, flatMap, withImage, withBytes, withRecords, most, mostBytes, counted, append, appendBytes, newText, newList, stmt, newStmt}
-use Rattle.rl_spec.specs.Lower.{expr}
+use Rattle.rl_spec.specs.declared.Section.the-variants.{Texts, Lists, Statements}
+use Rattle.rl_spec.specs.Image.{Field, Rec, orderOf, recordsOf, sizeOf}
+use Rattle.rl_spec.specs.Make.{Context, Make, _>>=_, give, self, takeTemp, each, flatMap, withImage, withBytes, withRecords, most, mostBytes, counted, append, appendBytes, newText, newList, stmt}
 use Rattle.rl_laws.specs.Tests.{by-ltb, by-eqb}
-use Rattle.rl_images.specs.Lowering.Gives.{Gives, stops, gives, after, weaker, by-limit, by-cond}
-use Rattle.rl_context.specs.Does.{nothing, one, all, Over}
+use Rattle.rl_images.specs.Lowering.Gives.{Gives, gives, after, weaker, by-limit}
+use Rattle.rl_context.specs.Does.{nothing, one, all}
 use Rattle.rl_context.proofs.Composed.{Keeps}
 
 pub record AsMany (x y : Context) : Type 0 where

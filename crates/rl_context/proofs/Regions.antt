@@ -1,10 +1,10 @@
 -- The scratch slice: a piece is written behind what a section has, and the other sections keep theirs.
 -- Assumes nothing.
-use Prim.Native.Nat.{ℕ, _+_, _≤_, _<_}
+use Prim.Native.Nat.{ℕ, _+_, _≤_}
 use mathlib.Core.Path.{_≡_, refl, ap, ap₂, sym, _∙_}
-use mathlib.Core.List.{List, [], _∷_, _++_, append-assoc}
+use mathlib.Core.List.{List, _++_, append-assoc}
 use native.Mathlib.Omega.{arith}
-use lib.ListN.{length, take, drop, length-append, length-drop}
+use lib.ListN.{length, take, drop, length-append}
 use lib.Seq.{take-add, drop-drop, drop-at, take-at, length-take-le}
 use Rattle.rl_encode.specs.Words.{over}
 use Rattle.rl_encode.proofs.Over.{before-over, after-over, length-over}

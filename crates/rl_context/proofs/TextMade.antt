@@ -1,10 +1,10 @@
 -- A text is made: its bytes, and its record.
 -- Assumes nothing.
-use Prim.Native.Nat.{ℕ, _+_, _-_, _*_, _≤_, _<_, min}
-use mathlib.Core.Path.{_≡_, refl, ap, ap₂, sym, _∙_, subst}
-use mathlib.Core.Bool.{Bool, true, false, cond}
+use Prim.Native.Nat.{ℕ, _+_, _-_, _*_, _≤_, min}
+use mathlib.Core.Path.{_≡_, refl, ap, sym, _∙_, subst}
+use mathlib.Core.Bool.{Bool, false, cond}
 use mathlib.Core.List.{List, [], _∷_, _++_}
-use mathlib.Core.Option.{Option, none, some}
+use mathlib.Core.Option.{none, some}
 use native.Mathlib.Omega.{arith}
 use lib.Dec.{ltb}
 use lib.ListN.{length, take, drop, length-append}
@@ -12,14 +12,14 @@ use lib.Seq.{paste, take-length}
 use borrow.Author.Tests.{ltb-false}
 use Rattle.rl_spec.specs.declared.Section.the-variants.{Texts, Lists}
 use Rattle.rl_spec.specs.Image.{pair, Rec, Image, sizeOf, bytesOf, encodeRecord, encodeRecords}
-use Rattle.rl_spec.specs.Make.{Context, Make, andThen, append, made, newText}
+use Rattle.rl_spec.specs.Make.{Context, andThen, append, made, newText}
 use Rattle.rl_images.specs.Encoding.BytesAt.{length-bytes}
 use Rattle.rl_encode.specs.Words.{over}
 use Rattle.rl_encode.proofs.Over.{length-over}
 use Rattle.rl_text_out.specs.Put.{fitting, withText}
 use Rattle.rl_context.specs.declared.Ctx.{Ctx}
-use Rattle.rl_context.specs.Additions.{New, contextOf, Held, Kept, Counted, Waiting, Live}
-use Rattle.rl_context.specs.Does.{State, at, nothing, Does}
+use Rattle.rl_context.specs.Additions.{New, contextOf, Kept, Counted, Live}
+use Rattle.rl_context.specs.Does.{at, nothing, Does}
 use Rattle.rl_context.proofs.Regions.{held-before, held-after, held-more}
 use Rattle.rl_context.proofs.Grown.{with-bytes, with-texts, bytes-appended, texts-appended}
 use Rattle.rl_context.proofs.Making.{makes-does}

@@ -2,28 +2,24 @@
 -- Assumes nothing.
 use Prim.Native.Nat.{ℕ, suc, _+_, _-_, _*_, _≤_, _<_}
 use mathlib.Core.Path.{_≡_, refl, ap, ap₂, sym, _∙_, subst}
-use mathlib.Core.Bool.{Bool, true, false, cond}
-use mathlib.Core.List.{List, [], _∷_, _++_, map, append-assoc, append-nil}
-use mathlib.Core.Option.{Option, none, some}
+use mathlib.Core.Bool.{true, false}
+use mathlib.Core.List.{List, [], _∷_, _++_, append-nil}
+use mathlib.Core.Option.{some}
 use native.Mathlib.Omega.{arith}
-use native.Mathlib.Nat.{add-zero}
-use lib.Dec.{ltb}
-use lib.ListN.{length, set, getD, take, drop, length-append, length-drop, length-set, length-map}
-use lib.Seq.{take-suc-set, take-suc, take-append-seam, take-take, length-take-le, take-add, drop-at, getD-drop}
-use Rattle.rl_spec.specs.declared.Section.the-variants.{Lists}
-use Rattle.rl_spec.specs.declared.Interval.{Interval}
-use Rattle.rl_spec.specs.Image.{num, pair, Rec, Image, sizeOf, bytesOf, encodeRecord, encodeRecords}
-use Rattle.rl_spec.specs.Make.{Context, Make, andThen, append, made, newList}
-use Rattle.rl_images.specs.Lowering.Gives.{Gives, stops, gives, after, weaker}
+use lib.ListN.{length, set, getD, take, drop, length-append, length-drop, length-set}
+use lib.Seq.{take-suc-set, take-suc, length-take-le, getD-drop}
+use Rattle.rl_spec.specs.Image.{num, Image, bytesOf, encodeRecords}
+use Rattle.rl_spec.specs.Make.{Context, made}
+use Rattle.rl_images.specs.Lowering.Gives.{Gives, gives, weaker}
 use Rattle.rl_images.specs.Encoding.BytesAt.{length-bytes}
-use Rattle.rl_images.specs.Lowering.Grows.{listRecords, NewList, list-gives}
+use Rattle.rl_images.specs.Lowering.Grows.{listRecords}
 use Rattle.rl_encode.specs.Words.{over}
 use Rattle.rl_encode.proofs.Over.{over-none, over-over, length-over}
 use Rattle.rl_context.specs.declared.Ctx.{Ctx}
-use Rattle.rl_context.specs.Additions.{New, contextOf, Kept, Counted, waitingWith, Waiting, Live}
-use Rattle.rl_context.specs.Does.{State, at, nothing, one, all, Over, Ends, Pushes, Listed}
-use Rattle.rl_context.proofs.Composed.{not-both, by-full, ends-full, ends-live}
-use Rattle.rl_context.proofs.Sizes.{records-append, records-one, entry-record, entries-bytes}
+use Rattle.rl_context.specs.Additions.{New, Counted, waitingWith, Waiting}
+use Rattle.rl_context.specs.Does.{State, at, one, Over, Ends, Pushes}
+use Rattle.rl_context.proofs.Composed.{by-full, ends-full, ends-live}
+use Rattle.rl_context.proofs.Sizes.{records-one, entry-record, entries-bytes}
 
 -- ---- an entry is pushed
 

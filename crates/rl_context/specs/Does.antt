@@ -7,7 +7,7 @@ use mathlib.Core.Option.{Option, some}
 use lib.ListN.{length}
 use Rattle.rl_spec.specs.declared.Section.the-variants.{Lists}
 use Rattle.rl_spec.specs.declared.Interval.{Interval}
-use Rattle.rl_spec.specs.Image.{Field, pair, Image, sizeOf}
+use Rattle.rl_spec.specs.Image.{pair, Image, sizeOf}
 use Rattle.rl_spec.specs.Make.{Context, Make, andThen, newList}
 use Rattle.rl_images.specs.Lowering.Gives.{Gives}
 use Rattle.rl_context.specs.declared.Ctx.{Ctx}

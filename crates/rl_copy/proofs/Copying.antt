@@ -2,24 +2,21 @@
 -- Assumes nothing.
 use Prim.Native.Nat.{ℕ, zero, suc, _+_, _-_, _*_, _/_, _%_, _^_, _≤_, _<_}
 use mathlib.Core.Path.{_≡_, refl, ap, ap₂, sym, _∙_, subst}
-use mathlib.Core.Bool.{Bool, true, false, cond, _||_}
-use mathlib.Core.List.{List, [], _∷_, _++_, map, append-assoc, append-nil}
-use mathlib.Core.Option.{Option, none, some}
+use mathlib.Core.Bool.{Bool, true, false, cond}
+use mathlib.Core.List.{List, [], _∷_, _++_, map, append-assoc}
 use native.Mathlib.Omega.{arith}
-use lib.Dec.{T, eqb, ltb}
-use lib.ListN.{length, getD, set, take, length-append, length-set, List·getD-append}
+use lib.Dec.{eqb, ltb}
+use lib.ListN.{length, getD, set, take, length-set, List·getD-append}
 use lib.Seq.{take-set-le, take-take, getD-take, getD-set-same}
 use borrow.Author.Tests.{ne-eqb}
 use Rattle.rl_spec.specs.declared.Counts.{Counts}
 use Rattle.rl_spec.specs.declared.Section.the-variants.{Lists, Expressions}
-use Rattle.rl_spec.specs.declared.Sort.{Sort}
 use Rattle.rl_spec.specs.Schema.{sortOf, widthOf, fieldsOf}
-use Rattle.rl_spec.specs.Image.{Field, Rec, Image, sizeOf, noRecord, recordsOf, recordOf, fieldOf, entryOf, first, fieldIn, fieldsAt, recordIn, FieldFits, FieldsFit, RecordFits, WellFormed}
+use Rattle.rl_spec.specs.Image.{Field, Image, sizeOf, noRecord, recordsOf, recordOf, fieldOf, entryOf, first, fieldIn, fieldsAt, recordIn, FieldFits, FieldsFit, WellFormed}
 use Rattle.rl_images.specs.Images.FieldFacts.{first-fits, others-fit}
 use Rattle.rl_spec.specs.Found.{recordAs, recordFound, imageFound}
-use Rattle.rl_spec.specs.Tree.{descend}
 use Rattle.rl_spec.specs.Ranges.{upFrom}
-use Rattle.rl_spec.specs.Make.{Context, Make, andThen, _>>=_, give, fail, self, append, made}
+use Rattle.rl_spec.specs.Make.{Context, Make, _>>=_, give, fail, self, append, made}
 use Rattle.rl_spec.specs.Lower.{isLambda, cloneField, cloneFields, cloneRecord, deepCloneExpr}
 use mir.Syntax.{w64}
 use mir.Val.{Fits}
@@ -31,9 +28,9 @@ use Rattle.rl_arena.proofs.Laws.{width-small}
 use Rattle.rl_encode.specs.Words.{wordField, wordFields, wordRecord}
 use Rattle.rl_context.specs.Additions.{Live}
 use Rattle.rl_context.specs.Does.{State, nothing, Does}
-use Rattle.rl_context.proofs.Composed.{Keeps, not-both, does-then, does-bind, does-give, does-same}
+use Rattle.rl_context.proofs.Composed.{not-both, does-then, does-bind, does-give, does-same}
 use Rattle.rl_context.proofs.More.{More, more-bind, more-append, more-give, more-cond, keeps-more}
-use Rattle.rl_context.proofs.MoreLower.{more-fail, more-clone, more-field, more-fields}
+use Rattle.rl_context.proofs.MoreLower.{more-fail, more-clone, more-fields}
 use Rattle.rl_context.proofs.Appends.{stops-does}
 use Rattle.rl_copy.specs.Copies.{cloneBelow, Fitting, Copies, CopiesField}
 

@@ -1,14 +1,12 @@
 -- A field's copy by its plan, and the entries of a list one by one.
 -- Assumes nothing.
-use Prim.Native.Nat.{ℕ, zero, suc, _+_, _-_, _*_, _/_, _%_, _≤_, _<_}
+use Prim.Native.Nat.{ℕ, suc, _+_, _-_, _/_, _%_, _≤_, _<_}
 use mathlib.Core.Path.{_≡_, refl, ap, ap₂, sym, _∙_, subst}
 use mathlib.Core.Bool.{Bool, true, false, cond, _||_}
 use mathlib.Core.List.{List, [], _∷_, _++_, map, append-assoc}
-use mathlib.Core.Option.{Option, none, some}
+use mathlib.Core.Option.{Option, some}
 use native.Mathlib.Omega.{arith}
 use native.Mathlib.Nat.{add-zero, sub-zero, add-assoc}
-use lib.Dec.{T, ltb}
-use lib.ListN.{length, List·getD-append}
 use borrow.Author.Tests.{lt-ltb, le-ltb}
 use Rattle.rl_spec.specs.declared.Counts.{Counts}
 use Rattle.rl_spec.specs.declared.Interval.{Interval}
@@ -18,23 +16,20 @@ use Rattle.rl_spec.specs.declared.Sort.{Sort}
 use Rattle.rl_spec.specs.declared.Sort.the-variants.{Raw, Byte, Scalar, Part, One, Maybe, Many, Range, OperandSort, Operand}
 use Rattle.rl_spec.specs.Bytes.{numAt, u16At}
 use Rattle.rl_spec.specs.Schema.{sortOf, widthOf}
-use Rattle.rl_spec.specs.Image.{Field, num, pair, Image, recordsOf, sizeOf, noRecord, recordOf, fieldOf, first, second, entryOf, isPair, fieldIn, FieldFits, WellFormed}
+use Rattle.rl_spec.specs.Image.{Field, num, pair, Image, sizeOf, first, entryOf, isPair, fieldIn, FieldFits, WellFormed}
 use Rattle.rl_spec.specs.Found.{imageFound}
-use Rattle.rl_spec.specs.Tree.{below}
-use Rattle.rl_spec.specs.Ranges.{interval}
-use Rattle.rl_spec.specs.Ranges.{upFrom, numbersIn}
+use Rattle.rl_spec.specs.Ranges.{upFrom}
 use Rattle.rl_spec.specs.Make.{Context, Make, andThen, _>>=_, give, fail, self, newList, entriesOf}
 use Rattle.rl_spec.specs.Lower.{isNode, cloneEntries, cloneField, deepCloneExpr}
-use Rattle.rl_laws.specs.Tests.{by-ltb}
 use Rattle.rl_encode.specs.Words.{wordField}
 use Rattle.rl_images.specs.Images.FieldFacts.{list-says}
 use Rattle.rl_images.specs.Lowering.Gives.{gives, after}
 use Rattle.rl_context.specs.declared.Ctx.{Ctx}
 use Rattle.rl_context.specs.Additions.{Live}
 use Rattle.rl_context.specs.Does.{State, at, nothing, one, all, Ends, Start, Does, Pushes, Listed}
-use Rattle.rl_context.proofs.Composed.{Keeps, not-both, does-then, does-bind, does-give, does-same, does-push, does-list}
-use Rattle.rl_context.proofs.More.{More, more-bind, more-give, more-cond, more-self, more-list, keeps-more, keeps-one}
-use Rattle.rl_context.proofs.MoreLower.{more-fail, more-clone, more-entries, more-field}
+use Rattle.rl_context.proofs.Composed.{Keeps, does-then, does-bind, does-give, does-same, does-push, does-list}
+use Rattle.rl_context.proofs.More.{more-give, keeps-more, keeps-one}
+use Rattle.rl_context.proofs.MoreLower.{more-fail, more-entries, more-field}
 use Rattle.rl_context.proofs.Appends.{stops-does}
 use Rattle.rl_copy.specs.declared.Plan.{Plan}
 use Rattle.rl_copy.specs.declared.Plan.the-variants as plan

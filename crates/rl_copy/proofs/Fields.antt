@@ -1,7 +1,7 @@
 -- A field as a word.
 -- Assumes nothing.
 use Prim.Native.Nat.{ℕ, _+_, _*_, _/_, _%_, _<_}
-use mathlib.Core.Path.{_≡_, refl, ap, ap₂, sym, _∙_, subst}
+use mathlib.Core.Path.{_≡_, ap, ap₂, sym, _∙_, subst}
 use mathlib.Core.Bool.{Bool, true, false, cond, _||_}
 use mathlib.Core.List as list
 use native.Mathlib.Omega.{arith}
@@ -11,12 +11,12 @@ use Rattle.rl_spec.specs.declared.Sort.the-variants.{Many}
 use Rattle.rl_spec.specs.declared.Target.{Target}
 use Rattle.rl_spec.specs.Bytes.{numAt, u16At}
 use Rattle.rl_spec.specs.Schema.{sortOf, widthOf}
-use Rattle.rl_spec.specs.Image.{Field, num, pair, first, isPair, fieldIn}
+use Rattle.rl_spec.specs.Image.{num, pair, first, isPair, fieldIn}
 use Rattle.rl_spec.specs.Lower.{isNode}
 use Rattle.rl_arena.specs.Find.{numberIn}
 use Rattle.rl_arena.proofs.Laws.{first-number}
 use Rattle.rl_encode.specs.Words.{wordField}
-use Rattle.rl_copy.specs.declared.Plan.the-variants.{Keep, Node, List}
+use Rattle.rl_copy.specs.declared.Plan.the-variants.{Keep, List}
 use Rattle.rl_copy.specs.Copies.{planOf}
 
 pub two-words : (x y : ℕ) → x < 65536 → pair ((x + y * 65536) % 65536) ((x + y * 65536) / 65536) ≡ pair x y

@@ -1,14 +1,14 @@
 -- What copying promises.
-use Prim.Native.Nat.{ℕ, _+_, _≤_}
+use Prim.Native.Nat.{ℕ}
 use mathlib.Core.Bool.{cond, _||_}
 use mathlib.Core.List as list
 use mathlib.Core.List.{map}
-use Rattle.rl_spec.specs.declared.Section.the-variants.{Lists, Expressions}
+use Rattle.rl_spec.specs.declared.Section.the-variants.{Expressions}
 use Rattle.rl_spec.specs.declared.Target.{Target}
 use Rattle.rl_spec.specs.declared.Sort.{Sort}
 use Rattle.rl_spec.specs.declared.Sort.the-variants.{Raw, Byte, Scalar, Part, One, Maybe, Many, Range, OperandSort, Operand}
 use Rattle.rl_spec.specs.Schema.{sortOf}
-use Rattle.rl_spec.specs.Image.{Image, sizeOf, entryOf, fieldIn, FieldFits, WellFormed}
+use Rattle.rl_spec.specs.Image.{Image, entryOf, fieldIn, FieldFits, WellFormed}
 use Rattle.rl_spec.specs.Tree.{below}
 use Rattle.rl_spec.specs.Ranges.{upFrom}
 use Rattle.rl_spec.specs.Make.{Make, give, fail}

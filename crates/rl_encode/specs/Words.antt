@@ -5,7 +5,7 @@ use mathlib.Core.List.{List, [], _∷_, _++_}
 use lib.ListN.{length, getD, take, drop}
 use Rattle.rl_spec.specs.declared.Sort.{Sort}
 use Rattle.rl_spec.specs.Schema.{sortOf, fieldsOf}
-use Rattle.rl_spec.specs.Image.{Field, num, pair, Rec, isPair, encodeRecord}
+use Rattle.rl_spec.specs.Image.{Field, num, pair, Rec, isPair}
 
 -- two numbers in two bytes each, or one
 abbrev pub wordField : Sort → ℕ → Field

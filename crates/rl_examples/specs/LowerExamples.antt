@@ -6,7 +6,7 @@ use mathlib.Core.Path.{_≡_, refl}
 use mathlib.Core.Bool.{true, false}
 use mathlib.Core.List.{List, [], _∷_, map}
 use mathlib.Core.Option.{Option, none, some}
-use lib.ListN.{drop, replicate}
+use lib.ListN.{drop}
 use lib.IntN.{pos}
 use Rattle.rl_spec.specs.declared.Section.{Section}
 use Rattle.rl_spec.specs.declared.Section.the-variants.{Texts, Lists, Expressions, Statements, Functions}
@@ -15,13 +15,13 @@ use Rattle.rl_spec.specs.Utf8.{within, utf8Char, begins, widthBy, charWidth, oc
 use Rattle.rl_spec.specs.Bytes.{numAt, u16At, u32At, past}
 use Rattle.rl_spec.specs.Fields.{zeros, kindOfStatement, allowed, childHeight, entryAt, rangeOf, partOf, byteIn, operandSortOf, referTo, referOrNone, entriesFrom as entriesHold, listOf, operandOf, valueOf, fieldAt, fieldsFrom, recordAt}
 use Rattle.rl_spec.specs.Read.{countsOf, countsFrom, headerOf, recordsFrom, sectionsFrom, endOf, bodyOf, readOf, answerOf, numberIn}
-use Rattle.rl_spec.specs.Image.{Field, num, pair, Rec, Image, noRecord, recordsOf, entryOf, textOf, sizeOf, bytesOf, encodeFields, encodeRecord, encodeRecords, encodeSections, encodeCounts, encode}
+use Rattle.rl_spec.specs.Image.{Field, num, pair, Rec, Image, recordsOf, entryOf, textOf, sizeOf, bytesOf, encodeFields, encodeRecord, encodeRecords, encodeSections, encodeCounts, encode}
 use Rattle.rl_spec.specs.Tree.{ascii, descendBy, descend, formBy, callForm, isResPath, exprTree}
 use Rattle.rl_spec.specs.Records.{paramAt, clauseAt, functionAt}
 use Rattle.rl_spec.specs.Ranges.{upFrom}
-use Rattle.rl_spec.specs.Contracts.{paramOf, clauseOf, contractsOf, isSome, anyRefined}
+use Rattle.rl_spec.specs.Contracts.{paramOf, clauseOf, contractsOf, anyRefined}
 use Rattle.rl_spec.specs.Message.{decimalBy, decimal}
-use Rattle.rl_spec.specs.Make.{Context, each, flatMap, append, appendBytes, made, newText, newList, stmt, absent}
+use Rattle.rl_spec.specs.Make.{each, flatMap, append, appendBytes, made, newText, newList, stmt, absent}
 use Rattle.rl_spec.specs.Lower.{expr, ident, strLit, errLit, resCall, cloneEntries, cloneFields, deepCloneExpr, violation, onlyIf, guard, declare, returnOf, wrapAs, wrapReturn, refinePredicate, transformBranch, transformArm, transformStatement, wrapTrailing, desugarFnContracts, hasContracts, newBody, fitting, lowered}
 use Rattle.rl_spec.specs.Values as value
 use Rattle.rl_spec.specs.Values.{sameText, compareValues, bang}

@@ -4,13 +4,13 @@ use Prim.Native.Nat.{ℕ, zero, suc}
 use mathlib.Core.Path.{_≡_, refl}
 use mathlib.Core.Bool.{Bool, true, false}
 use mathlib.Core.List.{List, [], _∷_, map}
-use mathlib.Core.Option.{Option, none, some}
+use mathlib.Core.Option.{none, some}
 use lib.IntN.{pos}
 use Rattle.rl_spec.specs.Values as value
-use Rattle.rl_spec.specs.Values.{ConstVal, sameText, compareValues, arithValues, bang, negate}
+use Rattle.rl_spec.specs.Values.{sameText, compareValues, arithValues, bang, negate}
 use Rattle.rl_spec.specs.Tree.{Expr, null, literal, identifier, unary, binary, grouping, assign, okLiteral, errLiteral, isErr, resultUnwrap, other, ascii}
 use Rattle.rl_spec.specs.Fold.{unaryValue, binaryValue}
-use Rattle.rl_spec.specs.Statement.{Stmt, declaration, expression, return, returnAlone, conditional, while, loop, break, continue, otherStatement, Body, nil, _▸_, Branch, branch, Else, noElse, elseBranch, elseConditional}
+use Rattle.rl_spec.specs.Statement.{Stmt, declaration, expression, return, returnAlone, conditional, while, loop, break, continue, otherStatement, Body, nil, _▸_, Branch, branch, noElse, elseBranch, elseConditional}
 use Rattle.rl_spec.specs.Run.{Plain, nothing, folded, Value, plain, ok, err, folds, Outcome, returned, stopped, fault, spent, used, find, update, eval}
 use Rattle.rl_spec.specs.Reading.{Check, Function, checks, turns, stmt, body, branchOr, orElse, top, runFunction, reading}
 

@@ -7,7 +7,7 @@ use mathlib.Core.Option.{none, some}
 use lib.IntN.{pos, negsuc}
 use lib.Ieee as F
 use lib.Ieee.{binary64}
-use Rattle.rl_spec.specs.Values.{ConstVal, int, float, str, bool, lt, eq, compareValues, compareFloats, compareBools, lessText, sameText, plus, slash, arithValues, negate}
+use Rattle.rl_spec.specs.Values.{int, float, str, bool, lt, eq, compareValues, compareFloats, compareBools, lessText, sameText, plus, slash, arithValues, negate}
 
 same : List ℕ → List ℕ
 same s = s

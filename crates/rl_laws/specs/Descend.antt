@@ -7,7 +7,7 @@ use native.Mathlib.Omega.{arith}
 use lib.Dec.{ltb}
 use borrow.Author.Tests.{ltb-true, lt-ltb, le-ltb}
 use Rattle.rl_spec.specs.Image.{Image}
-use Rattle.rl_spec.specs.Tree.{Expr, other, below, descendBy, descend, formOf, treeBy, exprTree}
+use Rattle.rl_spec.specs.Tree.{other, below, descendBy, descend, formOf, treeBy, exprTree}
 use Rattle.rl_spec.specs.Statement.{aStatement, otherStatement, statementOf, itemBy, itemTree}
 
 below-same : {X : Type 0} (i : ℕ) (d : X) (f g : ℕ → X) → ((j : ℕ) → j < i → f j ≡ g j) → below i d f ≡ below i d g

@@ -14,8 +14,8 @@ use borrow.Author.Tests.{lt-ltb}
 use Rattle.rl_spec.specs.declared.Counts.{Counts}
 use Rattle.rl_spec.specs.declared.Clause.{Clause}
 use Rattle.rl_spec.specs.declared.Interval.{Interval}
-use Rattle.rl_spec.specs.declared.Section.the-variants.{Lists, Statements}
-use Rattle.rl_spec.specs.Image.{Image, recordsOf, sizeOf, noRecord, recordOf, entryOf}
+use Rattle.rl_spec.specs.declared.Section.the-variants.{Statements}
+use Rattle.rl_spec.specs.Image.{Image, recordsOf, sizeOf, noRecord, entryOf}
 use Rattle.rl_spec.specs.Found.{imageFound}
 use Rattle.rl_spec.specs.Tree.{ascii, number}
 use Rattle.rl_spec.specs.Message.{decimal}
@@ -29,8 +29,8 @@ use Rattle.rl_images.specs.Lowering.Gives.{Gives, stops, gives, after, weaker, 
 use Rattle.rl_images.specs.Lowering.LastBare.{Last, last-bare}
 use Rattle.rl_context.specs.declared.Ctx.{Ctx}
 use Rattle.rl_context.specs.Additions.{waitingWith, Waiting, Live}
-use Rattle.rl_context.specs.Does.{State, at, nothing, all, Over, Ends, Start, Does}
-use Rattle.rl_context.proofs.Composed.{Keeps, by-full, ends-full, ends-live, stays-full, does-then}
+use Rattle.rl_context.specs.Does.{State, at, all, Over, Ends, Start, Does}
+use Rattle.rl_context.proofs.Composed.{by-full, ends-full, ends-live, stays-full, does-then}
 use Rattle.rl_context.proofs.More.{AsMany, More, more-flat}
 use Rattle.rl_context.proofs.MoreLower.{more-statement, more-wrap}
 use Rattle.rl_context.proofs.Waits.{counted-same}

@@ -1,5 +1,5 @@
 -- The contracts of a function, under the names of rl-ast's statements.rs, and the callee of a call. T is the type of texts.
-use Prim.Native.Nat.{ℕ, zero, suc, _+_}
+use Prim.Native.Nat.{ℕ, zero, suc}
 use mathlib.Core.Bool.{Bool, true, false, not, cond, _&&_, _||_}
 use mathlib.Core.List.{List, [], _∷_, map}
 use mathlib.Core.Option.{Option, none, some}
@@ -10,7 +10,6 @@ use Rattle.rl_spec.specs.declared.RefineOperand as operand
 use Rattle.rl_spec.specs.declared.RefineOperand.the-variants.{Integer, Str, Bool as Truth, Param as Named}
 use Rattle.rl_spec.specs.declared.ParamRefinement as refinement
 use Rattle.rl_spec.specs.declared.ParamRefinement.the-variants.{Unrefined, Refined}
-use Rattle.rl_spec.specs.declared.Interval.{Interval}
 use Rattle.rl_spec.specs.Image.{Image, sizeOf, entryOf, textOf}
 use Rattle.rl_spec.specs.Values.{RefineOp, sameText}
 use Rattle.rl_spec.specs.Folded.{opOf}

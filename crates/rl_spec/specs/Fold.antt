@@ -1,12 +1,10 @@
 -- `const_eval` of rl-checker's contracts.rs on trees, and what folding answers.
-use Prim.Native.Nat.{ℕ, _*_, _+_, _^_}
-use mathlib.Core.Bool.{Bool, true, false, cond}
+use Prim.Native.Nat.{ℕ}
+use mathlib.Core.Bool.{Bool, cond}
 use mathlib.Core.List.{List, [], _∷_}
 use mathlib.Core.Option.{Option, none, some}
 use lib.ListN.{replicate}
 use lib.Dec.{ltb, eqb}
-use Rattle.rl_spec.specs.declared.ArenaNo.{ArenaNo}
-use Rattle.rl_spec.specs.declared.Counts.{Counts}
 use Rattle.rl_spec.specs.declared.Id.{Id}
 use Rattle.rl_spec.specs.declared.Answer.{Answer}
 use Rattle.rl_spec.specs.declared.Answer.the-variants as read
@@ -15,7 +13,7 @@ use Rattle.rl_spec.specs.declared.FoldAnswer.{FoldAnswer}
 use Rattle.rl_spec.specs.declared.FoldAnswer.the-variants.{Found, Refused}
 use Rattle.rl_spec.specs.Read.{numberOf, answerOf, workOf}
 use Rattle.rl_spec.specs.Image.{textOf, imageOf}
-use Rattle.rl_spec.specs.Values.{ConstVal, bool, RefineOp, gt, ge, lt, le, eq, ne, ArithOp, plus, minus, star, slash, sameText, compareValues, arithValues, bang, negate}
+use Rattle.rl_spec.specs.Values.{ConstVal, bool, gt, ge, lt, le, eq, ne, plus, minus, star, slash, sameText, compareValues, arithValues, bang, negate}
 use Rattle.rl_spec.specs.Folded.{asFolded}
 use Rattle.rl_spec.specs.Tree.{Expr, null, literal, identifier, unary, binary, grouping, assign, okLiteral, errLiteral, isErr, resultUnwrap, other, exprTree}
 

@@ -9,8 +9,7 @@ use Rattle.rl_spec.specs.declared.Section.{Section}
 use Rattle.rl_spec.specs.declared.Section.the-variants.{Texts, Lists, Statements}
 use Rattle.rl_spec.specs.Schema.{limits}
 use Rattle.rl_spec.specs.Image.{Field, num, pair, Rec, Image, orderOf, recordsOf, sizeOf, entryOf}
-use Rattle.rl_spec.specs.Ranges.{interval}
-use Rattle.rl_spec.specs.Ranges.{numbersIn}
+use Rattle.rl_spec.specs.Ranges.{interval, numbersIn}
 
 infixl 1 _>>=_
 -- ---- making: from the context to what is made and the context then; none where a limit would be passed

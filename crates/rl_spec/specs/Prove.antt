@@ -5,8 +5,6 @@ use mathlib.Core.List.{List, [], _∷_, _++_}
 use mathlib.Core.Option.{Option, none, some}
 use lib.ListN.{length, replicate}
 use lib.Dec.{ltb}
-use Rattle.rl_spec.specs.declared.ArenaNo.{ArenaNo}
-use Rattle.rl_spec.specs.declared.Counts.{Counts}
 use Rattle.rl_spec.specs.declared.Answer.{Answer}
 use Rattle.rl_spec.specs.declared.Answer.the-variants as read
 use Rattle.rl_spec.specs.declared.Cause.the-variants.{NoSuchCall, ReportsTooShort}

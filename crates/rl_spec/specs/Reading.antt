@@ -5,7 +5,7 @@ use mathlib.Core.List.{List, [], _∷_}
 use mathlib.Core.Option.{Option, none, some}
 use Rattle.rl_spec.specs.Tree.{Expr}
 use Rattle.rl_spec.specs.Statement.{Stmt, declaration, expression, return, returnAlone, conditional, while, loop, break, continue, otherStatement, Body, nil, _▸_, Branch, branch, Else, noElse, elseBranch, elseConditional}
-use Rattle.rl_spec.specs.Run.{Plain, nothing, Value, plain, ok, err, Bound, named, hidden, Env, Outcome, returned, stopped, Result, got, ended, Ending, ending, Run, andThen, _>>=_, _>>_, give, halt, fail, tick, charge, bind, scoped, truth, plainOf, eval}
+use Rattle.rl_spec.specs.Run.{nothing, Value, plain, ok, err, named, hidden, Outcome, returned, stopped, ended, Ending, ending, Run, _>>=_, _>>_, give, halt, fail, tick, charge, bind, scoped, truth, plainOf, eval}
 
 -- a condition that must hold, and the message where it does not
 pub record Check (T : Type 0) : Type 0 where

@@ -1,7 +1,6 @@
 -- What the records of parameters, clauses, functions and calls say.
 use Prim.Native.Nat.{ℕ, _%_}
 use mathlib.Core.Bool.{cond}
-use mathlib.Core.List.{List}
 use lib.Dec.{eqb}
 use Rattle.rl_spec.specs.declared.Section.the-variants.{Parameters, Clauses, Functions, Calls}
 use Rattle.rl_spec.specs.declared.RefineOp.{RefineOp}
@@ -12,10 +11,9 @@ use Rattle.rl_spec.specs.declared.ParamRefinement.{ParamRefinement}
 use Rattle.rl_spec.specs.declared.ParamRefinement.the-variants.{Unrefined, Refined}
 use Rattle.rl_spec.specs.declared.Param.{Param}
 use Rattle.rl_spec.specs.declared.Clause.{Clause}
-use Rattle.rl_spec.specs.declared.Interval.{Interval}
 use Rattle.rl_spec.specs.declared.Function.{Function}
 use Rattle.rl_spec.specs.declared.Call.{Call}
-use Rattle.rl_spec.specs.Image.{Field, Rec, Image, first, second, recordOf, fieldOf}
+use Rattle.rl_spec.specs.Image.{Rec, Image, recordOf, fieldOf}
 use Rattle.rl_spec.specs.Ranges.{interval}
 use Rattle.rl_spec.specs.Tree.{signed, number}
 

@@ -10,8 +10,7 @@ use Rattle.rl_spec.specs.declared.StatementForm.{StatementForm}
 use Rattle.rl_spec.specs.declared.StatementForm.the-variants.{Declaration, Expression, Return, ReturnAlone, Conditional, Branch as ABranch, While, Loop, Break, Continue, Other}
 use Rattle.rl_spec.specs.Image.{Rec, Image, recordOf, fieldOf, entryOf}
 use Rattle.rl_spec.specs.Tree.{Expr, number, descend, exprTree}
-use Rattle.rl_spec.specs.Ranges.{interval}
-use Rattle.rl_spec.specs.Ranges.{numbersIn}
+use Rattle.rl_spec.specs.Ranges.{interval, numbersIn}
 
 infixr 5 _▸_
 mutual

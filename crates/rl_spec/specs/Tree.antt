@@ -1,9 +1,8 @@
 -- The trees that the expressions of an image stand for: a shared record stands for copies. T is the type of texts.
 use Prim.Native.Nat.{ℕ, zero, suc, _+_, _-_, _^_}
 use Prim.Native.Char.{code}
-use Prim.Native.String.{String}
-use Prim.Native.String.{[] as end, _∷_ as _▸_}
-use mathlib.Core.Bool.{Bool, true, false, cond, _&&_}
+use Prim.Native.String.{String, [] as end, _∷_ as _▸_}
+use mathlib.Core.Bool.{Bool, cond, _&&_}
 use mathlib.Core.List.{List, [], _∷_}
 use mathlib.Core.Option.{Option}
 use lib.Dec.{ltb, eqb}

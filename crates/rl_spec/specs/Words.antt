@@ -1,7 +1,7 @@
 -- A value in two words: its sort, 1 Int, 2 Float, 3 Str, 4 Bool, 0 none, and its payload: the i64's or f64's bits, the text's index, 0
 -- or 1. For a NaN the bits are those that lib.Ieee writes.
 use Prim.Native.Nat.{ℕ, suc, _-_, _^_, _%_}
-use mathlib.Core.Bool.{Bool, true, false, cond}
+use mathlib.Core.Bool.{cond}
 use lib.Dec.{eqb}
 use lib.IntN.{ℤ, pos, negsuc}
 use lib.Ieee.{toBits, ofBits, binary64}

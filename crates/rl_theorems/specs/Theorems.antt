@@ -41,7 +41,7 @@ use Rattle.rl_spec.specs.Prove.{proveCall, callEntries, allEntries, fitting, sl
 use Rattle.rl_spec.specs.Statement.{Stmt, Body}
 use Rattle.rl_spec.specs.Contracts.{FnContracts, calleeOf, argumentsOf}
 use Rattle.rl_spec.specs.Mapped.{mapValue, mapExpr, mapStmt, mapBody, mapContracts}
-use Rattle.rl_spec.specs.Functions.{plainFunction, contractFunction, readingIn}
+use Rattle.rl_spec.specs.Functions.{contractFunction, readingIn}
 use Rattle.rl_spec.specs.Lower.{lowered}
 use Rattle.rl_spec.specs.Lowerer.{made, refused, tooTall, orLimit, lowerOf, lowerOut}
 use Rattle.rl_spec.specs.Runner.{outcomeIn, allHave, given, valuesOf, runOf}

@@ -1,17 +1,16 @@
 -- The loops over a list's statements and arms.
 -- Assumes nothing.
 use Prim.Native.Nat.{ℕ, zero, suc, _+_, _-_, _≤_, _<_}
-use mathlib.Core.Path.{_≡_, refl, ap, ap₂, sym, _∙_, subst}
+use mathlib.Core.Path.{_≡_, ap, ap₂, sym, _∙_, subst}
 use mathlib.Core.List.{List, [], _∷_, _++_, map, append-assoc}
 use native.Mathlib.Omega.{arith}
 use native.Mathlib.Nat.{add-zero, sub-zero, add-assoc}
-use lib.ListN.{length}
 use Rattle.rl_spec.specs.declared.Section.{Section}
 use Rattle.rl_spec.specs.declared.Target.{Target}
 use Rattle.rl_spec.specs.Image.{Image, entryOf, Refers, Entries}
 use Rattle.rl_spec.specs.Ranges.{upFrom}
-use Rattle.rl_spec.specs.Make.{Make, give, each, flatMap}
-use Rattle.rl_context.specs.Does.{State, nothing, one, all, Does, Pushes}
+use Rattle.rl_spec.specs.Make.{Make, each, flatMap}
+use Rattle.rl_context.specs.Does.{State, nothing, all, Does, Pushes}
 use Rattle.rl_context.proofs.Composed.{does-push, does-each, does-flat}
 use Rattle.rl_context.proofs.More.{More, more-each, more-flat, keeps-one, keeps-all}
 use Rattle.rl_copy.proofs.Entries.{up-suc, does-nil}

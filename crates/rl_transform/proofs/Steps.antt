@@ -1,45 +1,41 @@
 -- What stands for a statement, by its kind.
 -- Assumes nothing.
-use Prim.Native.Nat.{ℕ, zero, suc, _+_, _*_, _/_, _%_, _≤_, _<_}
+use Prim.Native.Nat.{ℕ, _+_, _/_, _%_, _≤_, _<_}
 use mathlib.Core.Path.{_≡_, refl, ap, ap₂, sym, _∙_, subst}
 use mathlib.Core.Bool.{Bool, true, false, cond}
-use mathlib.Core.List.{List, [], _∷_, _++_, map}
+use mathlib.Core.List.{List, [], _∷_, map}
 use mathlib.Core.Logic.{_⊎_, inl, inr}
 use mathlib.Core.Option.{Option, none, some}
 use native.Mathlib.Omega.{arith}
-use native.Mathlib.Nat.{add-zero}
-use lib.Dec.{T, eqb, ltb}
-use lib.ListN.{length, getD, set, List·getD-append}
+use lib.Dec.{eqb, ltb}
+use lib.ListN.{getD, set, List·getD-append}
 use borrow.Author.Tests.{eq-eqb, ne-eqb, lt-ltb, le-ltb, eqb-true}
 use Rattle.rl_spec.specs.declared.Counts.{Counts}
 use Rattle.rl_spec.specs.declared.Clause.{Clause}
-use Rattle.rl_spec.specs.declared.Target.{Target}
 use Rattle.rl_spec.specs.declared.Target.the-variants.{Arm}
 use Rattle.rl_spec.specs.declared.Interval.{Interval}
 use Rattle.rl_spec.specs.declared.Section.the-variants.{Lists, Statements}
-use Rattle.rl_spec.specs.Bytes.{numAt, u16At}
+use Rattle.rl_spec.specs.Bytes.{u16At}
 use Rattle.rl_spec.specs.Schema.{limits, sections, sortOf, schema, fieldsIn, fieldsOf}
-use Rattle.rl_spec.specs.Image.{Field, num, pair, Rec, Image, recordsOf, sizeOf, noRecord, recordOf, fieldOf, first, second, entryOf, fieldsAt, FieldsFit, Refers, Entries, WellFormed}
+use Rattle.rl_spec.specs.Image.{Field, num, pair, Image, recordsOf, sizeOf, noRecord, recordOf, fieldOf, first, second, entryOf, fieldsAt, FieldsFit, Entries, WellFormed}
 use Rattle.rl_spec.specs.Found.{recordAs, imageFound}
-use Rattle.rl_spec.specs.Tree.{number, below}
+use Rattle.rl_spec.specs.Tree.{number}
 use Rattle.rl_spec.specs.Ranges.{upFrom}
 use Rattle.rl_spec.specs.Make.{Context, Make, andThen, _>>=_, give, fail, self, append, made, newList, stmt, each, flatMap, entriesOf}
-use Rattle.rl_spec.specs.Lower.{expr, wrapReturn, transformList, transformBranchBy, transformBranch, transformElse, transformArmBy, transformArm, conditional, match, loop, only, transformStatementBy, transformStatement}
+use Rattle.rl_spec.specs.Lower.{expr, wrapReturn, transformList, transformBranchBy, transformBranch, transformElse, transformArmBy, transformArm, conditional, match, only, transformStatementBy, transformStatement}
 use mir.Val.{Fits}
 use mir.Syntax.{w16, w64}
 use Rattle.rl_laws.specs.Descend.{descend-is}
 use Rattle.rl_laws.specs.Found.{size-found}
 use Rattle.rl_laws.specs.Tests.{by-eqb}
 use Rattle.rl_transform.proofs.Rebuilding.{statement-is}
-use Rattle.rl_encode.specs.Words.{wordField}
 use Rattle.rl_images.specs.Images.FieldFacts.{reference-says, option-says, list-says, first-fits, others-fit}
 use Rattle.rl_images.specs.Lowering.Gives.{gives}
-use Rattle.rl_context.specs.declared.Ctx.{Ctx}
 use Rattle.rl_context.specs.Additions.{Live}
-use Rattle.rl_context.specs.Does.{State, at, nothing, one, all, Does, Pushes, Listed}
+use Rattle.rl_context.specs.Does.{State, nothing, one, all, Does, Pushes, Listed}
 use Rattle.rl_context.proofs.Composed.{Keeps, not-both, does-then, does-bind, does-give, does-same, does-push, does-list}
-use Rattle.rl_context.proofs.More.{More, more-bind, more-give, more-cond, more-append, keeps-more}
-use Rattle.rl_context.proofs.MoreLower.{more-fail, more-expr, more-wrap, more-body, more-branch, more-else, more-arm, more-conditional, more-match, more-statement}
+use Rattle.rl_context.proofs.More.{More, more-bind, more-cond, more-append, keeps-more}
+use Rattle.rl_context.proofs.MoreLower.{more-fail, more-wrap, more-body, more-else, more-arm, more-match, more-statement}
 use Rattle.rl_context.proofs.Appends.{stops-does}
 use Rattle.rl_copy.proofs.Copying.{old-entries}
 use Rattle.rl_copy.proofs.Entries.{two}

@@ -1,5 +1,5 @@
-use Prim.Native.Nat.{_+_, _-_, _*_, _^_, _≤_}
-use mathlib.Core.Path.{_≡_, refl, ap, sym, subst, _∙_}
+use Prim.Native.Nat.{_+_, _-_, _*_, _^_, _≤_, ℕ, _<_}
+use mathlib.Core.Path.{_≡_, refl, ap, sym, _∙_}
 use native.Mathlib.Omega.{arith}
 use lib.ListN.{length}
 use borrow.Author.Needs.{needs}
@@ -9,10 +9,8 @@ use Rattle.rl_schema.specs.Codes.{codes, table}
 use Rattle.rl_schema.proofs.Rows.{row-codes}
 use Rattle.rl_arena.proofs.Laws.{width-small}
 use Rattle.rl_context.specs.Does.{at}
-use Rattle.rl_copy.specs.Copies.{Copies}
 use Rattle.rl_copy.proofs.Copying.{Copying, kind-in, codes-few, small-left, as-made, few-left, place-left, place-fits, j-fits, still-eight, copies-full, copies-lambda, copies-record, not-lambda, copying-none, copying-field, copying-more, copying-all, copying-whole}
 use Rattle.rl_copy.proofs.Entries.{CopyingEntries, entries-none, entries-more, entries-all, entry-stopped, entry-copied, entry-kept, field-halted, field-kept, field-copied, field-listed, list-fits}
-use Prim.Native.Nat.{ℕ, _<_}
 use borrow.Fn.Kinds.{In}
 use borrow.Fn.PlainCycle.{Measures, is, falls, and}
 use Rattle.rl_copy.proofs.clone_entries.Reads as clone-entries

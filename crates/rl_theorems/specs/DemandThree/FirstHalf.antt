@@ -19,7 +19,6 @@ use Rattle.rl_spec.specs.declared.Section.the-variants.{Texts}
 use Rattle.rl_spec.specs.Read.{countsOf}
 use Rattle.rl_spec.specs.Image.{Image, textOf, encode, imageOf, AllBytes}
 use Rattle.rl_spec.specs.Values as value
-use Rattle.rl_spec.specs.Tree.{ascii}
 use Rattle.rl_spec.specs.Records.{functionAt}
 use Rattle.rl_spec.specs.Run as run
 use Rattle.rl_spec.specs.Reading.{Function, runFunction}

@@ -16,7 +16,6 @@ use Rattle.rl_spec.specs.declared.ProveAnswer.the-variants.{Proved}
 use Rattle.rl_spec.specs.declared.Violation.{Violation}
 use Rattle.rl_spec.specs.Read.{answerOf}
 use Rattle.rl_spec.specs.Image.{Image, imageOf}
-use Rattle.rl_spec.specs.Tree.{ascii}
 use Rattle.rl_spec.specs.Contracts.{calleeOf, argumentsOf}
 use Rattle.rl_spec.specs.Prove.{violationsBy, violationsOf, reportEntries, callEntries, fitting, proveFrom, proveOf}
 use Rattle.rl_spec.specs.Mapped.{Text}

@@ -1,6 +1,6 @@
 -- The lowered body of a function is sound.
 -- Assumes nothing.
-use Prim.Native.Nat.{ℕ, zero, suc, _-_, _^_, _≤_, _<_}
+use Prim.Native.Nat.{ℕ, zero, suc, _-_, _≤_, _<_}
 use mathlib.Core.Path.{_≡_, refl}
 use mathlib.Core.Bool.{Bool, true, false, not, cond, _&&_, false≢true}
 use mathlib.Core.List.{List, [], _∷_, _++_}
@@ -12,7 +12,6 @@ use borrow.Author.Tests.{eqb-true}
 use Rattle.rl_spec.specs.declared.Section.{Section}
 use Rattle.rl_spec.specs.declared.Target.{Target}
 use Rattle.rl_spec.specs.declared.Target.the-variants.{Statement}
-use Rattle.rl_spec.specs.declared.Sort.the-variants.{Raw, Byte}
 use Rattle.rl_spec.specs.declared.Clause.{Clause}
 use Rattle.rl_spec.specs.Schema.{inSection, sortOf, fieldsOf, fieldsIn, schema}
 use Rattle.rl_spec.specs.Image.{num, Rec, Image, fieldOf, textOf}
@@ -27,7 +26,7 @@ use Rattle.rl_spec.specs.Lower.{expr, wrapReturn, tokenOf, operandExpr, refineP
 use Rattle.rl_images.specs.Lowering.GrowsTo.{Every}
 use Rattle.rl_theorems.specs.Images.ProperTexts.{Proper, OperandReady, refinement-proper, requires-proper}
 use Rattle.rl_images.specs.Images.SchemaSorts.{and-left, and-right}
-use Rattle.rl_theorems.specs.Images.NewReferences.{Ref, ref-there, Refs, noRefs, ref, refs-higher, refs-append, Held, one-ref}
+use Rattle.rl_theorems.specs.Images.NewReferences.{Ref, ref-there, Refs, noRefs, ref, refs-higher, refs-append, one-ref}
 use Rattle.rl_theorems.specs.Images.KeepsSound.{KeepsSound, sure-given, sure-test, sure-ready, ref-on, refs-on, Node, Line, Lines, node-sure, _then_, _⇝_}
 use Rattle.rl_theorems.specs.Images.NewFields.{nil-held, cons-held, raw-held, byte-held, one-held}
 use Rattle.rl_theorems.specs.Images.SoundGuards.{every-on, ClauseReady, clause-on, clauses-sure, ident-sure, string-sure, guard-sure, wrap-sure}

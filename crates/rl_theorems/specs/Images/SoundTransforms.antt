@@ -1,6 +1,6 @@
 -- A transformed statement is sound, and at most 2 taller than its original.
 -- Assumes nothing.
-use Prim.Native.Nat.{ℕ, zero, suc, _+_, _-_, _^_, _≤_, _<_}
+use Prim.Native.Nat.{ℕ, zero, suc, _+_, _-_, _≤_, _<_}
 use mathlib.Core.Path.{_≡_, refl, sym}
 use mathlib.Core.Bool.{Bool, true, false, cond}
 use mathlib.Core.List.{List, [], _∷_, _++_}
@@ -15,7 +15,7 @@ use Rattle.rl_spec.specs.declared.Section.the-variants.{Statements}
 use Rattle.rl_spec.specs.declared.Target.{Target}
 use Rattle.rl_spec.specs.declared.Target.the-variants.{Statement, Branch, ElseBranch, Arm}
 use Rattle.rl_spec.specs.declared.Sort.{Sort}
-use Rattle.rl_spec.specs.declared.Sort.the-variants.{Raw, Byte, One, Maybe, Many}
+use Rattle.rl_spec.specs.declared.Sort.the-variants.{Raw, Maybe, Many}
 use Rattle.rl_spec.specs.declared.Clause.{Clause}
 use Rattle.rl_spec.specs.Schema.{inSection, sortOf, fieldsOf, fieldsIn, schema}
 use Rattle.rl_spec.specs.Fields.{takes}

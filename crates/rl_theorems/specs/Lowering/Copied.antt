@@ -17,7 +17,7 @@ use Rattle.rl_spec.specs.Image.{Field, num, Rec, Image, sizeOf, recordOf, first
 use Rattle.rl_spec.specs.Values.{ConstVal, str}
 use Rattle.rl_spec.specs.Tree.{Expr, null, literal, identifier, unary, binary, grouping, assign, okLiteral, errLiteral, below}
 use Rattle.rl_spec.specs.Mapped.{Text}
-use Rattle.rl_spec.specs.Make.{Context, Make, _>>=_, give, fail, self, append, made, newList, entriesOf}
+use Rattle.rl_spec.specs.Make.{Context, Make, _>>=_, give, fail, self, made, newList, entriesOf}
 use Rattle.rl_spec.specs.Lower.{isNode, cloneEntries, cloneField, cloneFields, isLambda, cloneRecord, deepCloneExpr}
 use Rattle.rl_laws.specs.Descend.{descend-is}
 use Rattle.rl_images.specs.Images.SchemaSorts.{and-left, and-right}

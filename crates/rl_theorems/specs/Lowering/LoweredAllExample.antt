@@ -2,12 +2,10 @@
 -- Assumes nothing.
 use Prim.Native.Nat.{ℕ, _≤_}
 use mathlib.Core.Path.{_≡_, refl}
-use mathlib.Core.Bool.{true, _&&_}
 use mathlib.Core.List.{List, [], _∷_}
 use mathlib.Core.Option.{Option, none, some}
 use lib.Dec.{lit<, lit≤}
-use Rattle.rl_spec.specs.declared.Section.the-variants.{Expressions, Statements, Functions}
-use Rattle.rl_spec.specs.Image.{pair, Image, sizeOf, tallestEntry, tallestChild, heightsFrom, heights, encode, recordIn, recordsIn, nextAt, endAt, fieldsAt, sectionsIn, imageOf, widthsOf, WellFormed}
+use Rattle.rl_spec.specs.Image.{pair, Image, tallestEntry, tallestChild, heightsFrom, heights, encode, recordIn, recordsIn, nextAt, endAt, fieldsAt, sectionsIn, imageOf, widthsOf, WellFormed}
 use Rattle.rl_spec.specs.Tree.{ascii}
 use Rattle.rl_spec.specs.Mapped.{Text}
 use Rattle.rl_spec.specs.Functions.{contractFunction}
@@ -17,7 +15,6 @@ use Rattle.rl_spec.specs.Lower.{lowered}
 use Rattle.rl_examples.specs.MarkedImages.{bool, clause, function, build}
 use Rattle.rl_examples.specs.LowerExamples.{lowering, decoding, running}
 use Rattle.rl_theorems.specs.Reading.EncodedAnswers.{well-formed-by}
-use Rattle.rl_theorems.specs.Images.FunctionReady.{Under}
 use Rattle.rl_theorems.specs.Lowering.LowerFrame.{CleanChecks}
 use Rattle.rl_theorems.specs.Lowering.LoweredRuns.{Premises}
 use Rattle.rl_theorems.specs.Lowering.LoweredAll.{LoweredInOrder, none-yet, and-then, all-lowered}

@@ -3,7 +3,7 @@
 use Prim.Native.Nat.{ℕ, zero, suc, _+_, _≤_, _<_}
 use mathlib.Core.Path.{_≡_, refl, ap, ap₂, sym, _∙_, subst}
 use mathlib.Core.Bool.{Bool, true, false, not, cond, _||_, true≢false}
-use mathlib.Core.List.{List, [], _∷_, _++_, map, map-map}
+use mathlib.Core.List.{List, [], _∷_, _++_, map}
 use mathlib.Core.Option.{Option, none, some, Option·some-injective, Option·none-ne-some}
 use native.Mathlib.Omega.{arith}
 use lib.Dec.{ltb}
@@ -13,9 +13,8 @@ use Rattle.rl_spec.specs.declared.Section.the-variants.{Texts, Parameters, Func
 use Rattle.rl_spec.specs.Image.{Field, noField, Rec, Image, recordsOf, sizeOf, noRecord, recordOf, fieldOf, first, textOf, encode, WellFormed}
 use Rattle.rl_spec.specs.Tree.{ascii}
 use Rattle.rl_spec.specs.Statement.{Body, bodyTree}
-use Rattle.rl_spec.specs.Ranges.{interval}
+use Rattle.rl_spec.specs.Ranges.{interval, upFrom, numbersIn}
 use Rattle.rl_spec.specs.Records.{paramAt, clauseAt, functionAt}
-use Rattle.rl_spec.specs.Ranges.{upFrom, numbersIn}
 use Rattle.rl_spec.specs.Contracts.{ParamRefinement, Param, clauseOf, anyRefined, isEmpty, isSome, paramOf, contractsOf}
 use Rattle.rl_spec.specs.Mapped.{Text, mapBody, mapParam, mapClause}
 use Rattle.rl_spec.specs.Functions.{plainFunction, contractFunction, checkFirst, refinementChecks, clauseCheck}
@@ -170,7 +169,7 @@ module _ (im : Image) (wf : WellFormed im) (f : ℕ) (inside : f < sizeOf im Fun
       let p = or-false (not (isEmpty (requiresIn im f)) || not (isEmpty (ensuresIn im f))) (anyRefined (paramsIn im f)) h in
       let q = or-false (not (isEmpty (requiresIn im f))) (not (isEmpty (ensuresIn im f))) (p .0) in
       let noRefined : refinementChecks (map (mapParam (textOf im)) (paramsIn im f)) ≡ [] =
-          no-checks (map (mapParam (textOf im)) (paramsIn im f)) (any-same (textOf im) (paramsIn im f) ∙ p .1) in
+      no-checks (map (mapParam (textOf im)) (paramsIn im f)) (any-same (textOf im) (paramsIn im f) ∙ p .1) in
       let check : Text → List ℕ → List (Check Text) = λ default is. map (clauseCheck default) (map (mapClause (textOf im)) (map (clauseOf im) is)) in
       let noRequired = ap (check (ascii "requires violated")) (no-list (clauseAt im) (numbersIn (functionAt im f .required)) (q .0)) in
       let noEnsured = ap (check (ascii "ensures violated")) (no-list (clauseAt im) (numbersIn (functionAt im f .ensured)) (q .1)) in

@@ -5,10 +5,10 @@ use mathlib.Core.Path.{_≡_, refl}
 use mathlib.Core.List.{List}
 use mathlib.Core.Option.{some}
 use lib.Dec.{lit<}
-use Rattle.rl_spec.specs.Image.{Image, textOf, encode, recordIn, recordsIn, nextAt, endAt, fieldsAt, sectionsIn, imageOf, widthsOf, WellFormed}
+use Rattle.rl_spec.specs.Image.{Image, encode, recordIn, recordsIn, nextAt, endAt, fieldsAt, sectionsIn, imageOf, widthsOf, WellFormed}
 use Rattle.rl_spec.specs.Tree.{ascii}
 use Rattle.rl_spec.specs.Mapped.{Text}
-use Rattle.rl_spec.specs.Functions.{plainFunction, contractFunction}
+use Rattle.rl_spec.specs.Functions.{contractFunction}
 use Rattle.rl_spec.specs.Run.{Value}
 use Rattle.rl_spec.specs.Reading.{runFunction, reading}
 use Rattle.rl_spec.specs.Lower.{lowered}
@@ -16,7 +16,6 @@ use Rattle.rl_theorems.specs.Reading.EncodedAnswers.{well-formed-by}
 use Rattle.rl_examples.specs.LowerExamples.{returns-ok, lowering, decoding, running}
 use Rattle.rl_theorems.specs.Lowering.LowerBodies.{Ensured}
 use Rattle.rl_theorems.specs.Lowering.LowerFrame.{Clean, begins, CleanChecks}
-use Rattle.rl_theorems.specs.Runs.TextRuns.{mapFunction}
 use Rattle.rl_theorems.specs.Lowering.LoweredFunctions.{lowered-reads}
 
 original : WellFormed returns-ok

@@ -1,36 +1,36 @@
 -- Where one function is lowered, all others are as they were: parameters, clauses and bodies, texts by bytes.
 -- Assumes nothing.
-use Prim.Native.Nat.{ℕ, zero, suc, _+_, _%_, _≤_, _<_}
-use mathlib.Core.Path.{_≡_, refl, ap, ap₂, sym, _∙_, subst}
+use Prim.Native.Nat.{ℕ, zero, suc, _+_, _≤_, _<_}
+use mathlib.Core.Path.{_≡_, refl, ap, ap₂, _∙_}
 use mathlib.Core.Logic.{_⊎_, inl, inr}
 use mathlib.Core.Bool.{Bool, true, false, cond}
-use mathlib.Core.List.{List, [], _∷_, _++_, map}
+use mathlib.Core.List.{_∷_, map}
 use mathlib.Core.Option.{Option, none, some, Option·map}
 use native.Mathlib.Omega.{arith}
 use lib.Dec.{eqb}
-use lib.ListN.{length, getD}
+use lib.ListN.{getD}
 use lib.Seq.{getD-set-other}
 use borrow.Author.Tests.{eqb-false, ne-eqb}
 use Rattle.rl_spec.specs.declared.Function as declared
 use Rattle.rl_spec.specs.declared.ParamRefinement.the-variants.{Unrefined, Refined}
 use Rattle.rl_spec.specs.declared.Section.the-variants.{Texts, Expressions, Parameters, Clauses, Functions}
-use Rattle.rl_spec.specs.Image.{Field, Rec, Image, recordsOf, sizeOf, noRecord, recordOf, fieldOf, first, second, textOf, SortFits, OperandFits, WellFormed}
-use Rattle.rl_spec.specs.Tree.{identifier, binary, number, exprTree, ascii}
+use Rattle.rl_spec.specs.Image.{Field, Rec, Image, recordsOf, sizeOf, noRecord, recordOf, fieldOf, textOf, SortFits, OperandFits, WellFormed}
+use Rattle.rl_spec.specs.Tree.{number, exprTree}
 use Rattle.rl_spec.specs.Statement.{bodyTree}
-use Rattle.rl_spec.specs.Records.{refineOp, refineOperand, refinementBy, paramBy, clauseBy, functionBy, paramAt, clauseAt, functionAt}
+use Rattle.rl_spec.specs.Records.{refineOp, refineOperand, paramBy, clauseBy, functionBy, paramAt, clauseAt, functionAt}
 use Rattle.rl_spec.specs.Ranges.{interval, upFrom, numbersIn}
-use Rattle.rl_spec.specs.Contracts.{RefineOperand, integer, str, bool, param, ParamRefinement, Param, operandOf, refinementOf, paramOf, clauseOf, contractsOf, messageNode}
+use Rattle.rl_spec.specs.Contracts.{RefineOperand, integer, str, bool, param, ParamRefinement, operandOf, refinementOf, paramOf, clauseOf, contractsOf, messageNode}
 use Rattle.rl_spec.specs.Mapped.{Text, mapExpr, mapBody, mapOperand, mapRefinement, mapParam, mapClause, mapContracts}
 use Rattle.rl_spec.specs.Functions.{contracted, contractFunction}
-use Rattle.rl_spec.specs.Reading.{Check, Function}
+use Rattle.rl_spec.specs.Reading.{Function}
 use Rattle.rl_spec.specs.Make.{Context}
-use Rattle.rl_spec.specs.Lower.{newBody, start, withBody, lowered}
+use Rattle.rl_spec.specs.Lower.{start, withBody, lowered}
 use Rattle.rl_images.specs.Lowering.Grows.{eight-sections, records-own, records-other, text-kept}
 use Rattle.rl_images.specs.Lowering.GrowsTo.{Later, good-is}
 use Rattle.rl_theorems.specs.Trees.Denotes.{Says, keep-holds, keep}
 use Rattle.rl_theorems.specs.Trees.DenotedTrees.{tree-of, body-of}
 use Rattle.rl_theorems.specs.Trees.DenotingExpressions.{few, text-says}
-use Rattle.rl_theorems.specs.Lowering.Guarded.{Lines, keep-lines}
+use Rattle.rl_theorems.specs.Lowering.Guarded.{keep-lines}
 use Rattle.rl_theorems.specs.Trees.SameTrees.{expr-same, body-same, text-same}
 use Rattle.rl_images.specs.Images.FunctionFields.{ClauseFits, clause-fits, ParameterFits, parameter-fits, name-inside, function-fits}
 use Rattle.rl_theorems.specs.Trees.FunctionTrees.{expression-is, body-stands}

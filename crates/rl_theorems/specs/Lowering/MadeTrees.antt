@@ -1,24 +1,22 @@
 -- What is made stands for what is meant: texts, lists, expressions and statements.
 -- Assumes nothing.
-use Prim.Native.Nat.{ℕ, _<_}
+use Prim.Native.Nat.{ℕ}
 use mathlib.Core.Path.{_≡_, refl, ap, ap₂, sym, _∙_}
 use mathlib.Core.List.{List, [], _∷_, _++_, map, append-assoc}
 use native.Mathlib.Omega.{arith}
 use lib.ListN.{length, getD, take, length-append, length-map}
 use lib.Seq.{take-length, getD-append-seam, drop-append-seam}
-use Rattle.rl_spec.specs.declared.Section.{Section}
-use Rattle.rl_spec.specs.declared.Section.the-variants.{Texts, Lists, Expressions, Statements, Parameters, Clauses, Functions, Calls}
-use Rattle.rl_spec.specs.Schema.{limits}
+use Rattle.rl_spec.specs.declared.Section.the-variants.{Texts, Lists, Expressions, Statements}
 use Rattle.rl_spec.specs.Image.{Field, num, pair, Rec, Image, recordsOf, sizeOf, noRecord, recordOf, fieldOf, first}
 use Rattle.rl_spec.specs.Tree.{Expr}
 use Rattle.rl_spec.specs.Ranges.{upFrom}
 use Rattle.rl_spec.specs.Mapped.{Text}
-use Rattle.rl_spec.specs.Make.{Context, withBytes, most, append, made, newText, newList, stmt}
+use Rattle.rl_spec.specs.Make.{Context, withBytes, made, newText, newList, stmt}
 use Rattle.rl_spec.specs.Lower.{expr}
 use Rattle.rl_spec.specs.Statement.{Item}
 use Rattle.rl_images.specs.Lowering.Gives.{weaker}
-use Rattle.rl_images.specs.Lowering.Grows.{Eight, records-own, Growing, appended, Appended, textRecords, withText, listRecords}
-use Rattle.rl_images.specs.Lowering.GrowsTo.{GrowsTo, _▹_, append-good, text-good, list-good}
+use Rattle.rl_images.specs.Lowering.Grows.{Eight, records-own, appended, textRecords, withText, listRecords}
+use Rattle.rl_images.specs.Lowering.GrowsTo.{GrowsTo, _▹_, text-good, list-good}
 use Rattle.rl_images.specs.Lowering.NewRecords.{record-ok}
 use Rattle.rl_theorems.specs.Trees.Denotes.{Says, Holds, IsExpr, stands, Reads, keep-reads, IsLine, standsLine, ReadsLine, keep-reads-line}
 

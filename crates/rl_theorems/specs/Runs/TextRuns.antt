@@ -8,7 +8,7 @@ use mathlib.Core.Option.{Option, none, some, Option·map}
 use Rattle.rl_spec.specs.Tree.{Expr}
 use Rattle.rl_spec.specs.Statement.{Stmt, declaration, expression, return, returnAlone, conditional, while, loop, break, continue, otherStatement, Body, nil, _▸_, Branch, branch, Else, noElse, elseBranch, elseConditional}
 use Rattle.rl_spec.specs.Mapped.{mapValue, mapOutcome, mapExpr, mapStmt, mapBody, mapBranch, mapElse}
-use Rattle.rl_spec.specs.Run.{nothing, Value, plain, ok, err, named, hidden, Outcome, returned, stopped, fault, Result, got, ended, ending, Run, give, bind, eval}
+use Rattle.rl_spec.specs.Run.{nothing, Value, plain, ok, err, named, hidden, Outcome, returned, stopped, fault, Result, got, ended, ending, Run, give, eval}
 use Rattle.rl_spec.specs.Reading.{Check, Function, Mode, plainly, checked, modeOf, bare, onlyReturned, withReturn, bodyUnder, Flow, onward, breaks, continues, followed, followedTop, again, turns, repeat, loopTurn, when, unless, bindAll, content, subject, violated, check, checks, checkedReturn, returning, returningNull, taken, whileTurn, stmt, body, branchOr, orElse, lastOr, top, entering, runFunction, reading}
 use Rattle.rl_theorems.specs.Runs.Texts.{mapResult, Alike, same, then, gives, halts, ticks, charges, binds, scopes, truths, plainOfs, evals}
 

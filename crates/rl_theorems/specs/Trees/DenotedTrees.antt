@@ -17,9 +17,8 @@ use Rattle.rl_spec.specs.Image.{Field, num, Image, first, second, entryOf, text
 use Rattle.rl_spec.specs.Values.{ConstVal, int, str}
 use Rattle.rl_spec.specs.Folded.{foldedOf}
 use Rattle.rl_spec.specs.Tree.{Expr, literal, identifier, unary, binary, grouping, assign, okLiteral, errLiteral, isErr, resultUnwrap, other, ascii, below, isResPath, callForm, formBy, treeBy, exprTree}
-use Rattle.rl_spec.specs.Statement.{declaration, expression, return, returnAlone, conditional, while, loop, break, continue, otherStatement, Body, nil, _▸_, Branch, branch, Else, noElse, elseBranch, elseConditional, Item, aStatement, aBranch, asStatement, asBranch, asElse, bodyFrom, bodyBy, conditionBy, elseBy, statementBy, itemBy, itemTree, bodyTree}
-use Rattle.rl_spec.specs.Ranges.{interval}
-use Rattle.rl_spec.specs.Ranges.{upFrom}
+use Rattle.rl_spec.specs.Statement.{declaration, expression, return, conditional, while, loop, otherStatement, Body, _▸_, branch, Else, Item, aStatement, aBranch, asStatement, asBranch, asElse, bodyFrom, bodyBy, conditionBy, elseBy, statementBy, itemBy, itemTree, bodyTree}
+use Rattle.rl_spec.specs.Ranges.{interval, upFrom}
 use Rattle.rl_spec.specs.Mapped.{Text, mapConst, mapExpr, mapStmt, mapBody, mapElse, mapItem}
 use Rattle.rl_spec.specs.Make.{made}
 use Rattle.rl_laws.specs.Descend.{tree-is, item-is, below-earlier, under-earlier}

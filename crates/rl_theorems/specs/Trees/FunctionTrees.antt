@@ -3,24 +3,20 @@
 use Prim.Native.Nat.{ℕ, zero, suc, _+_, _≤_, _<_}
 use mathlib.Core.Path.{_≡_, refl, sym, subst}
 use mathlib.Core.Logic.{_⊎_, inl, inr}
-use mathlib.Core.List.{List, map}
+use mathlib.Core.List.{map}
 use mathlib.Core.Option.{Option·map}
 use native.Mathlib.Omega.{arith}
-use lib.ListN.{length}
 use borrow.Author.Tests.{ne-eqb}
-use Rattle.rl_spec.specs.declared.Section.the-variants.{Texts, Lists, Expressions, Parameters, Clauses, Functions}
+use Rattle.rl_spec.specs.declared.Section.the-variants.{Expressions, Clauses, Functions}
 use Rattle.rl_spec.specs.declared.Target.the-variants.{Statement}
-use Rattle.rl_spec.specs.Schema.{schema, sortOf, fieldsIn, fieldsOf}
-use Rattle.rl_spec.specs.Image.{Field, Rec, Image, sizeOf, recordOf, fieldOf, first, second, entryOf, textOf, Entries, RecordFits, WellFormed}
-use Rattle.rl_spec.specs.Tree.{number, exprTree}
+use Rattle.rl_spec.specs.Image.{Image, sizeOf, recordOf, fieldOf, first, second, entryOf, textOf, Entries, WellFormed}
+use Rattle.rl_spec.specs.Tree.{exprTree}
 use Rattle.rl_spec.specs.Statement.{Body, nil, _▸_, bodyTree, asStatement}
-use Rattle.rl_spec.specs.Ranges.{interval}
-use Rattle.rl_spec.specs.Records.{paramAt, clauseAt}
-use Rattle.rl_spec.specs.Ranges.{upFrom}
+use Rattle.rl_spec.specs.Ranges.{interval, upFrom}
+use Rattle.rl_spec.specs.Records.{clauseAt}
 use Rattle.rl_spec.specs.Contracts.{clauseOf, messageNode}
 use Rattle.rl_spec.specs.Mapped.{Text, mapExpr, mapBody, mapClause}
 use Rattle.rl_spec.specs.Functions.{messageOr, clauseCheck}
-use Rattle.rl_spec.specs.Make.{made}
 use Rattle.rl_images.specs.Images.FunctionFields.{clause-fits, function-fits}
 use Rattle.rl_theorems.specs.Trees.Denotes.{IsExpr, noRows, aRow}
 use Rattle.rl_theorems.specs.Trees.DenotedTrees.{tree-of, body-of}

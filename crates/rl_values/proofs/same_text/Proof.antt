@@ -1,8 +1,8 @@
 use borrow.Author.Needs.{needs}
 use Rattle.rl_spec.specs.Values.{sameText}
 use lib.ListN.{length, drop}
-use mathlib.Core.Path.{_≡_, refl}
-use Prim.Native.Nat.{_-_, _+_, _≤_}
+use mathlib.Core.Path.{_≡_}
+use Prim.Native.Nat.{_-_, _≤_}
 use Rattle.rl_values.proofs.same_text.Statement.{statement}
 use Rattle.rl_values.proofs.same_text.Tie as tie
 use Rattle.rl_values.proofs.Laws.{same-short, same-end, same-apart, same-more}

@@ -34,9 +34,8 @@ use Rattle.rl_statements.proofs.cycle.+branch+list+otherwise+statement.
 use Rattle.rl_statements.proofs.cycle.+branch+list+otherwise+statement.Tie.{close}
 use Rattle.rl_spec.specs.Found.{imageFound}
 use Rattle.rl_statements.specs.Lists.{Listing, fuel}
-use Rattle.rl_statements.proofs.BindingLaws.{Sought}
+use Rattle.rl_statements.proofs.BindingLaws.{Sought, seek-begins, seek-hit, seek-miss}
 use borrow.Author.Needs.{needs}
-use Rattle.rl_statements.proofs.BindingLaws.{seek-begins, seek-hit, seek-miss}
 use Rattle.rl_statements.proofs.Falls.{falls-lighter, falls-paid, falls-compound, falls-pushed, falls-entered, falls-given}
 use Rattle.rl_statements.proofs.ListLaws.{list-over, list-spent, list-next, list-tested, list-skipped, list-compound, visit-spent, visit-node, push-frame, push-never, give-none, give-frame, name-found, name-missing, name-stored, name-bound, name-over, compound-below}
 use Rattle.rl_statements.proofs.TurnLaws.{list-begins, list-finished, turns-spent, turns-again}

@@ -1,4 +1,4 @@
-use Prim.Native.Nat.{_+_, _-_, _*_, _≤_}
+use Prim.Native.Nat.{_+_, _-_, _*_, _≤_, ℕ, _<_}
 use mathlib.Core.Path.{_≡_, refl, _∙_}
 use mathlib.Core.Logic.{inl, inr}
 use native.Mathlib.Omega.{arith}
@@ -13,7 +13,6 @@ use Rattle.rl_guards.specs.Guards.{clausesIn}
 use Rattle.rl_transform.specs.Transforms.{walkBelow, Ready, ArmsIn}
 use Rattle.rl_transform.proofs.Loops.{Flat, flat-none, flat-more, flat-all, Each, each-none, each-more, each-all}
 use Rattle.rl_transform.proofs.Steps.{more-walk, below-stopped, below-done, statement-full, statement-return, statement-alone, statement-conditional, statement-match, statement-loop, statement-kept, field-low, flag-low, place-fits, next-fits, body-done, branch-none, branch-body, branch-list, branch-kept, branch-earlier, else-earlier, conditional-done, arm-made, arms-in, match-done, kind-here, loop-list}
-use Prim.Native.Nat.{ℕ, _<_}
 use borrow.Fn.Kinds.{In}
 use borrow.Fn.PlainCycle.{Measures, is, falls, and}
 use Rattle.rl_transform.proofs.cycle.transform_arms.Reads as transform-arms
