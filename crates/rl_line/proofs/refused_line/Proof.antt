@@ -1,8 +1,8 @@
 use borrow.Author.Needs.{needs}
 use Rattle.rl_spec.specs.Tree.{ascii}
-use Rattle.rl_report.proofs.LineLaws.{puts-refused}
-use Rattle.rl_report.proofs.line.refused_line.Statement.{statement}
-use Rattle.rl_report.proofs.line.refused_line.Tie as tie
+use Rattle.rl_line.proofs.LineLaws.{puts-refused}
+use Rattle.rl_line.proofs.refused_line.Statement.{statement}
+use Rattle.rl_line.proofs.refused_line.Tie as tie
 
 slice-aggregate-put-text : tie.Need-slice-aggregate-put-text
 slice-aggregate-put-text c = search needs

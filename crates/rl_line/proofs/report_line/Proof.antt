@@ -1,7 +1,7 @@
 use borrow.Author.Needs.{needs}
-use Rattle.rl_report.proofs.LineLaws.{puts-report}
-use Rattle.rl_report.proofs.line.report_line.Statement.{statement}
-use Rattle.rl_report.proofs.line.report_line.Tie as tie
+use Rattle.rl_line.proofs.LineLaws.{puts-report}
+use Rattle.rl_line.proofs.report_line.Statement.{statement}
+use Rattle.rl_line.proofs.report_line.Tie as tie
 
 default-text-requires : tie.Need-default-text-requires
 default-text-requires c κs = search needs

@@ -1,9 +1,9 @@
 use borrow.Author.Needs.{needs}
 use Rattle.rl_spec.specs.Tree.{ascii}
 use Rattle.rl_spec.specs.Message.{opening}
-use Rattle.rl_report.proofs.LineLaws.{puts-line}
-use Rattle.rl_report.proofs.line.put_line.Statement.{statement}
-use Rattle.rl_report.proofs.line.put_line.Tie as tie
+use Rattle.rl_line.proofs.LineLaws.{puts-line}
+use Rattle.rl_line.proofs.put_line.Statement.{statement}
+use Rattle.rl_line.proofs.put_line.Tie as tie
 
 put-number-requires : tie.Need-put-number-requires
 put-number-requires c κs = search needs

@@ -16,7 +16,7 @@ use Rattle.rl_spec.specs.Tree.{ascii}
 use Rattle.rl_spec.specs.Message.{decimal, opening, defaultText, ownText, orDefault, messageBy}
 use Rattle.rl_text_out.specs.Put.{withText, afterText}
 use Rattle.rl_text_out.proofs.Joined.{after-after, with-with, room-holds}
-use Rattle.rl_report.specs.Line.{refusedLine, lineWith, lineOf}
+use Rattle.rl_line.specs.Line.{refusedLine, lineWith, lineOf}
 
 -- ---- a text after another
 
