@@ -1,19 +1,15 @@
 -- One law for each way out of the functions for C and Rust.
 -- Assumes nothing.
-use Prim.Native.Nat.{ℕ, zero, suc, _+_, _-_, _*_, _/_, _≤_, _<_}
+use Prim.Native.Nat.{ℕ, _-_, _/_, _≤_, _<_}
 use mathlib.Core.Path.{_≡_, refl, sym, ap, subst, _∙_}
 use mathlib.Core.Bool.{Bool, true, false, cond}
 use mathlib.Core.List.{List, [], _∷_}
 use native.Mathlib.Omega.{arith}
 use lib.Dec.{eqb, ltb}
-use lib.ListN.{length, set, replicate}
+use lib.ListN.{length, replicate}
 use borrow.Author.Tests.{lt-ltb, le-ltb}
-use mir.Val.{Fits}
-use mir.Syntax.{w64}
-use Rattle.rl_spec.specs.declared.ArenaNo.{ArenaNo}
-use Rattle.rl_spec.specs.declared.Counts.{Counts}
 use Rattle.rl_spec.specs.declared.Cause.{Cause}
-use Rattle.rl_spec.specs.declared.Cause.the-variants.{ImageTooLong, WorkTooShort, BytesEnd, WrongKind, CountOverLimit, BadText, BadValue, BadReference, TooHigh, BytesLeft, OtherArena, NoSuchNode, NoSuchCall, ReportsTooShort, NoSuchFunction, HeightOverLimit, OutputTooShort, LimitPassed, WrongValues, NoSuchText, BudgetOverLimit}
+use Rattle.rl_spec.specs.declared.Cause.the-variants.{OtherArena, NoSuchNode, NoSuchCall, ReportsTooShort}
 use Rattle.rl_spec.specs.declared.Answer.{Answer}
 use Rattle.rl_spec.specs.declared.Answer.the-variants.{Accepted, Refused}
 use Rattle.rl_spec.specs.declared.FoldAnswer.{FoldAnswer}
@@ -22,57 +18,32 @@ use Rattle.rl_spec.specs.declared.Folded.{Folded}
 use Rattle.rl_spec.specs.declared.Id.{Id}
 use Rattle.rl_spec.specs.declared.ProveAnswer.{ProveAnswer}
 use Rattle.rl_spec.specs.declared.ProveAnswer.the-variants as prove
-use Rattle.rl_spec.specs.Read.{numberOf, packed, answerOf}
+use Rattle.rl_spec.specs.Read.{numberOf, placeIn, packed, answerOf}
 use Rattle.rl_spec.specs.Fold.{constEval, foldBy, foldOf, foldNumber, workUnless}
 use Rattle.rl_spec.specs.Prove.{callEntries, allEntries, proveFrom, proveOf, proveAllFrom, proveAllOf}
 use Rattle.rl_spec.specs.Image.{textOf, imageOf}
 use Rattle.rl_spec.specs.Folded.{asFolded}
 use Rattle.rl_spec.specs.Tree.{exprTree}
 use Rattle.rl_spec.specs.Words.{sortWordOf, payloadWordOf}
-use Rattle.rl_abi.specs.Boundary.{above, foldAnswer, foldValue, foldWork, provePacked, provedPlace}
 use Rattle.rl_images.specs.Reading.Places.{place-small}
-
-number-small : (q : Cause) → numberOf q ≤ 21
-number-small ImageTooLong = omega arith
-number-small WorkTooShort = omega arith
-number-small BytesEnd = omega arith
-number-small WrongKind = omega arith
-number-small CountOverLimit = omega arith
-number-small BadText = omega arith
-number-small BadValue = omega arith
-number-small BadReference = omega arith
-number-small TooHigh = omega arith
-number-small BytesLeft = omega arith
-number-small OtherArena = omega arith
-number-small NoSuchNode = omega arith
-number-small NoSuchCall = omega arith
-number-small ReportsTooShort = omega arith
-number-small NoSuchFunction = omega arith
-number-small HeightOverLimit = omega arith
-number-small OutputTooShort = omega arith
-number-small LimitPassed = omega arith
-number-small WrongValues = omega arith
-number-small NoSuchText = omega arith
-number-small BudgetOverLimit = omega arith
-
-module _ (q : Cause) (n : ℕ) (e : n ≡ numberOf q) where
-  pub high-fits : Fits w64 (n * 4294967296)
-  high-fits = omega (arith, number-small q)
-
-  pub both-fit : (p : ℕ) → p ≤ 65535 → Fits w64 (n * 4294967296 + p)
-  both-fit p h = omega (arith, number-small q)
+use Rattle.rl_boundary.specs.Answers.{above, provePacked, provedPlace}
+use Rattle.rl_abi.specs.Boundary.{foldAnswer, foldValue, foldWork}
 
 -- ---- reading
 
+read-place : (s : List ℕ) (k : ℕ) → placeIn (answerOf s k) ≤ 65535
+read-place s k = go (answerOf s k) refl
+  where
+    go : (a : Answer) → answerOf s k ≡ a → placeIn a ≤ 65535
+    go (Refused c n) e = place-small s k c n e
+    go (Accepted m c) e = omega arith
+
 module _ (s : List ℕ) (k : ℕ) (a : Answer) (e : a ≡ answerOf s k) where
-  pub read-place : (q : Cause) (p : ℕ) → a ≡ Refused q p → p ≤ 65535
-  read-place q p f = place-small s k q p (sym e ∙ f)
+  pub read-near : placeIn a ≤ 65535
+  read-near = subst (λ (x : Answer). placeIn x ≤ 65535) (sym e) (read-place s k)
 
-  pub read-accepted : (m : ArenaNo) (c : Counts) → a ≡ Accepted m c → 0 ≡ packed (answerOf s k)
-  read-accepted m c f = rw (← e, f) refl
-
-  pub read-refused : (q : Cause) (p r : ℕ) → a ≡ Refused q p → r ≡ above (numberOf q) p → r ≡ packed (answerOf s k)
-  read-refused q p r f g = g ∙ rw (← e, f) refl
+  pub read-packed : (r : ℕ) → r ≡ packed a → r ≡ packed (answerOf s k)
+  read-packed r g = g ∙ ap packed e
 
 -- ---- folding
 
@@ -133,12 +104,6 @@ module _ (s : List ℕ) (k : ℕ) (id : Id) (room : ℕ) where
       unfolding foldValue
       fold-found-value l g = rw (le-ltb room 2 h, ← e, f) g
 
--- the two words of a value, before zeros
-pub put-words : (n : ℕ) (l : List ℕ) (v : Folded) (a b : ℕ) → 2 ≤ n → l ≡ replicate n 0 → a ≡ sortWordOf v → b ≡ payloadWordOf v → set (set l 0 a) 1 b ≡ sortWordOf v ∷ payloadWordOf v ∷ replicate (n - 2) 0
-put-words zero l v a b h z e f = absurd (omega arith)
-put-words (suc zero) l v a b h z e f = absurd (omega arith)
-put-words (suc (suc n)) l v a b h z e f = let m : suc (suc n) - 2 ≡ n = omega arith in rw (z, e, f, m) refl
-
 -- ---- proving
 
 prove-place : (s : List ℕ) (k call room : ℕ) → provedPlace (proveOf s k call room) ≤ 65535
@@ -179,10 +144,3 @@ module _ (s : List ℕ) (k room : ℕ) (a : ProveAnswer) (e : a ≡ proveAllOf s
 
   pub all-packed : (r : ℕ) → r ≡ provePacked a → r ≡ provePacked (proveAllOf s k room)
   all-packed r g = g ∙ ap provePacked e
-
-module _ (a : ProveAnswer) (q : Cause) (p : ℕ) (f : a ≡ prove.Refused q p) where
-  pub refused-near : provedPlace a ≤ 65535 → p ≤ 65535
-  refused-near h = rw f at h
-
-  pub refused-packed : (r : ℕ) → r ≡ above (numberOf q) p → r ≡ provePacked a
-  refused-packed r g = rw f g

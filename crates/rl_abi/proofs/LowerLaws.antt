@@ -9,16 +9,14 @@ use native.Mathlib.Omega.{arith}
 use lib.Dec.{ltb}
 use Rattle.rl_spec.specs.declared.Answer.{Answer}
 use Rattle.rl_spec.specs.declared.Answer.the-variants.{Accepted, Refused}
-use Rattle.rl_spec.specs.declared.Cause.{Cause}
 use Rattle.rl_spec.specs.declared.Cause.the-variants.{NoSuchFunction, HeightOverLimit, OutputTooShort}
 use Rattle.rl_spec.specs.declared.LowerAnswer.{LowerAnswer}
-use Rattle.rl_spec.specs.declared.LowerAnswer.the-variants as lower
-use Rattle.rl_spec.specs.Read.{numberOf, answerOf}
+use Rattle.rl_spec.specs.Read.{answerOf}
 use Rattle.rl_spec.specs.Image.{Image, imageOf}
 use Rattle.rl_spec.specs.Lower.{lowered}
 use Rattle.rl_spec.specs.Lowerer.{refused, tooTall, orLimit, lowerBy, lowerOf, lowerAnswer}
 use Rattle.rl_images.specs.Reading.Places.{place-small}
-use Rattle.rl_abi.specs.Boundary.{above, lowerPacked, loweredPlace}
+use Rattle.rl_boundary.specs.Answers.{lowerPacked, loweredPlace}
 
 lower-place : (s : List ℕ) (k f room : ℕ) → loweredPlace (lowerAnswer (lowerOf s k f room)) ≤ 65535
 unfolding lowerOf
@@ -45,10 +43,3 @@ module _ (s : List ℕ) (k f room : ℕ) (a : LowerAnswer) (e : a ≡ lowerAnswe
 
   pub lower-packed : (r : ℕ) → r ≡ lowerPacked a → r ≡ lowerPacked (lowerAnswer (lowerOf s k f room))
   lower-packed r g = g ∙ ap lowerPacked e
-
-module _ (a : LowerAnswer) (q : Cause) (p : ℕ) (f : a ≡ lower.Refused q p) where
-  pub lowered-near : loweredPlace a ≤ 65535 → p ≤ 65535
-  lowered-near h = rw f at h
-
-  pub lowered-packed : (r : ℕ) → r ≡ above (numberOf q) p → r ≡ lowerPacked a
-  lowered-packed r g = rw f g

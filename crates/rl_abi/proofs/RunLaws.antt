@@ -20,16 +20,10 @@ use Rattle.rl_spec.specs.Image.{imageOf}
 use Rattle.rl_spec.specs.Fold.{workUnless}
 use Rattle.rl_spec.specs.Records.{functionAt}
 use Rattle.rl_spec.specs.Runner.{isFor, allHave, given, ranIn, runBy, runOf, runNumber}
-use Rattle.rl_abi.specs.Boundary.{above, areValues, argumentsOf, outcomeWords, isBadCall, runAnswer, runOutcome, runWork}
+use Rattle.rl_boundary.specs.Answers.{above}
+use Rattle.rl_boundary.specs.Values.{areValues, argumentsOf, outcomeWords, isBadCall}
+use Rattle.rl_abi.specs.Boundary.{runAnswer, runOutcome, runWork}
 use Rattle.rl_images.specs.Reading.Places.{place-small}
-
--- ---- which calls are bad
-
-pub bad-values : (words : List ℕ) (room : ℕ) (b : Bool) → b ≡ areValues words → b ≡ false → true ≡ isBadCall words room
-bad-values words room b e f = sym (ap (λ x. not x || ltb room 4) (sym e ∙ f))
-
-pub short-outcome : (words : List ℕ) (room : ℕ) (b : Bool) → b ≡ areValues words → b ≡ true → ltb room 4 ≡ isBadCall words room
-short-outcome words room b e f = sym (ap (λ x. not x || ltb room 4) (sym e ∙ f))
 
 or-false : (b c : Bool) → (b || c) ≡ false → c ≡ false
 or-false true c e = absurd (subst IsTrue e tt)

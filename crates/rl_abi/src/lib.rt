@@ -1,41 +1,27 @@
 // The functions that C and Rust call. include/rl_contracts.h declares them for C.
-mod values;
-
-use crate::values::are_values;
-use crate::values::arguments_of;
-use crate::values::put_outcome;
+use rl_boundary::arguments_of;
+use rl_boundary::is_bad_call;
+use rl_boundary::pack;
+use rl_boundary::pack_lowered;
+use rl_boundary::pack_proved;
+use rl_boundary::pack_read;
+use rl_boundary::put_outcome;
+use rl_boundary::put_value;
 use rl_bytes::clear;
 use rl_memory::clear as clear_words;
-use rl_numbers::number_of;
-use rl_spec::Answer;
 use rl_spec::ArenaNo;
-use rl_spec::Cause;
 use rl_spec::FoldAnswer;
-use rl_spec::Folded;
 use rl_spec::Id;
-use rl_spec::LowerAnswer;
 use rl_spec::NodeNo;
-use rl_spec::ProveAnswer;
 use rl_spec::RunAnswer;
-use rl_words::payload_word;
-use rl_words::sort_word;
 ghost use mathlib.Core.Path.{_≡_};
-ghost use mathlib.Core.List.{_∷_};
-ghost use Prim.Native.Nat.{_-_, _≤_};
-ghost use lib.ListN.{length, replicate};
-ghost use Rattle.rl_spec.specs.Read.{numberOf, packed, answerOf, workOf};
+ghost use lib.ListN.{length};
+ghost use Rattle.rl_spec.specs.Read.{packed, answerOf, workOf};
 ghost use Rattle.rl_spec.specs.Fold.{workUnless};
 ghost use Rattle.rl_spec.specs.Prove.{proveOf, reportsOf, proveAllOf, allReportsOf, proveNumber};
 ghost use Rattle.rl_spec.specs.Lowerer.{lowerOf, lowerAnswer, lowerNumber, lowerOut};
-ghost use Rattle.rl_spec.specs.Words.{sortWordOf, payloadWordOf};
-ghost use Rattle.rl_abi.specs.Boundary.{above, idOf, foldAnswer, foldValue, foldWork, provePacked, provedPlace, isBadCall, runAnswer, runOutcome, runWork, lowerPacked, loweredPlace};
-
-fn pack(cause: Cause, place: usize) -> u64
-    requires { ⌜ place ≤ 65535 ⌝ }
-    ensures { λ r. ⌜ r ≡ above (numberOf cause) place ⌝ }
-{
-    number_of(cause) * 4294967296 + (place as u64)
-}
+ghost use Rattle.rl_boundary.specs.Answers.{provePacked, lowerPacked};
+ghost use Rattle.rl_abi.specs.Boundary.{idOf, foldAnswer, foldValue, foldWork, runAnswer, runOutcome, runWork};
 
 // Reads an image. The high 32 bits are the refusal's number, 0 where the image is accepted, and the low 32 bits its place.
 #[no_mangle]
@@ -43,20 +29,7 @@ pub extern "C" fn rl_read(image: &[u8], work: &mut [u16]) -> u64
     ensures { λ r. ⌜ r ≡ packed (answerOf (now (image .entry)) (length (now (work .entry)))) ⌝ }
     ensures { λ r. ⌜ now (work .exit) ≡ workOf (now (image .entry)) (length (now (work .entry))) ⌝ }
 {
-    let answer = rl_ast::read(image, work);
-    match answer {
-        Answer::Accepted { arena, counts } => 0,
-        Answer::Refused { cause, place } => pack(cause, place),
-    }
-}
-
-fn put_value(value: &mut [u64], v: Folded)
-    requires { ⌜ 2 ≤ length (now value) ⌝ }
-    ensures { λ _. ⌜ now (value .exit) ≡ sortWordOf v ∷ payloadWordOf v ∷ replicate (length (now (value .entry)) - 2) 0 ⌝ }
-{
-    clear_words(value);
-    value[0] = sort_word(v);
-    value[1] = payload_word(v);
+    pack_read(rl_ast::read(image, work))
 }
 
 // Reads an image and folds a node without names. value[0]: 0 none, 1 Int, 2 Float, 3 Str, 4 Bool; value[1]: the i64's or f64's
@@ -95,17 +68,6 @@ pub extern "C" fn rl_fold(
     }
 }
 
-// The number of reports, or a refusal.
-fn pack_proved(answer: ProveAnswer) -> u64
-    requires { ⌜ provedPlace answer ≤ 65535 ⌝ }
-    ensures { λ r. ⌜ r ≡ provePacked answer ⌝ }
-{
-    match answer {
-        ProveAnswer::Proved(n) => n as u64,
-        ProveAnswer::Refused { cause, place } => pack(cause, place),
-    }
-}
-
 // Reads an image and proves a call. The low 32 bits are the number of reports, each four u32: call, span, 0 refinement or 1
 // requires, the parameter's or clause's number in the callee's list.
 #[no_mangle]
@@ -125,16 +87,6 @@ pub extern "C" fn rl_prove_all(image: &[u8], work: &mut [u16], reports: &mut [u3
     ensures { λ r. ⌜ now (work .exit) ≡ workUnless (proveNumber (proveAllOf (now (image .entry)) (length (now (work .entry))) (length (now (reports .entry))))) (now (image .entry)) (length (now (work .entry))) ⌝ }
 {
     pack_proved(rl_checker::prove_all(image, work, reports))
-}
-
-// Whether words are no values, or an outcome is too short.
-fn is_bad_call(values: &[u64], outcome: &[u64]) -> bool
-    ensures { λ r. ⌜ r ≡ isBadCall (now (values .entry)) (length (now (outcome .entry))) ⌝ }
-{
-    if are_values(values) {
-        return outcome.len() < 4;
-    }
-    true
 }
 
 // Reads an image and runs a function on values, two words each, within a budget. outcome[0]: 1 Returned, 2 Stopped, 3 Fault, 4 Spent;
@@ -168,17 +120,6 @@ pub extern "C" fn rl_run(
             put_outcome(outcome, o, steps);
             0
         }
-    }
-}
-
-// The length of the image written, or a refusal.
-fn pack_lowered(answer: LowerAnswer) -> u64
-    requires { ⌜ loweredPlace answer ≤ 65535 ⌝ }
-    ensures { λ r. ⌜ r ≡ lowerPacked answer ⌝ }
-{
-    match answer {
-        LowerAnswer::Lowered(n) => n as u64,
-        LowerAnswer::Refused { cause, place } => pack(cause, place),
     }
 }
 

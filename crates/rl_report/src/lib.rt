@@ -1,7 +1,4 @@
-// The reports of an image's calls as lines of text, and those lines on standard output.
-mod line;
+// The reports of an image's calls as lines of text on standard output.
 mod print;
 
-pub use line::refused_line;
-pub use line::report_line;
 pub use print::print_reports;

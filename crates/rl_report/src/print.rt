@@ -1,10 +1,10 @@
 // Writing the lines of an image's reports, in the order of its calls.
-use crate::line::refused_line;
-use crate::line::report_line;
 use libc::STDOUT_FILENO;
 use rl_ast::read_starts;
 use rl_bytes::part;
 use rl_classes::text_classes;
+use rl_line::refused_line;
+use rl_line::report_line;
 use rl_prover::Callee;
 use rl_prover::find_callee;
 use rl_prover::prove_call;

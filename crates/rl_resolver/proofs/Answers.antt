@@ -38,9 +38,9 @@ use Rattle.rl_images.specs.Reading.Refusals.{zeros-unless, refused-work}
 use Rattle.rl_images.specs.Reading.Starts.{sizes-are-counts}
 use Rattle.rl_assemble.specs.Pieces.{Source}
 use Rattle.rl_assemble.proofs.Accepted.{accepted-source}
-use Rattle.rl_resolver.specs.declared.checks.Admission.{Admission}
-use Rattle.rl_resolver.specs.declared.checks.Admission.the-variants.{Admitted, Refused}
-use Rattle.rl_resolver.specs.Admission.{tallIn, admissionOf, orRefused}
+use Rattle.rl_admission.specs.declared.Admission.{Admission}
+use Rattle.rl_admission.specs.declared.Admission.the-variants.{Admitted, Refused}
+use Rattle.rl_admission.specs.Lowering.{tallIn, admissionOf, orRefused}
 use Rattle.rl_resolver.specs.Written.{Written}
 
 -- ---- what an admission says

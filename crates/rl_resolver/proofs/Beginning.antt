@@ -2,38 +2,30 @@
 -- Assumes nothing.
 use Prim.Native.Nat.{ℕ, _≤_}
 use mathlib.Core.Path.{_≡_, refl, ap, sym, subst}
-use mathlib.Core.List.{List, [], _∷_, _++_, append-nil}
+use mathlib.Core.Bool.{false}
+use mathlib.Core.List.{List, []}
 use native.Mathlib.Omega.{arith}
 use lib.ListN.{length, replicate, length-replicate}
 use Rattle.rl_spec.specs.declared.Counts.{Counts}
 use Rattle.rl_spec.specs.declared.Function.{Function}
 use Rattle.rl_spec.specs.declared.Section.the-variants.{Texts, Lists, Expressions, Statements}
-use Rattle.rl_spec.specs.Schema.{limits, sections}
-use Rattle.rl_spec.specs.Image.{Rec, Image, encodeRecords, WellFormed}
+use Rattle.rl_spec.specs.Schema.{limits}
+use Rattle.rl_spec.specs.Image.{Image, encodeRecords, WellFormed}
 use Rattle.rl_spec.specs.Found.{imageFound}
 use Rattle.rl_spec.specs.Records.{functionAt}
 use Rattle.rl_spec.specs.Lower.{start}
 use Rattle.rl_images.specs.Encoding.ReaderKnows.{counts}
 use Rattle.rl_images.specs.Images.Limits.{size-within}
-use Rattle.rl_context.specs.Additions.{none-new, grown, Counted, Kept, Waiting, Live}
+use Rattle.rl_context.specs.Additions.{none-new, Counted, Kept, Waiting, Live}
 use Rattle.rl_context.specs.declared.Ctx.{Ctx}
 use Rattle.rl_assemble.specs.Pieces.{Source}
 use Rattle.rl_resolver.specs.Begun.{begun}
-use Rattle.rl_resolver.specs.Bodies.{Fresh}
+use Rattle.rl_bodies.specs.Bodies.{Fresh}
+use Rattle.rl_bodies.proofs.Nothing.{grown-none}
 
 pub begun-is : (s : List ℕ) (c : Counts) (f : ℕ) (g : Function) → ((p : List ℕ) → g ≡ functionAt (imageFound s p c) f) →
     (p : List ℕ) → begun c g ≡ begun c (functionAt (imageFound s p c) f)
 begun-is s c f g e p = ap (begun c) (e p)
-
--- an image is one to which nothing was added
-with-nothing : (a : ℕ) (b : List ℕ) (t l e x y z u v : List Rec) →
-    _≡_ {A = Image} (record { arena = a; bytes = b; records = t ∷ l ∷ e ∷ x ∷ y ∷ z ∷ u ∷ v ∷ [] })
-    (record { arena = a; bytes = b ++ []; records = (t ++ []) ∷ (l ++ []) ∷ (e ++ []) ∷ (x ++ []) ∷ y ∷ z ∷ u ∷ v ∷ [] })
-with-nothing a b t l e x y z u v = rw (append-nil b, append-nil t, append-nil l, append-nil e, append-nil x) refl
-
-pub grown-none : (s p : List ℕ) (c : Counts) → imageFound s p c ≡ grown (imageFound s p c) none-new
-unfolding imageFound sections
-grown-none s p c = with-nothing _ _ _ _ _ _ _ _ _ _
 
 module _ (im : Image) (wf : WellFormed im) where
   bytes-within : length (im .bytes) ≤ 16384

@@ -1,9 +1,4 @@
-pub mod Admitting
 pub mod Contracts
 pub mod Beginning
 pub mod Finishing
 pub mod Answers
-pub mod Lasts
-pub mod Ensured
-pub mod Pushing
-pub mod NewBody

@@ -1,4 +1,2 @@
-pub mod Admission
 pub mod Begun
 pub mod Written
-pub mod Bodies

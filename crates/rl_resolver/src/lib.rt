@@ -1,6 +1,4 @@
 // Lowering: reads an image, and turns the contracts of one of its functions into plain guards.
-mod body;
-mod checks;
 mod lowering;
 
 pub use lowering::lower;

@@ -1,9 +1,9 @@
 // Reading, the checks, the lowered image.
-use crate::body::new_body;
-use crate::checks::Admission;
-use crate::checks::admit;
+use rl_admission::Admission;
+use rl_admission::admit_lowering;
 use rl_assemble::assemble;
 use rl_ast::read_starts;
+use rl_bodies::new_body;
 use rl_bytes::clear;
 use rl_context::Ctx;
 use rl_prover::any_refined;
@@ -145,7 +145,7 @@ pub fn lower(image: &[u8], work: &mut [u16], function: u32, out: &mut [u8]) -> L
     match answer {
         Answer::Refused { cause, place } => LowerAnswer::Refused { cause, place },
         Answer::Accepted { arena, counts } => {
-            let check = admit(work, counts, function, out.len());
+            let check = admit_lowering(work, counts, function, out.len());
             match check {
                 Admission::Refused(cause) => {
                     clear(work);

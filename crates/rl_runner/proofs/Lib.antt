@@ -1,5 +1,3 @@
-pub mod Arrays
-pub mod AdmissionLaws
 pub mod BoundLaws
 pub mod EndLaws
 pub mod RunLaws

@@ -32,9 +32,9 @@ use Rattle.rl_images.specs.Images.Limits.{texts-within, all-bytes}
 use Rattle.rl_images.specs.Reading.Refusals.{zeros-unless, refused-work}
 use Rattle.rl_images.specs.Reading.Starts.{sizes-are-counts}
 use Rattle.rl_machine.specs.Machine.{Low}
-use Rattle.rl_runner.specs.declared.admission.Admission.{Admission}
-use Rattle.rl_runner.specs.declared.admission.Admission.the-variants.{Admitted, Refused}
-use Rattle.rl_runner.specs.Admission.{admissionOf, orRefused}
+use Rattle.rl_admission.specs.declared.Admission.{Admission}
+use Rattle.rl_admission.specs.declared.Admission.the-variants.{Admitted, Refused}
+use Rattle.rl_admission.specs.Running.{admissionOf, orRefused}
 
 -- ---- what an admission says
 

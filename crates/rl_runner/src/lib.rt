@@ -1,5 +1,4 @@
 // The runner: reads an image, and runs one of its functions within a budget of steps.
-mod admission;
 mod bound;
 mod running;
 

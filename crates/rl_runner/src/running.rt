@@ -1,7 +1,7 @@
 // Reading, the checks, the run.
-use crate::admission::Admission;
-use crate::admission::admit;
 use crate::bound::bind_all;
+use rl_admission::Admission;
+use rl_admission::admit_run;
 use rl_ast::read_starts;
 use rl_bytes::clear;
 use rl_classes::text_classes;
@@ -100,7 +100,7 @@ pub fn run(
     match answer {
         Answer::Refused { cause, place } => RunAnswer::Refused { cause, place },
         Answer::Accepted { arena, counts } => {
-            let check = admit(image, counts, function, arguments, budget);
+            let check = admit_run(image, counts, function, arguments, budget);
             match check {
                 Admission::Refused(cause) => {
                     clear(work);

@@ -16,8 +16,8 @@ enum-known-answer c = search needs
 enum-known-answer-2 : tie.Need-enum-known-answer-2
 enum-known-answer-2 c = search needs
 
-admit-requires : tie.Need-admit-requires
-admit-requires c κs = search needs
+admit-lowering-requires : tie.Need-admit-lowering-requires
+admit-lowering-requires c κs = search needs
 
 enum-known-check : tie.Need-enum-known-check
 enum-known-check c = search needs
@@ -38,7 +38,7 @@ cast-put-lowered c =
           let read = known .before .before .before .before in
           let cleared = read .before .before .before .before .before in
           let first = cleared .before .before .before .before in
-          admitted-there _ _ _ (length (first .before .args .out .now)) _ (cleared .clear-bytes .ensures) _ (read .read-starts .ensures .0) _ _ (known .answer2 .given .1) (first .shared-slice-known .given) _ (read .read-starts .ensures .1 .0) _ (check .admit .ensures) (told .enum-told .given .1) _ (read .read-starts .ensures .1 .1)
+          admitted-there _ _ _ (length (first .before .args .out .now)) _ (cleared .clear-bytes .ensures) _ (read .read-starts .ensures .0) _ _ (known .answer2 .given .1) (first .shared-slice-known .given) _ (read .read-starts .ensures .1 .0) _ (check .admit-lowering .ensures) (told .enum-told .given .1) _ (read .read-starts .ensures .1 .1)
           ) .1 .0,
       needs,
     )
@@ -51,7 +51,7 @@ put-lowered-requires c κs =
     let read = known .before .before .before .before in
     let cleared = read .before .before .before .before .before in
     let first = cleared .before .before .before .before in
-    admitted-there _ _ _ (length (first .before .args .out .now)) _ (cleared .clear-bytes .ensures) _ (read .read-starts .ensures .0) _ _ (known .answer2 .given .1) (first .shared-slice-known .given) _ (read .read-starts .ensures .1 .0) _ (check .admit .ensures) (told .enum-told .given .1) _ (read .read-starts .ensures .1 .1)
+    admitted-there _ _ _ (length (first .before .args .out .now)) _ (cleared .clear-bytes .ensures) _ (read .read-starts .ensures .0) _ _ (known .answer2 .given .1) (first .shared-slice-known .given) _ (read .read-starts .ensures .1 .0) _ (check .admit-lowering .ensures) (told .enum-told .given .1) _ (read .read-starts .ensures .1 .1)
 
 clear-requires-2 : tie.Need-clear-requires-2
 clear-requires-2 c κs = search needs
@@ -71,7 +71,7 @@ returns c =
     let read = known .before .before .before .before in
     let cleared = read .before .before .before .before .before in
     let first = cleared .before .before .before .before in
-    limit-passed _ _ _ (length (first .before .args .out .now)) _ (cleared .clear-bytes .ensures) _ (read .read-starts .ensures .0) _ _ (known .answer2 .given .1) (first .shared-slice-known .given) _ (read .read-starts .ensures .1 .0) _ (check .admit .ensures) (told .enum-told .given .1) _ (read .read-starts .ensures .1 .1) _ _ (put .put-lowered .ensures) (c .before .before .before .before .if1 .taken) _ _ (read .read-starts .kept .1 .0) (c .before .before .clear2 .ensures)
+    limit-passed _ _ _ (length (first .before .args .out .now)) _ (cleared .clear-bytes .ensures) _ (read .read-starts .ensures .0) _ _ (known .answer2 .given .1) (first .shared-slice-known .given) _ (read .read-starts .ensures .1 .0) _ (check .admit-lowering .ensures) (told .enum-told .given .1) _ (read .read-starts .ensures .1 .1) _ _ (put .put-lowered .ensures) (c .before .before .before .before .if1 .taken) _ _ (read .read-starts .kept .1 .0) (c .before .before .clear2 .ensures)
 
 cast-t37 : tie.Need-cast-t37
 cast-t37 c = search needs
@@ -102,7 +102,7 @@ returns-3 c =
     let read = known .before .before .before .before in
     let cleared = read .before .before .before .before .before in
     let first = cleared .before .before .before .before in
-    refused-by _ _ _ (length (first .before .args .out .now)) _ (cleared .clear-bytes .ensures) _ (read .read-starts .ensures .0) _ _ (known .answer2 .given .1) (first .shared-slice-known .given) _ (read .read-starts .ensures .1 .0) _ (check .admit .ensures) _ (c .before .before .before .before .before .check .given .1) _ _ (read .read-starts .kept .1 .0) (c .before .before .clear .ensures)
+    refused-by _ _ _ (length (first .before .args .out .now)) _ (cleared .clear-bytes .ensures) _ (read .read-starts .ensures .0) _ _ (known .answer2 .given .1) (first .shared-slice-known .given) _ (read .read-starts .ensures .1 .0) _ (check .admit-lowering .ensures) _ (c .before .before .before .before .before .check .given .1) _ _ (read .read-starts .kept .1 .0) (c .before .before .clear .ensures)
 
 same-length-7 : tie.Need-same-length-7
 same-length-7 c = search needs
@@ -119,7 +119,7 @@ returns-4 c =
     let read = known .before .before .before .before in
     let cleared = read .before .before .before .before .before in
     let first = cleared .before .before .before .before in
-    image-made _ _ _ (length (first .before .args .out .now)) _ (cleared .clear-bytes .ensures) _ (read .read-starts .ensures .0) _ _ (known .answer2 .given .1) (first .shared-slice-known .given) _ (read .read-starts .ensures .1 .0) _ (check .admit .ensures) (told .enum-told .given .1) _ (read .read-starts .ensures .1 .1) _ _ (put .put-lowered .ensures) (c .if1 .left) _ (read .read-starts .ensures .1 .0)
+    image-made _ _ _ (length (first .before .args .out .now)) _ (cleared .clear-bytes .ensures) _ (read .read-starts .ensures .0) _ _ (known .answer2 .given .1) (first .shared-slice-known .given) _ (read .read-starts .ensures .1 .0) _ (check .admit-lowering .ensures) (told .enum-told .given .1) _ (read .read-starts .ensures .1 .1) _ _ (put .put-lowered .ensures) (c .if1 .left) _ (read .read-starts .ensures .1 .0)
 
 pub lower-spec : {M : Type 1} → statement M
 lower-spec =
@@ -129,7 +129,7 @@ lower-spec =
     read-starts-requires
     enum-known-answer
     enum-known-answer-2
-    admit-requires
+    admit-lowering-requires
     enum-known-check
     clear-requires
     enum-told

@@ -2,7 +2,7 @@ use Rattle.rl_runner.proofs.bound.bind_all.Statement.{statement}
 use Rattle.rl_runner.proofs.bound.bind_all.Tie as tie
 use borrow.Author.Needs.{needs}
 use Prim.Native.Nat.{_-_}
-use Rattle.rl_runner.proofs.Arrays.{unmapped}
+use Rattle.rl_admission.proofs.Arrays.{unmapped}
 use Rattle.rl_runner.proofs.BoundLaws.{Bound, bound-none, bound-one, bound-all, bound-most}
 
 ruleset laws = (bound-none, bound-one, bound-all, bound-most)

@@ -1,0 +1,12 @@
+// Values, outcomes and answers as the words of the boundary with C and Rust.
+mod answers;
+mod values;
+
+pub use answers::pack;
+pub use answers::pack_lowered;
+pub use answers::pack_proved;
+pub use answers::pack_read;
+pub use values::arguments_of;
+pub use values::is_bad_call;
+pub use values::put_outcome;
+pub use values::put_value;
