@@ -153,3 +153,13 @@ pub fn clear(w: &mut [u16])
         i += 1;
     }
 }
+
+pub fn clear_bytes(out: &mut [u8])
+    ensures { λ _. ⌜ now (out .exit) ≡ replicate (length (now (out .entry))) 0 ⌝ }
+{
+    let mut i = 0;
+    while i < out.len() {
+        out[i] = 0;
+        i += 1;
+    }
+}

@@ -5,6 +5,7 @@ use rl_assemble::assemble;
 use rl_ast::read_starts;
 use rl_bodies::new_body;
 use rl_bytes::clear;
+use rl_bytes::clear_bytes;
 use rl_context::Ctx;
 use rl_prover::any_refined;
 use rl_records::function_at;
@@ -17,7 +18,7 @@ use rl_text_out::put_text;
 ghost use mathlib.Core.Path.{_≡_};
 ghost use mathlib.Core.List.{List};
 ghost use Prim.Native.Nat.{ℕ, _<_, _≤_};
-ghost use lib.ListN.{length, replicate};
+ghost use lib.ListN.{length};
 ghost use Rattle.rl_spec.specs.Fold.{workUnless};
 ghost use Rattle.rl_spec.specs.Found.{imageFound};
 ghost use Rattle.rl_spec.specs.Records.{functionAt};
@@ -26,16 +27,6 @@ ghost use Rattle.rl_spec.specs.Lowerer.{lowerOf, lowerAnswer, lowerNumber, lowe
 ghost use Rattle.rl_assemble.specs.Pieces.{Source};
 ghost use Rattle.rl_resolver.specs.Begun as specs;
 ghost use Rattle.rl_resolver.specs.Written.{Written};
-
-fn clear_bytes(out: &mut [u8])
-    ensures { λ _. ⌜ now (out .exit) ≡ replicate (length (now (out .entry))) 0 ⌝ }
-{
-    let mut i = 0;
-    while i < out.len() {
-        out[i] = 0;
-        i += 1;
-    }
-}
 
 // Requires, ensures, or a refined parameter.
 fn has_contracts(image: &[u8], counts: Counts, function: u16) -> bool

@@ -4,9 +4,9 @@ use Prim.Native.Nat.{ℕ, _-_, _≤_, _<_}
 use lib.ListN.{length, set, replicate, drop, length-set}
 use mathlib.Core.List.{List, _++_}
 use borrow.Author.Fill.{fill-more}
 use Rattle.rl_bytes.proofs.Laws.{filled}
-use Rattle.rl_resolver.proofs.lowering.clear_bytes.Statement.{statement}
-use Rattle.rl_resolver.proofs.lowering.clear_bytes.Tie as tie
+use Rattle.rl_bytes.proofs.clear_bytes.Statement.{statement}
+use Rattle.rl_bytes.proofs.clear_bytes.Tie as tie
 
 abbrev Inv-loop : tie.InvT-loop
 Inv-loop w₀ i₀ w i = (i ≤ length w₀) × ((length w ≡ length w₀) × (w ≡ replicate i 0 ++ drop i w₀))
