@@ -13,6 +13,7 @@ fi
 log=$(mktemp)
 new=$(mktemp -d)
 trap 'rm -rf "$log" "$new" $memory' EXIT
+trap 'exit 1' HUP INT TERM
 began=$(date +%s)
 phase() { echo "seconds: $1 $(($(date +%s) - began))"; began=$(date +%s); }
 
@@ -29,7 +30,7 @@ case "$last" in
 esac
 phase gate
 
-# wrong definitions are refused by the theorems, and what no run shows by the stored cases
+# wrong definitions are refused by the closed examples or the theorems, and what no run shows by the stored cases
 sh tools/definition_edits.sh
 sh tools/shared_condition.sh
 phase definitions

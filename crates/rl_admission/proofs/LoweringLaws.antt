@@ -15,7 +15,7 @@ use Rattle.rl_spec.specs.declared.Cause.the-variants.{NoSuchFunction, HeightOve
 use Rattle.rl_spec.specs.declared.Counts.{Counts}
 use Rattle.rl_spec.specs.Lowerer.{anyOver}
 use Rattle.rl_admission.specs.declared.Admission.the-variants.{Admitted, Refused}
-use Rattle.rl_admission.specs.Lowering.{tallIn, admissionOf}
+use Rattle.rl_admission.specs.Lowering.{tallIn, loweringAdmission}
 
 -- ---- heights from a place on
 
@@ -75,20 +75,20 @@ module _ (w : List ℕ) (c : Counts) where
   tall-statement b e t d g = rw (← e, t, ← g) refl
 
   module _ (f room : ℕ) where
-    pub no-function : c .functions ≤ f → Refused NoSuchFunction ≡ admissionOf w c f room
-    unfolding admissionOf
+    pub no-function : c .functions ≤ f → Refused NoSuchFunction ≡ loweringAdmission w c f room
+    unfolding loweringAdmission
     no-function h = rw (le-ltb f (c .functions) h) refl
 
     module _ (h : f < c .functions) (b : Bool) (e : b ≡ tallIn w c) where
-      pub too-high : b ≡ true → Refused HeightOverLimit ≡ admissionOf w c f room
-      unfolding admissionOf
+      pub too-high : b ≡ true → Refused HeightOverLimit ≡ loweringAdmission w c f room
+      unfolding loweringAdmission
       too-high t = rw (lt-ltb f (c .functions) h, ← e, t) refl
 
       module _ (t : b ≡ false) where
-        pub too-short : room < 65535 → Refused OutputTooShort ≡ admissionOf w c f room
-        unfolding admissionOf
+        pub too-short : room < 65535 → Refused OutputTooShort ≡ loweringAdmission w c f room
+        unfolding loweringAdmission
         too-short r = rw (lt-ltb f (c .functions) h, ← e, t, lt-ltb room 65535 r) refl
 
-        pub all-hold : 65535 ≤ room → Admitted ≡ admissionOf w c f room
-        unfolding admissionOf
+        pub all-hold : 65535 ≤ room → Admitted ≡ loweringAdmission w c f room
+        unfolding loweringAdmission
         all-hold r = rw (lt-ltb f (c .functions) h, ← e, t, le-ltb room 65535 r) refl

@@ -25,7 +25,7 @@ use Rattle.rl_spec.specs.Records.{functionAt}
 use Rattle.rl_spec.specs.Runner.{plainHas, valueHas, allHave, given}
 use Rattle.rl_admission.specs.declared.Admission.{Admission}
 use Rattle.rl_admission.specs.declared.Admission.the-variants.{Admitted, Refused}
-use Rattle.rl_admission.specs.Running.{admissionOf}
+use Rattle.rl_admission.specs.Running.{runAdmission}
 
 -- ---- a value
 
@@ -72,32 +72,32 @@ module _ (c : Counts) (args : Arguments) (i : ℕ) (len : length (args .values) 
 
 module _ (im : Image) (c : Counts) (f : ℕ) (args : Arguments) (budget : ℕ) where
   abbrev Answers : Admission → Type 0
-  Answers r = r ≡ admissionOf im c f args budget
+  Answers r = r ≡ runAdmission im c f args budget
 
   pub no-function : c .functions ≤ f → Answers (Refused NoSuchFunction)
-  unfolding admissionOf
+  unfolding runAdmission
   no-function h = rw (le-ltb f (c .functions) h) refl
 
   module _ (h : f < c .functions) (x : Function) (e : x ≡ functionAt im f) where
     pub wrong-count : (args .count ≡ x .params .count → ⊥) → Answers (Refused WrongValues)
-    unfolding admissionOf
+    unfolding runAdmission
     wrong-count g = rw (lt-ltb f (c .functions) h, ← e, ne-eqb (args .count) (x .params .count) g) refl
 
     module _ (g : args .count ≡ x .params .count) where
       pub over-sixteen : 16 < args .count → Answers (Refused WrongValues)
-      unfolding admissionOf
+      unfolding runAdmission
       over-sixteen k = rw (lt-ltb f (c .functions) h, ← e, eq-eqb (args .count) (x .params .count) g, lt-ltb 16 (args .count) k) refl
 
       module _ (k : args .count ≤ 16) (b : Bool) (d : b ≡ allHave c (given args)) where
         pub no-text : b ≡ false → Answers (Refused NoSuchText)
-        unfolding admissionOf
+        unfolding runAdmission
         no-text t = rw (lt-ltb f (c .functions) h, ← e, eq-eqb (args .count) (x .params .count) g, le-ltb 16 (args .count) k, ← d, t) refl
 
         module _ (t : b ≡ true) where
           pub over-budget : 1000000 < budget → Answers (Refused BudgetOverLimit)
-          unfolding admissionOf
+          unfolding runAdmission
           over-budget l = rw (lt-ltb f (c .functions) h, ← e, eq-eqb (args .count) (x .params .count) g, le-ltb 16 (args .count) k, ← d, t, lt-ltb 1000000 budget l) refl
 
           pub admits : budget ≤ 1000000 → Answers Admitted
-          unfolding admissionOf
+          unfolding runAdmission
           admits l = rw (lt-ltb f (c .functions) h, ← e, eq-eqb (args .count) (x .params .count) g, le-ltb 16 (args .count) k, ← d, t, le-ltb 1000000 budget l) refl

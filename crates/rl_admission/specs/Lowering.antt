@@ -14,11 +14,11 @@ use Rattle.rl_admission.specs.declared.Admission.the-variants.{Admitted,
 unfoldable pub tallIn : List ℕ → Counts → Bool
 tallIn w c = anyOver 64 (take (c .expressions) (drop 0 w)) || anyOver 32 (take (c .statements) (drop (c .expressions) w))
 
-unfoldable pub admissionOf : List ℕ → Counts → ℕ → ℕ → Admission
-admissionOf w c f room =
+unfoldable pub loweringAdmission : List ℕ → Counts → ℕ → ℕ → Admission
+loweringAdmission w c f room =
     cond (not (ltb f (c .functions))) (Refused NoSuchFunction)
     (cond (tallIn w c) (Refused HeightOverLimit) (cond (ltb room 65535) (Refused OutputTooShort) Admitted))
 
-abbrev pub orRefused : Admission → Lowering → Lowering
-orRefused Admitted r = r
-orRefused (Refused cause) r = refused cause 0
+abbrev pub loweringOr : Admission → Lowering → Lowering
+loweringOr Admitted r = r
+loweringOr (Refused cause) r = refused cause 0

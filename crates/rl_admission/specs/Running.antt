@@ -13,13 +13,13 @@ use Rattle.rl_spec.specs.Runner.{isFor, allHave, given}
 use Rattle.rl_admission.specs.declared.Admission.{Admission}
 use Rattle.rl_admission.specs.declared.Admission.the-variants.{Admitted, Refused}
 
-unfoldable pub admissionOf : Image → Counts → ℕ → Arguments → ℕ → Admission
-admissionOf im c f args budget =
+unfoldable pub runAdmission : Image → Counts → ℕ → Arguments → ℕ → Admission
+runAdmission im c f args budget =
     cond (not (ltb f (c .functions))) (Refused NoSuchFunction)
     (cond (not (isFor (args .count) (functionAt im f .params .count))) (Refused WrongValues)
     (cond (not (allHave c (given args))) (Refused NoSuchText)
     (cond (ltb 1000000 budget) (Refused BudgetOverLimit) Admitted)))
 
-abbrev pub orRefused : Admission → RunAnswer → RunAnswer
-orRefused Admitted r = r
-orRefused (Refused cause) r = run.Refused cause 0
+abbrev pub runOr : Admission → RunAnswer → RunAnswer
+runOr Admitted r = r
+runOr (Refused cause) r = run.Refused cause 0

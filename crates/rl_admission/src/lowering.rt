@@ -6,7 +6,7 @@ use rl_spec::Counts;
 ghost use mathlib.Core.Path.{_≡_};
 ghost use lib.ListN.{take, drop};
 ghost use Rattle.rl_spec.specs.Lowerer.{anyOver};
-ghost use Rattle.rl_admission.specs.Lowering.{tallIn, admissionOf};
+ghost use Rattle.rl_admission.specs.Lowering.{tallIn, loweringAdmission};
 
 // Whether one of n heights from a place on is over a limit.
 fn any_over(work: &[u16], from: u16, n: u16, most: u16) -> bool
@@ -37,7 +37,7 @@ fn too_tall(work: &[u16], counts: Counts) -> bool
 
 // The checks in the table's order, of the heights in the work slice and of the room for the image.
 pub fn admit_lowering(work: &[u16], counts: Counts, function: u32, room: usize) -> Admission
-    ensures { λ r. ⌜ r ≡ admissionOf (now (work .entry)) counts function room ⌝ }
+    ensures { λ r. ⌜ r ≡ loweringAdmission (now (work .entry)) counts function room ⌝ }
 {
     let functions = counts.functions as u32;
     if functions <= function {

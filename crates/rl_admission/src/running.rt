@@ -12,7 +12,7 @@ ghost use mathlib.Core.List.{List};
 ghost use Prim.Native.Nat.{ℕ};
 ghost use Rattle.rl_spec.specs.Found.{imageFound};
 ghost use Rattle.rl_spec.specs.Runner.{plainHas, valueHas, given, allHave};
-ghost use Rattle.rl_admission.specs.Running.{admissionOf};
+ghost use Rattle.rl_admission.specs.Running.{runAdmission};
 
 fn plain_has(counts: Counts, p: Plain) -> bool
     ensures { λ r. ⌜ r ≡ plainHas counts p ⌝ }
@@ -66,7 +66,7 @@ pub fn admit_run(
     arguments: Arguments,
     budget: u32,
 ) -> Admission
-    ensures { λ r. ⌜ ((p : List ℕ) → r ≡ admissionOf (imageFound (now (image .entry)) p counts) counts function arguments budget) ⌝ }
+    ensures { λ r. ⌜ ((p : List ℕ) → r ≡ runAdmission (imageFound (now (image .entry)) p counts) counts function arguments budget) ⌝ }
 {
     let functions = counts.functions as u32;
     if functions <= function {

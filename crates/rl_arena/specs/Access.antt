@@ -19,7 +19,7 @@ use Rattle.rl_spec.specs.Read.{answerOf, startsOf}
 use Rattle.rl_spec.specs.Image.{noField, recordOf, fieldOf, fieldsAt, recordIn, imageOf}
 use Rattle.rl_schema.specs.Codes.{codes, table}
 use Rattle.rl_schema.proofs.Rows.{row-codes}
-use Rattle.rl_images.specs.Reading.Starts.{Stands, starts-expression, starts-statement}
+use Rattle.rl_images.specs.Reading.Starts.{StandsAt, starts-expression, starts-statement}
 use Rattle.rl_arena.specs.declared.Lookup.the-variants.{Node, OtherArena, NoSuchNode}
 use Rattle.rl_arena.specs.Find.{isWidth, numberIn, lookup}
 
@@ -40,7 +40,7 @@ module _ (s : List ℕ) (at kind : ℕ) (k : kind ≡ recordIn s at .kind) where
     pub field-of-row : (j : ℕ) → getD (fieldsAt s (codes row) (at + 1)) j noField ≡ fieldOf (recordIn s at) j
     field-of-row j = rw fields-of-row refl
 
-  module _ (o : Section) (i : ℕ) (h : Stands s o i at) where
+  module _ (o : Section) (i : ℕ) (h : StandsAt s o i at) where
     -- THEOREMS: the kind and the fields of the record that stands at a place
     pub kind-of : kind ≡ recordOf (imageOf s) o i .kind
     kind-of = rw (← h .found) k
@@ -53,7 +53,7 @@ module _ (s : List ℕ) (at kind : ℕ) (k : kind ≡ recordIn s at .kind) where
 module _ (s : List ℕ) (k : ℕ) (a : ArenaNo) (c : Counts) (e : answerOf s k ≡ Accepted a c) where
   module _ (i at kind : ℕ) (q : kind ≡ recordIn s at .kind) where
     module _ (l : i < c .expressions) (p : at ≡ getD (startsOf s k) i 0) where
-      expression-stands : Stands s Expressions i at
+      expression-stands : StandsAt s Expressions i at
       expression-stands = rw p (starts-expression s k a c e i l)
 
       -- THEOREMS: the kind and the fields of an expression
@@ -64,7 +64,7 @@ module _ (s : List ℕ) (k : ℕ) (a : ArenaNo) (c : Counts) (e : answerOf s k �
       expression-field rows row f g j = field-of s at kind q Expressions i expression-stands rows row f g j
 
     module _ (l : i < c .statements) (p : at ≡ getD (startsOf s k) (c .expressions + i) 0) where
-      statement-stands : Stands s Statements i at
+      statement-stands : StandsAt s Statements i at
       statement-stands = rw p (starts-statement s k a c e i l)
 
       -- THEOREMS: the same of a statement

@@ -14,7 +14,7 @@ use Rattle.rl_spec.specs.Image.{pair, Rec, Image, recordsOf, sizeOf, recordOf, 
 use Rattle.rl_spec.specs.Found.{parametersAt}
 use Rattle.rl_spec.specs.Lower.{bodied, withBody}
 use Rattle.rl_laws.specs.Tests.{by-eqb}
-use Rattle.rl_images.specs.Encoding.BytesAt.{Stands, length-bytes}
+use Rattle.rl_images.specs.Encoding.BytesAt.{BytesAt, length-bytes}
 use Rattle.rl_images.specs.Encoding.ReaderKnows.{counts}
 use Rattle.rl_images.specs.Encoding.Sections.{placeOf}
 use Rattle.rl_context.specs.declared.Ctx.{Ctx}
@@ -25,7 +25,7 @@ use Rattle.rl_assemble.proofs.Parts.{part-is, ofImage, texts-length, li
 use Rattle.rl_assemble.proofs.Rest.{rest-is, rest-same}
 
 -- a section with its new records
-both-are : {s : List ℕ} {from : ℕ} (rs : List Rec) → Stands s from (encodeRecords rs) → (n : ℕ) → n ≡ length (encodeRecords rs) →
+both-are : {s : List ℕ} {from : ℕ} (rs : List Rec) → BytesAt s from (encodeRecords rs) → (n : ℕ) → n ≡ length (encodeRecords rs) →
     (z : List ℕ) (place m : ℕ) (qs : List Rec) → m ≡ length (encodeRecords qs) → Held place (encodeRecords qs) z →
     both s from n z place m ≡ encodeRecords (rs ++ qs)
 both-are {from = from} rs st n e z place m qs f h =

@@ -13,7 +13,7 @@ use Rattle.rl_spec.specs.Schema.{sections, sortOf, fieldsOf, fieldsIn, schema}
 use Rattle.rl_spec.specs.Fields.{listsAt}
 use Rattle.rl_spec.specs.Image.{Image, recordsOf, sizeOf, noRecord, bytesOf, encodeRecords, encode, widthsOf, WellFormed}
 use Rattle.rl_spec.specs.Found.{parametersAt, functionsAt}
-use Rattle.rl_images.specs.Encoding.BytesAt.{Stands, left, right, moved, piece, length-bytes}
+use Rattle.rl_images.specs.Encoding.BytesAt.{BytesAt, left, right, moved, piece, length-bytes}
 use Rattle.rl_images.specs.Encoding.FieldWidths.{length-records}
 use Rattle.rl_images.specs.Encoding.ReaderKnows.{counts}
 use Rattle.rl_images.specs.Encoding.Header.{records-are}
@@ -23,7 +23,7 @@ use Rattle.rl_assemble.proofs.Laid.{Sections, layout, layoutLength, fiv
 
 -- ---- a piece by its place and its length
 
-module _ {s : List ℕ} {at : ℕ} {x : List ℕ} (st : Stands s at x) where
+module _ {s : List ℕ} {at : ℕ} {x : List ℕ} (st : BytesAt s at x) where
   pub part-is : (from n : ℕ) → from ≡ at → n ≡ length x → part s from n ≡ x
   part-is from n e f =
       ap₂ (λ i k. take k (drop i s)) (e ∙ sym (add-zero at)) f ∙ piece st 0 (length x) (omega arith) ∙ take-length x
@@ -112,47 +112,47 @@ module _ (im : Image) (wf : WellFormed im) where
 
   -- ---- what stands there
 
-  st₀ : Stands (encode im) 0 (layout (im .arena) (im .bytes) (ofImage im))
+  st₀ : BytesAt (encode im) 0 (layout (im .arena) (im .bytes) (ofImage im))
   st₀ = record { before = []; rest = []; whole = whole ∙ sym (append-nil _); place = refl }
 
-  pub front-stands : Stands (encode im) 0 (1 ∷ bytesOf 4 (im .arena))
+  pub front-stands : BytesAt (encode im) 0 (1 ∷ bytesOf 4 (im .arena))
   front-stands = left (1 ∷ bytesOf 4 (im .arena)) _ st₀
 
-  st₂ : Stands (encode im) 15 (fourCounts (ofImage im) ++ (im .bytes ++ sectionsOf (ofImage im)))
+  st₂ : BytesAt (encode im) 15 (fourCounts (ofImage im) ++ (im .bytes ++ sectionsOf (ofImage im)))
   st₂ =
       moved (right (fiveCounts (im .bytes) (ofImage im)) _ (right (1 ∷ bytesOf 4 (im .arena)) _ st₀)) 15
       (rw (length-bytes, five-length) refl)
 
-  pub counts-stand : Stands (encode im) 15 (fourCounts (ofImage im))
+  pub counts-stand : BytesAt (encode im) 15 (fourCounts (ofImage im))
   counts-stand = left (fourCounts (ofImage im)) _ st₂
 
-  st₃ : Stands (encode im) 23 (im .bytes ++ sectionsOf (ofImage im))
+  st₃ : BytesAt (encode im) 23 (im .bytes ++ sectionsOf (ofImage im))
   st₃ = moved (right (fourCounts (ofImage im)) _ st₂) 23 (rw four-length refl)
 
-  pub bytes-stand : Stands (encode im) 23 (im .bytes)
+  pub bytes-stand : BytesAt (encode im) 23 (im .bytes)
   bytes-stand = left (im .bytes) _ st₃
 
-  pub texts-stand : Stands (encode im) (23 + length (im .bytes)) (bytesIn im Texts)
+  pub texts-stand : BytesAt (encode im) (23 + length (im .bytes)) (bytesIn im Texts)
   texts-stand = left (bytesIn im Texts) _ (right (im .bytes) _ st₃)
 
-  st₄ : Stands (encode im) (listsAt (counts im)) (bytesIn im Lists ++ (bytesIn im Expressions ++ (bytesIn im Statements ++ restOf (ofImage im))))
+  st₄ : BytesAt (encode im) (listsAt (counts im)) (bytesIn im Lists ++ (bytesIn im Expressions ++ (bytesIn im Statements ++ restOf (ofImage im))))
   st₄ = moved (right (bytesIn im Texts) _ (right (im .bytes) _ st₃)) (listsAt (counts im)) (rw texts-length refl)
 
-  pub lists-stand : Stands (encode im) (listsAt (counts im)) (bytesIn im Lists)
+  pub lists-stand : BytesAt (encode im) (listsAt (counts im)) (bytesIn im Lists)
   lists-stand = left (bytesIn im Lists) _ st₄
 
-  st₅ : Stands (encode im) (expressionsAt (counts im)) (bytesIn im Expressions ++ (bytesIn im Statements ++ restOf (ofImage im)))
+  st₅ : BytesAt (encode im) (expressionsAt (counts im)) (bytesIn im Expressions ++ (bytesIn im Statements ++ restOf (ofImage im)))
   st₅ = moved (right (bytesIn im Lists) _ st₄) (expressionsAt (counts im)) (rw lists-length refl)
 
-  pub expressions-stand : Stands (encode im) (expressionsAt (counts im)) (bytesIn im Expressions)
+  pub expressions-stand : BytesAt (encode im) (expressionsAt (counts im)) (bytesIn im Expressions)
   expressions-stand = left (bytesIn im Expressions) _ st₅
 
-  st₆ : Stands (encode im) (placeOf im Statements) (bytesIn im Statements ++ restOf (ofImage im))
+  st₆ : BytesAt (encode im) (placeOf im Statements) (bytesIn im Statements ++ restOf (ofImage im))
   st₆ = moved (right (bytesIn im Expressions) _ st₅) (placeOf im Statements) (sym statements-place)
 
-  pub statements-stand : Stands (encode im) (placeOf im Statements) (bytesIn im Statements)
+  pub statements-stand : BytesAt (encode im) (placeOf im Statements) (bytesIn im Statements)
   statements-stand = left (bytesIn im Statements) _ st₆
 
-  pub rest-stands : Stands (encode im) (parametersAt (encode im) (counts im)) (restOf (ofImage im))
+  pub rest-stands : BytesAt (encode im) (parametersAt (encode im) (counts im)) (restOf (ofImage im))
   rest-stands =
       moved (right (bytesIn im Statements) _ st₆) (parametersAt (encode im) (counts im)) (rw (parameters-place, statements-place) refl)

@@ -11,7 +11,7 @@ use Rattle.rl_spec.specs.Schema.{sortOf, widthOf, fieldsOf, fieldsIn, schema}
 use Rattle.rl_spec.specs.Image.{Field, pair, Rec, Image, recordsOf, sizeOf, recordOf, noField, noRecord, bytesOf, encodeField, encodeRecord, encodeRecords, encode, widthsOf, WellFormed}
 use Rattle.rl_spec.specs.Found.{parametersAt}
 use Rattle.rl_spec.specs.Lower.{bodied}
-use Rattle.rl_images.specs.Encoding.BytesAt.{Stands, left, right, length-bytes}
+use Rattle.rl_images.specs.Encoding.BytesAt.{BytesAt, left, right, length-bytes}
 use Rattle.rl_images.specs.Encoding.ReaderKnows.{counts}
 use Rattle.rl_images.specs.Encoding.Sections.{sized-at, kind-at, length-at}
 use Rattle.rl_assemble.specs.Pieces.{part, bodyAt, newRest}
@@ -80,8 +80,8 @@ module _ (im : Image) (wf : WellFormed im) (f : ℕ) (l : f < sizeOf im Function
       field-width (fieldsOf (r .kind)) (r .fields) 4 (sized-at im wf Functions f l) seven
       ∙ ap (λ k. widthOf (sortOf (getD (fieldsOf k) 4 0))) kind-is
 
-  st : Stands (encode im) (parametersAt (encode im) (counts im)) (front ++ (bodySort old ++ back))
-  st = subst (Stands (encode im) (parametersAt (encode im) (counts im))) as-it-was (rest-stands im wf)
+  st : BytesAt (encode im) (parametersAt (encode im) (counts im)) (front ++ (bodySort old ++ back))
+  st = subst (BytesAt (encode im) (parametersAt (encode im) (counts im))) as-it-was (rest-stands im wf)
 
   three : (a b c : List ℕ) → length (a ++ (b ++ c)) ≡ length a + (length b + length c)
   three a b c = length-append a (b ++ c) ∙ ap (λ n. length a + n) (length-append b c)

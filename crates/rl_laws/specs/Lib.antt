@@ -1,6 +1,6 @@
 -- ---- tests and ranges
 pub mod Tests
-pub mod Ranges
+pub mod Within
 -- ---- records that are found, the trees of an image and their heights
 pub mod Found
 pub mod Descend

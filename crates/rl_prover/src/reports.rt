@@ -1,8 +1,7 @@
 // Reports in a lent slice, four entries each; what has no room is left out.
 use rl_spec::Violation;
 ghost use mathlib.Core.Path.{_≡_};
-ghost use mathlib.Core.List.{List};
-ghost use Prim.Native.Nat.{ℕ, _<_, _≤_, _+_};
+ghost use Prim.Native.Nat.{_<_, _≤_, _+_};
 ghost use lib.ListN.{set};
 ghost use Rattle.rl_prover.specs.Reports.{putFour, putViolation, Reports};
 

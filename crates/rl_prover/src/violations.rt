@@ -19,7 +19,7 @@ use rl_spec::Violation;
 use rl_values::compare_values;
 ghost use mathlib.Core.Path.{_≡_};
 ghost use mathlib.Core.List.{List};
-ghost use Prim.Native.Nat.{ℕ, _<_, _≤_, _+_, _*_};
+ghost use Prim.Native.Nat.{ℕ, _<_, _≤_, _+_};
 ghost use Rattle.rl_spec.specs.Image.{Image, textOf};
 ghost use Rattle.rl_spec.specs.Values.{compareValues};
 ghost use Rattle.rl_spec.specs.Folded.{constOf, foldedOf, opOf};

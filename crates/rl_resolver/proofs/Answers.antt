@@ -40,7 +40,7 @@ use Rattle.rl_assemble.specs.Pieces.{Source}
 use Rattle.rl_assemble.proofs.Accepted.{accepted-source}
 use Rattle.rl_admission.specs.declared.Admission.{Admission}
 use Rattle.rl_admission.specs.declared.Admission.the-variants.{Admitted, Refused}
-use Rattle.rl_admission.specs.Lowering.{tallIn, admissionOf, orRefused}
+use Rattle.rl_admission.specs.Lowering.{tallIn, loweringAdmission, loweringOr}
 use Rattle.rl_resolver.specs.Written.{Written}
 
 -- ---- what an admission says
@@ -54,7 +54,7 @@ Checked b c d =
     cond b (Refused NoSuchFunction) (cond c (Refused HeightOverLimit) (cond d (Refused OutputTooShort) Admitted))
 
 as-checked : (b c d : Bool) (r : Lowering) →
-    orRefused (Checked b c d) r
+    loweringOr (Checked b c d) r
     ≡ cond b (refused NoSuchFunction 0) (cond c (refused HeightOverLimit 0) (cond d (refused OutputTooShort 0) r))
 as-checked true c d r = refl
 as-checked false true d r = refl
@@ -116,7 +116,7 @@ module _ (s : List ℕ) (k f room : ℕ) (out : List ℕ) (cleared : out ≡ rep
     unfolding heights
     size-is o = length-heights (imageOf s) o (recordsOf (imageOf s) o) [] ∙ omega (arith, sizes-are-counts s k no c accepted o)
 
-    module _ (work : List ℕ) (left : work ≡ workOf s k) (x : Admission) (g : x ≡ admissionOf work c f (length out)) where
+    module _ (work : List ℕ) (left : work ≡ workOf s k) (x : Admission) (g : x ≡ loweringAdmission work c f (length out)) where
       work-is : work ≡ heights (imageOf s) Expressions ++ (heights (imageOf s) Statements ++ rest)
       work-is =
           left ∙ accepted-work s k no c own accepted ∙ append-assoc (heights (imageOf s) Expressions) (heights (imageOf s) Statements) rest
@@ -143,20 +143,20 @@ module _ (s : List ℕ) (k f room : ℕ) (out : List ℕ) (cleared : out ≡ rep
       abbrev result : Lowering
       result = orLimit (lowered (imageOf s) f)
 
-      by-admission : lowering ≡ orRefused x result
-      unfolding lowerOf admissionOf
+      by-admission : lowering ≡ loweringOr x result
+      unfolding lowerOf loweringAdmission
       by-admission =
           ap (lowerBy s f room) accepted
           ∙ sym (as-checked (not (ltb f (c .functions))) (tooTall (imageOf s)) (ltb room 65535) result)
-          ∙ sym (λ i. orRefused (Checked (not (ltb f (c .functions))) (tall-is i) (ltb (room-is i) 65535)) result)
-          ∙ ap (λ y. orRefused y result) (sym g)
+          ∙ sym (λ i. loweringOr (Checked (not (ltb f (c .functions))) (tall-is i) (ltb (room-is i) 65535)) result)
+          ∙ ap (λ y. loweringOr y result) (sym g)
 
       pub refused-by : (q : Cause) → x ≡ Refused q → (m : ℕ) (w : List ℕ) → m ≡ k → w ≡ replicate m 0 → Ends (answer.Refused q 0) out w
-      refused-by q d m w n v = ends-refused q 0 (by-admission ∙ ap (λ y. orRefused y result) d) out w cleared (cleared-work m w n v)
+      refused-by q d m w n v = ends-refused q 0 (by-admission ∙ ap (λ y. loweringOr y result) d) out w cleared (cleared-work m w n v)
 
       module _ (d : x ≡ Admitted) where
         held : (ltb f (c .functions) ≡ true) × (ltb (length out) 65535 ≡ false)
-        unfolding admissionOf
+        unfolding loweringAdmission
         held = all-held (ltb f (c .functions)) (tallIn work c) (ltb (length out) 65535) (sym g ∙ d)
 
         function-there : f < c .functions
@@ -176,7 +176,7 @@ module _ (s : List ℕ) (k f room : ℕ) (out : List ℕ) (cleared : out ≡ rep
           same-image = ap (λ (y : List ℕ). imageFound s y c) z ∙ found-is-image s k no c accepted
 
           result-is : (y : Option Image) → lowered (imageOf s) f ≡ y → lowering ≡ orLimit y
-          result-is y q = by-admission ∙ ap (λ v. orRefused v result) d ∙ ap orLimit q
+          result-is y q = by-admission ∙ ap (λ v. loweringOr v result) d ∙ ap orLimit q
 
           module _ (n : ℕ) (o : List ℕ) (written : Written (lowered (imageFound s p c) f) out n o) where
             there : Written (lowered (imageOf s) f) (replicate room 0) n o

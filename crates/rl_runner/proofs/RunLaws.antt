@@ -34,7 +34,7 @@ use Rattle.rl_images.specs.Reading.Starts.{sizes-are-counts}
 use Rattle.rl_machine.specs.Machine.{Low}
 use Rattle.rl_admission.specs.declared.Admission.{Admission}
 use Rattle.rl_admission.specs.declared.Admission.the-variants.{Admitted, Refused}
-use Rattle.rl_admission.specs.Running.{admissionOf, orRefused}
+use Rattle.rl_admission.specs.Running.{runAdmission, runOr}
 
 -- ---- what an admission says
 
@@ -47,7 +47,7 @@ Checked b c d e =
     cond b (Refused NoSuchFunction) (cond c (Refused WrongValues) (cond d (Refused NoSuchText) (cond e (Refused BudgetOverLimit) Admitted)))
 
 as-checked : (b c d e : Bool) (r : RunAnswer) →
-    orRefused (Checked b c d e) r
+    runOr (Checked b c d e) r
     ≡ cond b (answer.Refused NoSuchFunction 0) (cond c (answer.Refused WrongValues 0) (cond d (answer.Refused NoSuchText 0) (cond e (answer.Refused BudgetOverLimit 0) r)))
 as-checked true c d e r = refl
 as-checked false true d e r = refl
@@ -76,7 +76,7 @@ both : (b c : Bool) → (b && c) ≡ true → (b ≡ true) × (c ≡ true)
 both true c h = (refl, h)
 both false c h = absurd (subst IsFalse h tt)
 
-module _ (im : Image) (c : Counts) (f : ℕ) (args : Arguments) (budget : ℕ) (h : admissionOf im c f args budget ≡ Admitted) where
+module _ (im : Image) (c : Counts) (f : ℕ) (args : Arguments) (budget : ℕ) (h : runAdmission im c f args budget ≡ Admitted) where
   abbrev none : Bool
   none = not (ltb f (c .functions))
 
@@ -90,11 +90,11 @@ module _ (im : Image) (c : Counts) (f : ℕ) (args : Arguments) (budget : ℕ) (
   over = ltb 1000000 budget
 
   pub admitted-function : f < c .functions
-  unfolding admissionOf
+  unfolding runAdmission
   admitted-function = ltb-true f (c .functions) (not-not _ (first-held none few bare over h))
 
   fitting : isFor (args .count) (functionAt im f .params .count) ≡ true
-  unfolding admissionOf
+  unfolding runAdmission
   fitting = not-not _ (second-held none few bare over h)
 
   admitted-same : args .count ≡ functionAt im f .params .count
@@ -126,22 +126,22 @@ module _ (s : List ℕ) (k f : ℕ) (args : Arguments) (budget : ℕ) (a : Answe
     run-unread-work w g = work-of (answer.Refused q n) w run-unread (g ∙ refused-work s k q n (sym e ∙ h) ∙ zeros-unless q s k)
 
   module _ (no : ArenaNo) (c : Counts) (h : a ≡ read.Accepted no c) (p : List ℕ) (z : p ≡ startsOf s k) (x : Admission)
-      (g : (q : List ℕ) → x ≡ admissionOf (imageFound s q c) c f args budget) where
+      (g : (q : List ℕ) → x ≡ runAdmission (imageFound s q c) c f args budget) where
     same-image : imageFound s p c ≡ imageOf s
     same-image = ap (λ (y : List ℕ). imageFound s y c) z ∙ found-is-image s k no c (sym e ∙ h)
 
-    own : x ≡ admissionOf (imageOf s) c f args budget
-    own = g p ∙ ap (λ (im : Image). admissionOf im c f args budget) same-image
+    own : x ≡ runAdmission (imageOf s) c f args budget
+    own = g p ∙ ap (λ (im : Image). runAdmission im c f args budget) same-image
 
-    by-admission : runOf s k f args budget ≡ orRefused x (ranIn (imageOf s) f (given args) budget)
-    unfolding runOf admissionOf
+    by-admission : runOf s k f args budget ≡ runOr x (ranIn (imageOf s) f (given args) budget)
+    unfolding runOf runAdmission
     by-admission =
         rw (← e, h)
         (sym (as-checked (not (ltb f (c .functions))) (not (isFor (args .count) (functionAt (imageOf s) f .params .count))) (not (allHave c (given args))) (ltb 1000000 budget) (ranIn (imageOf s) f (given args) budget)))
-        ∙ ap (λ y. orRefused y (ranIn (imageOf s) f (given args) budget)) (sym own)
+        ∙ ap (λ y. runOr y (ranIn (imageOf s) f (given args) budget)) (sym own)
 
     pub run-refused : (q : Cause) → x ≡ Refused q → Is (answer.Refused q 0)
-    run-refused q d = sym (by-admission ∙ ap (λ y. orRefused y (ranIn (imageOf s) f (given args) budget)) d)
+    run-refused q d = sym (by-admission ∙ ap (λ y. runOr y (ranIn (imageOf s) f (given args) budget)) d)
 
     pub run-refused-work : (q : Cause) → x ≡ Refused q → (m : ℕ) (w : List ℕ) → m ≡ k → w ≡ replicate m 0 → Work w
     run-refused-work q d m w n y = work-of (answer.Refused q 0) w (run-refused q d) (y ∙ ap (λ (i : ℕ). replicate i 0) n ∙ zeros-unless q s k)
@@ -150,7 +150,7 @@ module _ (s : List ℕ) (k f : ℕ) (args : Arguments) (budget : ℕ) (a : Answe
       pub run-admitted : (r : RunAnswer) → r ≡ ranIn (imageFound s p c) f (given args) budget → Is r
       run-admitted r y =
           y ∙ ap (λ (im : Image). ranIn im f (given args) budget) same-image
-          ∙ sym (by-admission ∙ ap (λ z. orRefused z (ranIn (imageOf s) f (given args) budget)) d)
+          ∙ sym (by-admission ∙ ap (λ z. runOr z (ranIn (imageOf s) f (given args) budget)) d)
 
       pub run-admitted-work : (r : RunAnswer) → r ≡ ranIn (imageFound s p c) f (given args) budget → (w : List ℕ) → w ≡ workOf s k → Work w
       unfolding ranIn

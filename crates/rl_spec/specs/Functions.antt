@@ -79,8 +79,8 @@ clauseCheck default c = record { condition = c .condition; message = messageOr d
 abbrev pub contractsIn : Image → ℕ → FnContracts Text
 contractsIn im f = mapContracts (textOf im) (contractsOf im f)
 
-abbrev pub ensuresIn : Image → ℕ → List (ContractClause Text)
-ensuresIn im f = map (mapClause (textOf im)) (map (clauseOf im) (numbersIn (functionAt im f .ensured)))
+abbrev pub ensuredIn : Image → ℕ → List (ContractClause Text)
+ensuredIn im f = map (mapClause (textOf im)) (map (clauseOf im) (numbersIn (functionAt im f .ensured)))
 
 -- a function of this name, with these contracts, what it ensures, and its body
 abbrev pub contracted : Text → Bool → FnContracts Text → List (ContractClause Text) → Body Text → Function Text
@@ -96,7 +96,7 @@ contracted name isResult c ensured body =
 
 unfoldable pub contractFunction : Image → ℕ → Function Text
 contractFunction im f =
-    contracted (textOf im (functionAt im f .name)) (functionAt im f .result) (contractsIn im f) (ensuresIn im f)
+    contracted (textOf im (functionAt im f .name)) (functionAt im f .result) (contractsIn im f) (ensuredIn im f)
     (mapBody (textOf im) (bodyTree im (functionAt im f .body)))
 
 -- THE CONTRACT READING of a function of an image, on values whose texts are the image's

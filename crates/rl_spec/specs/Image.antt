@@ -263,10 +263,10 @@ pub data FieldFits (im : Image) (o : Section) (i before : ℕ) : Sort → Field 
   anOperand : {x : ℕ} → OperandFits im before x → FieldFits im o i before Operand (num x)
 
 -- the fields of a record, by their sorts
-infixr 20 _▹_
+infixr 20 _&_
 pub data FieldsFit (im : Image) (o : Section) (i : ℕ) : ℕ → List Sort → List Field → Type 0 where
   noFields : {before : ℕ} → FieldsFit im o i before [] []
-  _▹_ : {before : ℕ} {k : Sort} {ks : List Sort} {f : Field} {fs : List Field} → FieldFits im o i before k f →
+  _&_ : {before : ℕ} {k : Sort} {ks : List Sort} {f : Field} {fs : List Field} → FieldFits im o i before k f →
       FieldsFit im o i (first f) ks fs → FieldsFit im o i before (k ∷ ks) (f ∷ fs)
 
 pub record RecordFits (im : Image) (o : Section) (i : ℕ) (r : Rec) : Type 0 where

@@ -13,7 +13,7 @@ use borrow.Author.Tests.{ltb-true, le-leb, ne-eqb}
 use mir.Val.{Fits}
 use mir.Syntax.{w64}
 use Rattle.rl_laws.specs.Tests.{by-ltb}
-use Rattle.rl_laws.specs.Ranges.{within-yes, within-low, within-high}
+use Rattle.rl_laws.specs.Within.{within-yes, within-low, within-high}
 use Rattle.rl_spec.specs.Utf8.{Range, _to_, within, utf8Tail, utf8Char, begins, widthBy, charWidth, octets, utf8, isScalar}
 
 -- ---- tests

@@ -41,7 +41,7 @@ use Rattle.rl_spec.specs.Prove.{proveCall, callEntries, allEntries, fitting, sl
 use Rattle.rl_spec.specs.Statement.{Stmt, Body}
 use Rattle.rl_spec.specs.Contracts.{FnContracts, calleeOf, argumentsOf}
 use Rattle.rl_spec.specs.Mapped.{mapValue, mapExpr, mapStmt, mapBody, mapContracts}
-use Rattle.rl_spec.specs.Functions.{contractFunction, readingIn}
+use Rattle.rl_spec.specs.Functions.{plainFunction, contractFunction, readingIn}
 use Rattle.rl_spec.specs.Lower.{lowered}
 use Rattle.rl_spec.specs.Lowerer.{made, refused, tooTall, orLimit, lowerOf, lowerOut}
 use Rattle.rl_spec.specs.Runner.{outcomeIn, allHave, given, valuesOf, runOf}
@@ -53,7 +53,7 @@ use Rattle.rl_images.specs.Encoding.Accepted as Well
 use Rattle.rl_theorems.specs.Reading.Access as Access
 use Rattle.rl_images.specs.Reading.Found as Found
 use Rattle.rl_images.specs.Encoding.Encoded as Encoded
-use Rattle.rl_images.specs.Encoding.EncodedBytes as EncodedBytes
+use Rattle.rl_theorems.specs.Reading.EncodedBytes as EncodedBytes
 use Rattle.rl_images.specs.Encoding.ReaderKnows.{counts}
 use Rattle.rl_images.specs.Reading.Starts as Starts
 use Rattle.rl_images.specs.Reading.Places as Places
@@ -142,10 +142,10 @@ module _ (s : List ℕ) (k : ℕ) (a : ArenaNo) (c : Counts) (e : answerOf s k �
   pub sizes-are-counts : (o : Section) → sizeOf (imageOf s) o ≡ countOf c o
   sizes-are-counts = Starts.sizes-are-counts s k a c e
 
-  pub starts-expression : (i : ℕ) → i < c .expressions → Starts.Stands s Expressions i (getD (startsOf s k) i 0)
+  pub starts-expression : (i : ℕ) → i < c .expressions → Starts.StandsAt s Expressions i (getD (startsOf s k) i 0)
   starts-expression = Starts.starts-expression s k a c e
 
-  pub starts-statement : (i : ℕ) → i < c .statements → Starts.Stands s Statements i (getD (startsOf s k) (c .expressions + i) 0)
+  pub starts-statement : (i : ℕ) → i < c .statements → Starts.StandsAt s Statements i (getD (startsOf s k) (c .expressions + i) 0)
   starts-statement = Starts.starts-statement s k a c e
 
 -- ---- where the bytes of a list entry and of a text stand (Access)
@@ -349,6 +349,10 @@ module _ (im im′ : Image) (f : ℕ) (wf : WellFormed im) (there : f < sizeOf i
 
   pub lowered-reads : LowerFrame.CleanChecks (contractFunction im f .ensures) → (vs : List (Value (List ℕ))) (budget : ℕ) → runFunction (λ t. t) (contractFunction im′ f) vs budget ≡ reading (λ t. t) (ascii "ret") (contractFunction im f) vs budget
   lowered-reads = LoweredFunctions.lowered-reads im im′ f wf there e ensured
+
+-- what the runner runs, its texts as bytes, runs as that function does, its clauses unread
+pub plain-runs : (im : Image) (f : ℕ) (vs : List (Value (List ℕ))) (budget : ℕ) → runFunction (λ t. t) (TextRuns.mapFunction (textOf im) (plainFunction im f)) vs budget ≡ runFunction (λ t. t) (contractFunction im f) vs budget
+plain-runs = LoweredFunctions.plain-runs
 
 -- ---- where one function is lowered, every other one is as it was: name, parameters, clauses and body, texts by bytes (LoweredOthers)
 

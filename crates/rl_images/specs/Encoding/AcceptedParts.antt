@@ -20,7 +20,7 @@ use Rattle.rl_images.specs.Reading.ReadOutcome.{lastAt, sectionsAt, Coun
 use Rattle.rl_images.specs.Reading.Decode.{last-after, end-after, records-length, CountsAt, header-counts, records-bytes, text-bytes, text-length}
 use Rattle.rl_images.specs.Reading.Starts.{sectionAt, section-records, section-size, stands-entry}
 use Rattle.rl_images.specs.Images.SchemaSorts.{kind-range}
-use Rattle.rl_images.specs.Encoding.BytesAt.{Stands, u16-number, u32-number}
+use Rattle.rl_images.specs.Encoding.BytesAt.{BytesAt, u16-number, u32-number}
 use Rattle.rl_images.specs.Encoding.ReaderKnows.{counts, Placed}
 use Rattle.rl_images.specs.Encoding.CheckedFits.{number-below}
 
@@ -37,7 +37,7 @@ drop-bytes (suc n) [] h = tt
 drop-bytes (suc n) (b ∷ s) h = drop-bytes n s (h .1)
 
 -- the bytes from a place on begin with what stands there
-split-stands : (s x y : List ℕ) (at : ℕ) → at ≤ length s → x ++ y ≡ drop at s → Stands s at x
+split-stands : (s x y : List ℕ) (at : ℕ) → at ≤ length s → x ++ y ≡ drop at s → BytesAt s at x
 split-stands s x y at l e =
     record { before = take at s; rest = y; whole = rw e (sym (take-append-drop at s)); place = length-take-le at s l }
 
@@ -101,7 +101,7 @@ module _ (s : List ℕ) (bytes : AllBytes s) {p : List ℕ} (r : Reads s p) wher
       rw section-records
       (records-bytes s bytes (countOf (countsOf s) o) (sectionAt s o) (omega (arith, section-ends o, r .body .ends)))
 
-  pub section-stands : (o : Section) → Stands s (sectionAt s o) (encodeRecords (recordsOf (imageOf s) o))
+  pub section-stands : (o : Section) → BytesAt s (sectionAt s o) (encodeRecords (recordsOf (imageOf s) o))
   section-stands o =
       split-stands s _ _ (sectionAt s o)
       (omega (arith, section-ends o, r .body .ends, end-after s (countOf (countsOf s) o) (sectionAt s o))) (section-bytes o)
@@ -116,7 +116,7 @@ module _ (s : List ℕ) (bytes : AllBytes s) {p : List ℕ} (r : Reads s p) wher
         simp (length-append, length-drop) at (ap length (section-bytes o)),
       )
 
-  pub text-stands : Stands s textBytesAt (imageOf s .bytes)
+  pub text-stands : BytesAt s textBytesAt (imageOf s .bytes)
   unfolding imageOf
   text-stands = split-stands s _ _ textBytesAt (r .header .inside) (text-bytes s bytes (countsOf s .bytes))
 

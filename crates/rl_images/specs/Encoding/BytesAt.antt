@@ -15,21 +15,21 @@ use Rattle.rl_spec.specs.Fields.{zeros}
 use Rattle.rl_spec.specs.Image.{bytesOf}
 
 -- x stands at `at` of s
-pub record Stands (s : List ℕ) (at : ℕ) (x : List ℕ) : Type 0 where
+pub record BytesAt (s : List ℕ) (at : ℕ) (x : List ℕ) : Type 0 where
   pub before : List ℕ
   pub rest : List ℕ
   pub whole : s ≡ before ++ (x ++ rest)
   pub place : length before ≡ at
 
 module _ {s : List ℕ} {at : ℕ} where
-  inside : {x : List ℕ} → Stands s at x → at + length x ≤ length s
+  inside : {x : List ℕ} → BytesAt s at x → at + length x ≤ length s
   inside {x} st = omega (arith, simp length-append at (ap length (st .whole)), st .place)
 
-  pub left : (x y : List ℕ) → Stands s at (x ++ y) → Stands s at x
+  pub left : (x y : List ℕ) → BytesAt s at (x ++ y) → BytesAt s at x
   left x y st =
       record { before = st .before; rest = y ++ st .rest; whole = st .whole ∙ simp append-assoc; place = st .place }
 
-  pub right : (x y : List ℕ) → Stands s at (x ++ y) → Stands s (at + length x) y
+  pub right : (x y : List ℕ) → BytesAt s at (x ++ y) → BytesAt s (at + length x) y
   right x y st =
       record {
         before = st .before ++ x;
@@ -38,19 +38,19 @@ module _ {s : List ℕ} {at : ℕ} where
         place = rw length-append (ap (λ (n : ℕ). n + length x) (st .place));
       }
 
-  pub head : {b : ℕ} {x : List ℕ} → Stands s at (b ∷ x) → getD s at 0 ≡ b
+  pub head : {b : ℕ} {x : List ℕ} → BytesAt s at (b ∷ x) → getD s at 0 ≡ b
   head {b} {x} st = rw (st .whole) (getD-at (st .before) b (x ++ st .rest) 0 at (st .place))
 
-  pub tail : {b : ℕ} {x : List ℕ} → Stands s at (b ∷ x) → Stands s (at + 1) x
+  pub tail : {b : ℕ} {x : List ℕ} → BytesAt s at (b ∷ x) → BytesAt s (at + 1) x
   tail {b} {x} st = right (b ∷ []) x st
 
   -- n bytes that are there
-  pub there : {x : List ℕ} → Stands s at x → (n : ℕ) → length x ≡ n → past s at n ≡ false
+  pub there : {x : List ℕ} → BytesAt s at x → (n : ℕ) → length x ≡ n → past s at n ≡ false
   unfolding past
   there {x} st n e = le-ltb (length s) (at + n) (omega (arith, inside st))
 
   -- n bytes of x from its a-th on
-  pub piece : {x : List ℕ} → Stands s at x → (a n : ℕ) → a + n ≤ length x → take n (drop (at + a) s) ≡ take n (drop a x)
+  pub piece : {x : List ℕ} → BytesAt s at x → (a n : ℕ) → a + n ≤ length x → take n (drop (at + a) s) ≡ take n (drop a x)
   piece {x} st a n p =
       let e : drop (at + a) s ≡ drop a (x ++ st .rest) = rw (← drop-drop, st .whole, drop-at (st .before) (x ++ st .rest) at (st .place)) in
       let d : a ≤ length x = omega arith in
@@ -58,7 +58,7 @@ module _ {s : List ℕ} {at : ℕ} where
       rw (e, drop-append-le, take-append-le)
 
   -- the same place by another name
-  pub moved : {x : List ℕ} → Stands s at x → (to : ℕ) → at ≡ to → Stands s to x
+  pub moved : {x : List ℕ} → BytesAt s at x → (to : ℕ) → at ≡ to → BytesAt s to x
   moved {x} st to e = record { before = st .before; rest = st .rest; whole = st .whole; place = st .place ∙ e }
 
 -- ---- numbers
@@ -69,7 +69,7 @@ length-bytes zero x = refl
 length-bytes (suc n) x = ap suc (length-bytes n (x / 256))
 
 -- a number is read back from its bytes
-pub number : {s : List ℕ} {at : ℕ} (n x : ℕ) → x < 256 ^ n → Stands s at (bytesOf n x) → numAt s at n ≡ x
+pub number : {s : List ℕ} {at : ℕ} (n x : ℕ) → x < 256 ^ n → BytesAt s at (bytesOf n x) → numAt s at n ≡ x
 unfolding numAt bytesOf
 number zero x p st = omega arith
 number {s} {at} (suc n) x p st =
@@ -93,7 +93,7 @@ module _ (s : List ℕ) (at : ℕ) where
       rw a (omega arith)
 
 -- zero in n bytes
-pub zeros-stand : {s : List ℕ} {at : ℕ} (n : ℕ) → Stands s at (bytesOf n 0) → zeros s at n ≡ true
+pub zeros-stand : {s : List ℕ} {at : ℕ} (n : ℕ) → BytesAt s at (bytesOf n 0) → zeros s at n ≡ true
 unfolding zeros bytesOf
 zeros-stand zero st = refl
 zeros-stand {s} {at} (suc n) st = rw (eq-eqb (getD s at 0) 0 (head st)) (zeros-stand n (tail st))

@@ -27,8 +27,8 @@ use Rattle.rl_spec.specs.Bytes.{numAt, u16At, u32At, past}
 use Rattle.rl_spec.specs.Schema.{textBytesAt, countOf, inSection, tallest, operandSort, sortOf, widthOf, fieldsOf}
 use Rattle.rl_spec.specs.Utf8.{utf8, isScalar}
 use Rattle.rl_spec.specs.Fields.{zeros, allowed, entryAt, rangeOf, partOf, byteIn, operandSortOf, checked, heightStep, referTo, referOrNone, entriesFrom, listOf, operandOf, valueOf, fieldAt, fieldsFrom, recordAt}
-use Rattle.rl_spec.specs.Image.{Field, num, pair, Rec, Image, orderOf, sizeOf, first, encodeRecord, entryOf, isPair, fieldIn, fieldsAt, recordIn, tallestChild, heights, Refers, Entries, OperandFits, SortFits, FieldFits, aRaw, aByte, aScalar, aPart, aReference, anOption, aList, aRange, aSort, anOperand, FieldsFit, noFields, _▹_, RecordFits, AllBytes}
-use Rattle.rl_images.specs.Encoding.BytesAt.{Stands, piece, byte-number, u16-number, u32-number}
+use Rattle.rl_spec.specs.Image.{Field, num, pair, Rec, Image, orderOf, sizeOf, first, encodeRecord, entryOf, isPair, fieldIn, fieldsAt, recordIn, tallestChild, heights, Refers, Entries, OperandFits, SortFits, FieldFits, aRaw, aByte, aScalar, aPart, aReference, anOption, aList, aRange, aSort, anOperand, FieldsFit, noFields, _&_, RecordFits, AllBytes}
+use Rattle.rl_images.specs.Encoding.BytesAt.{BytesAt, piece, byte-number, u16-number, u32-number}
 use Rattle.rl_images.specs.Images.SchemaSorts.{refers, suits, isNarrow, allSuit, inTurn, and-left, and-right, schema-suits, schema-turns}
 use Rattle.rl_images.specs.Encoding.FieldWidths.{Bounded, all-sized, fields-stand}
 use Rattle.rl_images.specs.Encoding.FieldChecks.{Ready}
@@ -222,11 +222,11 @@ module _ (im : Image) (s w p : List ℕ) (bytes : AllBytes s) (seen : Counts) (o
       let value = holds-false (past s at (widthOf k)) (valueOf s w p seen o k at tall) BytesEnd (q .0) (q .1) .1 in
       let f = value-fits narrow sorted before at tall (q .0) k (and-left (suits o narrow k) (allSuit o (isNarrow k) cs) u) (and-left (isNarrow k || suits o sorted k) (inTurn o (eqb c operandSort) cs) v) b m value in
       let rest = fields-fit (isNarrow k) (eqb c operandSort) (first (fieldIn s k at)) (at + widthOf k) (q .0) a x cs (and-right (suits o narrow k) (allSuit o (isNarrow k) cs) u) (and-right (isNarrow k || suits o sorted k) (inTurn o (eqb c operandSort) cs) v) (narrow-byte s k at) (sorted-most c f) (q .2) in
-      f ▹ rest
+      f & rest
 
   -- ---- the record, h being the heights of the section's earlier ones
 
-  read-fits : Bounded im → i ≤ 4096 → (at a x : ℕ) → Stands s at (encodeRecord (recordIn s at)) → getD (heights im o) i 0 ≡ tallestChild im o h (fieldsOf (recordIn s at .kind)) (recordIn s at .fields) + 1 → recordAt s w p seen o at ≡ Next a x → RecordFits im o i (recordIn s at)
+  read-fits : Bounded im → i ≤ 4096 → (at a x : ℕ) → BytesAt s at (encodeRecord (recordIn s at)) → getD (heights im o) i 0 ≡ tallestChild im o h (fieldsOf (recordIn s at .kind)) (recordIn s at .fields) + 1 → recordAt s w p seen o at ≡ Next a x → RecordFits im o i (recordIn s at)
   unfolding recordIn recordAt
   read-fits bounded short at a x st e n =
       let g : ℕ = getD s at 0 in
@@ -240,5 +240,5 @@ module _ (im : Image) (s w p : List ℕ) (bytes : AllBytes s) (seen : Counts) (o
       let m : y .0 ≡ max 0 (tallestChild im o h cs (fieldsAt s cs (at + 1))) = cc in
       record { kind = q .0; fields = f; height = omega (arith, y .2) }
 
-  pub record-fits : Bounded im → i ≤ 4096 → (r : Rec) (at a x : ℕ) → recordIn s at ≡ r → Stands s at (encodeRecord r) → getD (heights im o) i 0 ≡ tallestChild im o h (fieldsOf (r .kind)) (r .fields) + 1 → recordAt s w p seen o at ≡ Next a x → RecordFits im o i r
+  pub record-fits : Bounded im → i ≤ 4096 → (r : Rec) (at a x : ℕ) → recordIn s at ≡ r → BytesAt s at (encodeRecord r) → getD (heights im o) i 0 ≡ tallestChild im o h (fieldsOf (r .kind)) (r .fields) + 1 → recordAt s w p seen o at ≡ Next a x → RecordFits im o i r
   record-fits bounded short r at a x found st e n = rw found at (read-fits bounded short at a x (rw found st) (rw found e) n)

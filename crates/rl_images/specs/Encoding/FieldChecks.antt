@@ -23,7 +23,7 @@ use Rattle.rl_spec.specs.Schema.{textBytesAt, countOf}
 use Rattle.rl_spec.specs.Utf8.{utf8}
 use Rattle.rl_spec.specs.Fields.{zeros, allowed, childHeight, entryAt, rangeOf, partOf, byteIn, operandSortOf, referTo, referOrNone, entriesFrom, listOf, operandOf, valueOf}
 use Rattle.rl_spec.specs.Image.{Field, Image, orderOf, sizeOf, entryOf, bytesOf, encodeField, heightOf, tallestEntry, tallestIn, Refers, Entries, OperandFits, SortFits, FieldFits, aRaw, aByte, aScalar, aPart, aReference, anOption, aList, aRange, aSort, anOperand}
-use Rattle.rl_images.specs.Encoding.BytesAt.{Stands, head, tail, left, right, piece, number, byte-number, u32-number, zeros-stand}
+use Rattle.rl_images.specs.Encoding.BytesAt.{BytesAt, head, tail, left, right, piece, number, byte-number, u32-number, zeros-stand}
 use Rattle.rl_images.specs.Images.SchemaSorts.{refers, suits, and-left, and-right}
 use Rattle.rl_images.specs.Encoding.FieldWidths.{Bounded, Sized, u16-stands, first-stands, second-stands, reference-small}
 
@@ -33,7 +33,7 @@ pub record Ready (im : Image) (s w p : List ℕ) (seen : Counts) (o : Section) (
   pub texts : seen .texts ≡ sizeOf im Texts
   pub lists : seen .lists ≡ sizeOf im Lists
   pub ranges : (q : Section) → ltb 3 (orderOf o) ≡ true → countOf seen q ≡ sizeOf im q
-  pub text : Stands s textBytesAt (im .bytes)
+  pub text : BytesAt s textBytesAt (im .bytes)
   pub entry : (k : ℕ) → k < sizeOf im Lists → entryAt s seen k ≡ entryOf im k
   pub found : (t : Target) (n : ℕ) → refers o t ≡ true → Refers im o i t n → allowed s p seen t n ≡ true
   pub refer : (t : Target) (n : ℕ) → refers o t ≡ true → allowed s p seen t n ≡ true → Refers im o i t n
@@ -112,16 +112,16 @@ module _ (im : Image) (bounded : Bounded im) (s w p : List ℕ) (seen : Counts) 
   unfolding referTo
   text-operand n tall q = rw (texts-found n q, no-text-height w seen o n) (sym (same tall))
 
-  text-good : (at x tall : ℕ) → x < sizeOf im Texts → Stands s at (bytesOf 8 x) → (e : Check) → cond (zeros s (at + 2) 6) (referTo s w p seen o Text (u16At s at) tall) e ≡ Holds tall
+  text-good : (at x tall : ℕ) → x < sizeOf im Texts → BytesAt s at (bytesOf 8 x) → (e : Check) → cond (zeros s (at + 2) 6) (referTo s w p seen o Text (u16At s at) tall) e ≡ Holds tall
   unfolding bytesOf
   text-good at x tall f st e =
       let q : x < 65536 = omega (arith, bounded .sizes Texts) in
       let none : x / 256 / 256 ≡ 0 = omega arith in
-      let low : Stands s at (bytesOf 2 x) = left (bytesOf 2 x) (bytesOf 6 (x / 256 / 256)) st in
-      let high : Stands s (at + 2) (bytesOf 6 0) = rw none at (right (bytesOf 2 x) (bytesOf 6 (x / 256 / 256)) st) in
+      let low : BytesAt s at (bytesOf 2 x) = left (bytesOf 2 x) (bytesOf 6 (x / 256 / 256)) st in
+      let high : BytesAt s (at + 2) (bytesOf 6 0) = rw none at (right (bytesOf 2 x) (bytesOf 6 (x / 256 / 256)) st) in
       rw (zeros-stand 6 high, u16-stands x q low) (text-operand x tall f)
 
-  operand-good : (before at x tall : ℕ) → OperandFits im before x → Stands s at (bytesOf 8 x) → operandOf s w p seen o before at tall ≡ Holds tall
+  operand-good : (before at x tall : ℕ) → OperandFits im before x → BytesAt s at (bytesOf 8 x) → operandOf s w p seen o before at tall ≡ Holds tall
   unfolding operandOf bytesOf
   operand-good zero at x tall f st = rw (zeros-stand 8 (rw f at st))
   operand-good (suc zero) at x tall f st = refl
@@ -129,14 +129,14 @@ module _ (im : Image) (bounded : Bounded im) (s w p : List ℕ) (seen : Counts) 
   operand-good (suc (suc (suc zero))) at x tall f st =
       let none : x / 256 ≡ 0 = omega arith in
       let low : getD s at 0 ≤ 1 = omega (arith, head st) in
-      let high : Stands s (at + 1) (bytesOf 7 0) = rw none at (tail st) in
+      let high : BytesAt s (at + 1) (bytesOf 7 0) = rw none at (tail st) in
       rw (le-leb (getD s at 0) 1 low, zeros-stand 7 high)
   operand-good (suc (suc (suc (suc zero)))) at x tall f st = text-good at x tall f st (Fails BadValue)
   operand-good (suc (suc (suc (suc (suc n))))) at x tall f st = absurd f
 
   -- ---- a field; `before` is the byte before an operand's sort and before an operand
 
-  pub value-good : {before : ℕ} {k : Sort} {f : Field} (narrow : Bool) (at tall : ℕ) → suits o narrow k ≡ true → (narrow ≡ true → getD s (at - 1) 0 ≡ before) → FieldFits im o i before k f → Sized k f → Stands s at (encodeField k f) → valueOf s w p seen o k at tall ≡ Holds (max tall (tallestIn im o h k f))
+  pub value-good : {before : ℕ} {k : Sort} {f : Field} (narrow : Bool) (at tall : ℕ) → suits o narrow k ≡ true → (narrow ≡ true → getD s (at - 1) 0 ≡ before) → FieldFits im o i before k f → Sized k f → BytesAt s at (encodeField k f) → valueOf s w p seen o k at tall ≡ Holds (max tall (tallestIn im o h k f))
   unfolding valueOf
   value-good narrow at tall u b (aRaw d) z st = same tall
   value-good narrow at tall u b (aByte {low} {high} {x} d e) z st = rw (byte-number s at, number 1 x (z .1) st) (byte-good low high x tall d e ∙ same tall)

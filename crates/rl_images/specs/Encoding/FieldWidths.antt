@@ -15,9 +15,9 @@ use Rattle.rl_spec.specs.declared.Target.{Target}
 use Rattle.rl_spec.specs.declared.Sort.{Sort}
 use Rattle.rl_spec.specs.Bytes.{u16At}
 use Rattle.rl_spec.specs.Schema.{sortOf, widthOf, fieldsOf}
-use Rattle.rl_spec.specs.Image.{Field, num, pair, Rec, Image, sizeOf, sectionOf, sameSection, bytesOf, encodeField, encodeFields, encodeRecord, encodeRecords, isPair, fieldIn, fieldsAt, widthsOf, recordIn, nextAt, recordsIn, endAt, Refers, OperandFits, SortFits, FieldFits, aRaw, aByte, aScalar, aPart, aReference, anOption, aList, aRange, aSort, anOperand, FieldsFit, noFields, _▹_, RecordFits}
+use Rattle.rl_spec.specs.Image.{Field, num, pair, Rec, Image, sizeOf, sectionOf, sameSection, bytesOf, encodeField, encodeFields, encodeRecord, encodeRecords, isPair, fieldIn, fieldsAt, widthsOf, recordIn, nextAt, recordsIn, endAt, Refers, OperandFits, SortFits, FieldFits, aRaw, aByte, aScalar, aPart, aReference, anOption, aList, aRange, aSort, anOperand, FieldsFit, noFields, _&_, RecordFits}
 use Rattle.rl_images.specs.Reading.Utf8.{scalar-cases}
-use Rattle.rl_images.specs.Encoding.BytesAt.{Stands, left, right, head, tail, moved, length-bytes, number, u16-number}
+use Rattle.rl_images.specs.Encoding.BytesAt.{BytesAt, left, right, head, tail, moved, length-bytes, number, u16-number}
 use Rattle.rl_images.specs.Images.SchemaSorts.{suits, isNarrow, allSuit, and-left, and-right, schema-suits}
 
 -- what the limits say of the numbers that fields hold
@@ -36,17 +36,17 @@ pub width : (k : Sort) (f : Field) → Sized k f → length (encodeField k f) �
 width k (num x) z = length-bytes (widthOf k) x
 width k (pair a b) z = rw (length-append, length-bytes 2 a, length-bytes 2 b, z .1)
 
-pub u16-stands : {s : List ℕ} {at : ℕ} (a : ℕ) → a < 65536 → Stands s at (bytesOf 2 a) → u16At s at ≡ a
+pub u16-stands : {s : List ℕ} {at : ℕ} (a : ℕ) → a < 65536 → BytesAt s at (bytesOf 2 a) → u16At s at ≡ a
 u16-stands {s} {at} a p st = u16-number s at ∙ number 2 a p st
 
 module _ {s : List ℕ} {at : ℕ} where
-  pub first-stands : (a b : ℕ) → a < 65536 → Stands s at (bytesOf 2 a ++ bytesOf 2 b) → u16At s at ≡ a
+  pub first-stands : (a b : ℕ) → a < 65536 → BytesAt s at (bytesOf 2 a ++ bytesOf 2 b) → u16At s at ≡ a
   first-stands a b p st = u16-stands a p (left (bytesOf 2 a) (bytesOf 2 b) st)
 
-  pub second-stands : (a b : ℕ) → b < 65536 → Stands s at (bytesOf 2 a ++ bytesOf 2 b) → u16At s (at + 2) ≡ b
+  pub second-stands : (a b : ℕ) → b < 65536 → BytesAt s at (bytesOf 2 a ++ bytesOf 2 b) → u16At s (at + 2) ≡ b
   second-stands a b p st = u16-stands b p (rw length-bytes at (right (bytesOf 2 a) (bytesOf 2 b) st))
 
-  field-in : (k : Sort) (f : Field) → Sized k f → Stands s at (encodeField k f) → fieldIn s k at ≡ f
+  field-in : (k : Sort) (f : Field) → Sized k f → BytesAt s at (encodeField k f) → fieldIn s k at ≡ f
   field-in k (num x) z st = rw (z .0, number (widthOf k) x (z .1) st)
   field-in k (pair a b) z st = rw (z .0, first-stands a b (z .2) st, second-stands a b (z .3) st)
 
@@ -100,12 +100,12 @@ widths (c ∷ cs) [] z = absurd z
 widths (c ∷ cs) (f ∷ fs) z = rw (length-append, width (sortOf c) f (z .0), widths cs fs (z .1))
 
 -- the bytes after the first field's stand after it
-pub next-field : {s : List ℕ} {at : ℕ} (c : ℕ) (cs : List ℕ) (f : Field) (fs : List Field) → Sized (sortOf c) f → Stands s at (encodeFields (c ∷ cs) (f ∷ fs)) → Stands s (at + widthOf (sortOf c)) (encodeFields cs fs)
+pub next-field : {s : List ℕ} {at : ℕ} (c : ℕ) (cs : List ℕ) (f : Field) (fs : List Field) → Sized (sortOf c) f → BytesAt s at (encodeFields (c ∷ cs) (f ∷ fs)) → BytesAt s (at + widthOf (sortOf c)) (encodeFields cs fs)
 unfolding encodeFields
 next-field {s} {at} c cs f fs z st =
     moved (right (encodeField (sortOf c) f) (encodeFields cs fs) st) (at + widthOf (sortOf c)) (ap (λ (n : ℕ). at + n) (width (sortOf c) f z))
 
-pub fields-in : {s : List ℕ} {at : ℕ} (cs : List ℕ) (fs : List Field) → AllSized cs fs → Stands s at (encodeFields cs fs) → fieldsAt s cs at ≡ fs
+pub fields-in : {s : List ℕ} {at : ℕ} (cs : List ℕ) (fs : List Field) → AllSized cs fs → BytesAt s at (encodeFields cs fs) → fieldsAt s cs at ≡ fs
 unfolding encodeFields fieldsAt
 fields-in [] [] z st = refl
 fields-in [] (f ∷ fs) z st = absurd z
@@ -117,7 +117,7 @@ fields-in (c ∷ cs) (f ∷ fs) z st =
 module _ (im : Image) (bounded : Bounded im) (o : Section) (i : ℕ) (short : i ≤ 4096) where
   pub all-sized : {b : ℕ} {fs : List Field} (narrow : Bool) (cs : List ℕ) → allSuit o narrow cs ≡ true → FieldsFit im o i b (map sortOf cs) fs → AllSized cs fs
   all-sized narrow [] u noFields = tt
-  all-sized narrow (c ∷ cs) u (h ▹ hs) =
+  all-sized narrow (c ∷ cs) u (h & hs) =
       let v : Bool = suits o narrow (sortOf c) in
       let r : Bool = allSuit o (isNarrow (sortOf c)) cs in
       (sized im bounded o i short narrow (and-left v r u) h, all-sized (isNarrow (sortOf c)) cs (and-right v r u) hs)
@@ -135,12 +135,12 @@ pub length-record : (r : Rec) → SizedRecord r → length (encodeRecord r) ≡ 
 unfolding encodeRecord
 length-record r z = ap suc (widths (fieldsOf (r .kind)) (r .fields) z)
 
-module _ {s : List ℕ} {at : ℕ} (r : Rec) (st : Stands s at (encodeRecord r)) where
+module _ {s : List ℕ} {at : ℕ} (r : Rec) (st : BytesAt s at (encodeRecord r)) where
   pub kind-stands : getD s at 0 ≡ r .kind
   unfolding encodeRecord
   kind-stands = head st
 
-  pub fields-stand : Stands s (at + 1) (encodeFields (fieldsOf (r .kind)) (r .fields))
+  pub fields-stand : BytesAt s (at + 1) (encodeFields (fieldsOf (r .kind)) (r .fields))
   unfolding encodeRecord
   fields-stand = tail st
 
@@ -157,14 +157,14 @@ AllSizedRecords [] = Unit {0}
 AllSizedRecords (r ∷ rs) = SizedRecord r × AllSizedRecords rs
 
 module _ {s : List ℕ} where
-  pub records-in : {at : ℕ} (rs : List Rec) → AllSizedRecords rs → Stands s at (encodeRecords rs) → recordsIn s (length rs) at ≡ rs
+  pub records-in : {at : ℕ} (rs : List Rec) → AllSizedRecords rs → BytesAt s at (encodeRecords rs) → recordsIn s (length rs) at ≡ rs
   unfolding recordsIn encodeRecords
   records-in [] z st = refl
   records-in {at} (r ∷ rs) z st =
       let here = left (encodeRecord r) (encodeRecords rs) st in
       rw (record-in r here (z .0), next-at r here (z .0), records-in rs (z .1) (right (encodeRecord r) (encodeRecords rs) st))
 
-  pub end-at : {at : ℕ} (rs : List Rec) → AllSizedRecords rs → Stands s at (encodeRecords rs) → endAt s (length rs) at ≡ at + length (encodeRecords rs)
+  pub end-at : {at : ℕ} (rs : List Rec) → AllSizedRecords rs → BytesAt s at (encodeRecords rs) → endAt s (length rs) at ≡ at + length (encodeRecords rs)
   unfolding endAt encodeRecords
   end-at [] z st = omega arith
   end-at {at} (r ∷ rs) z st =
@@ -184,7 +184,7 @@ module _ (m : ℕ) (d : Rec) where
       let z : length (encodeRecord r) ≡ m = e 0 (omega arith) in
       rw (length-append, z, length-records rs (λ n p. e (suc n) (omega arith)), suc-mul) (omega arith)
 
-  pub nth-stands : {s : List ℕ} {at : ℕ} (rs : List Rec) → Alike rs → Stands s at (encodeRecords rs) → (k : ℕ) → k < length rs → Stands s (at + k * m) (encodeRecord (getD rs k d))
+  pub nth-stands : {s : List ℕ} {at : ℕ} (rs : List Rec) → Alike rs → BytesAt s at (encodeRecords rs) → (k : ℕ) → k < length rs → BytesAt s (at + k * m) (encodeRecord (getD rs k d))
   unfolding encodeRecords
   nth-stands [] e st k p = absurd (omega arith)
   nth-stands {at = at} (r ∷ rs) e st zero p = moved (left (encodeRecord r) (encodeRecords rs) st) (at + 0 * m) (rw zero-mul (omega arith))

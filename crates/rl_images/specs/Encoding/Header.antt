@@ -15,19 +15,13 @@ use Rattle.rl_spec.specs.Bytes.{u16At, u32At}
 use Rattle.rl_spec.specs.Schema.{limits, textBytesAt, sections}
 use Rattle.rl_spec.specs.Read.{countsOf, countsFrom, headerOf, mostStarts}
 use Rattle.rl_spec.specs.Image.{Rec, Image, orderOf, recordsOf, sizeOf, bytesOf, encodeCounts, encodeSections, encode, AllWithin, WellFormed}
-use Rattle.rl_images.specs.Encoding.BytesAt.{Stands, left, right, head, tail, there, length-bytes, number, u32-number}
+use Rattle.rl_images.specs.Encoding.BytesAt.{BytesAt, left, right, head, tail, there, length-bytes, number, u32-number}
+use Rattle.rl_images.specs.Images.Limits.{within-at}
 use Rattle.rl_images.specs.Images.SchemaSorts.{and-left, and-right}
 use Rattle.rl_images.specs.Encoding.FieldWidths.{Bounded, u16-stands}
 use Rattle.rl_images.specs.Encoding.ReaderKnows.{counts}
 
 -- ---- limits
-
-within-at : (ns ms : List ℕ) → AllWithin ns ms → (j : ℕ) → getD ns j 0 ≤ getD ms j 0
-within-at [] [] w j = omega arith
-within-at [] (m ∷ ms) w j = absurd w
-within-at (n ∷ ns) [] w j = absurd w
-within-at (n ∷ ns) (m ∷ ms) w zero = w .0
-within-at (n ∷ ns) (m ∷ ms) w (suc j) = within-at ns ms (w .1) j
 
 within-length : (ns ms : List ℕ) → AllWithin ns ms → length ns ≡ length ms
 within-length [] [] w = refl
@@ -98,7 +92,7 @@ length-twos [] = refl
 length-twos (n ∷ ns) = rw (length-append, length-bytes, length-twos ns) (omega arith)
 
 module _ {s : List ℕ} where
-  twos-at : {at : ℕ} (ns : List ℕ) → Stands s at (twos ns) → (j : ℕ) → getD ns j 0 < 65536 → j < length ns → u16At s (at + j * 2) ≡ getD ns j 0
+  twos-at : {at : ℕ} (ns : List ℕ) → BytesAt s at (twos ns) → (j : ℕ) → getD ns j 0 < 65536 → j < length ns → u16At s (at + j * 2) ≡ getD ns j 0
   twos-at [] st j b l = absurd (omega arith)
   twos-at {at} (n ∷ ns) st zero b l =
       let e : at + 0 * 2 ≡ at = omega arith in
@@ -107,7 +101,7 @@ module _ {s : List ℕ} where
       let e : at + suc j * 2 ≡ at + 2 + j * 2 = omega arith in
       rw e (twos-at ns (rw length-bytes at (right (bytesOf 2 n) (twos ns) st)) j b (omega arith))
 
-  counts-good : {at : ℕ} (ns ms : List ℕ) → AllWithin ns ms → under 65535 ms ≡ true → Stands s at (twos ns) → countsFrom s ms at ≡ Next (at + length ns * 2) 0
+  counts-good : {at : ℕ} (ns ms : List ℕ) → AllWithin ns ms → under 65535 ms ≡ true → BytesAt s at (twos ns) → countsFrom s ms at ≡ Next (at + length ns * 2) 0
   unfolding countsFrom
   counts-good {at} [] [] w u st = let e : at + 0 ≡ at = omega arith in rw e
   counts-good [] (m ∷ ms) w u st = absurd w
@@ -135,28 +129,28 @@ module _ (im : Image) (wf : WellFormed im) where
   unfolding encode
   parts = rw counts-twos (regroup (1 ∷ bytesOf 4 (im .arena)) (bytesOf 2 (length (im .bytes))) (twos (map length (im .records))) (im .bytes) (encodeSections (im .records)))
 
-  whole-stands : Stands (encode im) 0 (1 ∷ bytesOf 4 (im .arena) ++ (twos (numbers im) ++ (im .bytes ++ encodeSections (im .records))))
+  whole-stands : BytesAt (encode im) 0 (1 ∷ bytesOf 4 (im .arena) ++ (twos (numbers im) ++ (im .bytes ++ encodeSections (im .records))))
   whole-stands = record { before = []; rest = []; whole = parts ∙ sym (append-nil _); place = refl }
 
-  after-kind : Stands (encode im) 1 (bytesOf 4 (im .arena) ++ (twos (numbers im) ++ (im .bytes ++ encodeSections (im .records))))
+  after-kind : BytesAt (encode im) 1 (bytesOf 4 (im .arena) ++ (twos (numbers im) ++ (im .bytes ++ encodeSections (im .records))))
   after-kind = tail whole-stands
 
-  arena-stands : Stands (encode im) 1 (bytesOf 4 (im .arena))
+  arena-stands : BytesAt (encode im) 1 (bytesOf 4 (im .arena))
   arena-stands = left (bytesOf 4 (im .arena)) _ after-kind
 
-  after-arena : Stands (encode im) 5 (twos (numbers im) ++ (im .bytes ++ encodeSections (im .records)))
+  after-arena : BytesAt (encode im) 5 (twos (numbers im) ++ (im .bytes ++ encodeSections (im .records)))
   after-arena = rw length-bytes at (right (bytesOf 4 (im .arena)) _ after-kind)
 
-  counts-stand : Stands (encode im) 5 (twos (numbers im))
+  counts-stand : BytesAt (encode im) 5 (twos (numbers im))
   counts-stand = left (twos (numbers im)) (im .bytes ++ encodeSections (im .records)) after-arena
 
-  after-counts : Stands (encode im) textBytesAt (im .bytes ++ encodeSections (im .records))
+  after-counts : BytesAt (encode im) textBytesAt (im .bytes ++ encodeSections (im .records))
   after-counts = rw (length-twos, nine) at (right (twos (numbers im)) (im .bytes ++ encodeSections (im .records)) after-arena)
 
-  pub text-stands : Stands (encode im) textBytesAt (im .bytes)
+  pub text-stands : BytesAt (encode im) textBytesAt (im .bytes)
   text-stands = left (im .bytes) (encodeSections (im .records)) after-counts
 
-  pub sections-stand : Stands (encode im) (textBytesAt + length (im .bytes)) (encodeSections (im .records))
+  pub sections-stand : BytesAt (encode im) (textBytesAt + length (im .bytes)) (encodeSections (im .records))
   sections-stand = right (im .bytes) (encodeSections (im .records)) after-counts
 
   pub length-encode : length (encode im) ≡ textBytesAt + length (im .bytes) + length (encodeSections (im .records))
@@ -177,7 +171,7 @@ module _ (im : Image) (wf : WellFormed im) where
   pub header-good : headerOf (encode im) ≡ Next textBytesAt 0
   unfolding headerOf limits
   header-good =
-      let kind : Stands (encode im) 0 (1 ∷ []) = left (1 ∷ []) _ whole-stands in
+      let kind : BytesAt (encode im) 0 (1 ∷ []) = left (1 ∷ []) _ whole-stands in
       rw (there kind 1 refl, head kind, there arena-stands 4 (length-bytes 4 (im .arena)), counts-good (numbers im) limits (wf .counts) refl counts-stand, nine)
 
   pub counts-are : countsOf (encode im) ≡ counts im

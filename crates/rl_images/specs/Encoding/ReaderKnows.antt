@@ -20,7 +20,7 @@ use Rattle.rl_spec.specs.Schema.{textBytesAt, countOf}
 use Rattle.rl_spec.specs.Fields.{takes, within, listsAt, kindOfStatement, allowed, childHeight, entryAt}
 use Rattle.rl_spec.specs.Read.{seenBy}
 use Rattle.rl_spec.specs.Image.{Image, orderOf, recordsOf, sizeOf, recordOf, encodeRecords, entryOf, sectionOf, sameSection, heightOf, Refers}
-use Rattle.rl_images.specs.Encoding.BytesAt.{Stands}
+use Rattle.rl_images.specs.Encoding.BytesAt.{BytesAt}
 use Rattle.rl_images.specs.Images.SchemaSorts.{refers}
 use Rattle.rl_images.specs.Encoding.FieldChecks.{Ready}
 use Rattle.rl_images.specs.Encoding.SectionLoop.{starts, length-starts, starts-kind, AlwaysReady}
@@ -52,7 +52,7 @@ count-is im Calls = refl
 
 -- the text bytes and the list entries stand in their places
 pub record Placed (im : Image) (s : List ℕ) : Type 0 where
-  pub text : Stands s textBytesAt (im .bytes)
+  pub text : BytesAt s textBytesAt (im .bytes)
   pub entry : (k : ℕ) → k < sizeOf im Lists → u16At s (listsAt (counts im) + k * 3 + 1) ≡ entryOf im k
 
 -- p says where the statements start
@@ -66,7 +66,7 @@ getD-sets w a xs n p q =
     let d = drop-at (take a w) (xs ++ drop (a + length xs) w) a (length-take-le a w (omega arith)) in
     rw (sets-eq xs w a p, ← getD-drop, append-assoc, d) (List·getD-append xs (drop (a + length xs) w) 0 n q)
 
-pub told : (im : Image) (s p : List ℕ) → sizeOf im Expressions + sizeOf im Statements ≤ length p → (at : ℕ) → Stands s at (encodeRecords (recordsOf im Statements)) → Told im s (sets p (sizeOf im Expressions) (starts at (recordsOf im Statements)))
+pub told : (im : Image) (s p : List ℕ) → sizeOf im Expressions + sizeOf im Statements ≤ length p → (at : ℕ) → BytesAt s at (encodeRecords (recordsOf im Statements)) → Told im s (sets p (sizeOf im Expressions) (starts at (recordsOf im Statements)))
 told im s p roomy at st n l =
     let e : length (starts at (recordsOf im Statements)) ≡ sizeOf im Statements = length-starts at (recordsOf im Statements) in
     rw (getD-sets p (sizeOf im Expressions) (starts at (recordsOf im Statements)) n (omega arith) (omega arith))

@@ -13,14 +13,14 @@ use Rattle.rl_spec.specs.declared.Sort.{Sort}
 use Rattle.rl_spec.specs.declared.Step.the-variants.{Next}
 use Rattle.rl_spec.specs.Schema.{tallest, sortOf, widthOf, fieldsOf}
 use Rattle.rl_spec.specs.Fields.{fieldAt, fieldsFrom, recordAt}
-use Rattle.rl_spec.specs.Image.{Field, num, pair, Rec, Image, first, encodeField, encodeFields, encodeRecord, widthsOf, tallestIn, tallestChild, FieldsFit, noFields, _▹_, RecordFits}
-use Rattle.rl_images.specs.Encoding.BytesAt.{Stands, left, there, number, byte-number}
+use Rattle.rl_spec.specs.Image.{Field, num, pair, Rec, Image, first, encodeField, encodeFields, encodeRecord, widthsOf, tallestIn, tallestChild, FieldsFit, noFields, _&_, RecordFits}
+use Rattle.rl_images.specs.Encoding.BytesAt.{BytesAt, left, there, number, byte-number}
 use Rattle.rl_images.specs.Images.SchemaSorts.{suits, isNarrow, allSuit, and-left, and-right, schema-suits}
 use Rattle.rl_images.specs.Encoding.FieldWidths.{Bounded, Sized, AllSized, SizedRecord, width, next-field, record-sized, length-record, kind-stands, fields-stand}
 use Rattle.rl_images.specs.Encoding.FieldChecks.{Ready, value-good}
 
 -- the last byte of a field of one byte is its number
-last-byte : {s : List ℕ} {at : ℕ} (k : Sort) (f : Field) → Sized k f → Stands s at (encodeField k f) → isNarrow k ≡ true → getD s (at + widthOf k - 1) 0 ≡ first f
+last-byte : {s : List ℕ} {at : ℕ} (k : Sort) (f : Field) → Sized k f → BytesAt s at (encodeField k f) → isNarrow k ≡ true → getD s (at + widthOf k - 1) 0 ≡ first f
 last-byte {s} {at} k (num x) z st n =
     let e : widthOf k ≡ 1 = eqb-true (widthOf k) 1 n in
     let a : at + widthOf k - 1 ≡ at = omega arith in
@@ -31,10 +31,10 @@ next : {a b x y : ℕ} → a ≡ b → x ≡ y → Next a x ≡ Next b y
 next d e = cc
 
 module _ (im : Image) (bounded : Bounded im) (s w p : List ℕ) (seen : Counts) (o : Section) (i : ℕ) (h : List ℕ) (short : i ≤ 4096) (ready : Ready im s w p seen o i h) where
-  pub fields-good : {before : ℕ} {fs : List Field} (narrow : Bool) (at tall : ℕ) (cs : List ℕ) → allSuit o narrow cs ≡ true → (narrow ≡ true → getD s (at - 1) 0 ≡ before) → FieldsFit im o i before (map sortOf cs) fs → AllSized cs fs → Stands s at (encodeFields cs fs) → fieldsFrom s w p seen o cs at tall ≡ Next (at + widthsOf cs) (max tall (tallestChild im o h cs fs))
+  pub fields-good : {before : ℕ} {fs : List Field} (narrow : Bool) (at tall : ℕ) (cs : List ℕ) → allSuit o narrow cs ≡ true → (narrow ≡ true → getD s (at - 1) 0 ≡ before) → FieldsFit im o i before (map sortOf cs) fs → AllSized cs fs → BytesAt s at (encodeFields cs fs) → fieldsFrom s w p seen o cs at tall ≡ Next (at + widthsOf cs) (max tall (tallestChild im o h cs fs))
   unfolding fieldsFrom fieldAt encodeFields widthsOf tallestChild
   fields-good narrow at tall [] u b noFields z st = next (omega arith) (omega arith)
-  fields-good narrow at tall (c ∷ cs) u b (_▹_ {f = f} {fs = fs} d ds) z st =
+  fields-good narrow at tall (c ∷ cs) u b (_&_ {f = f} {fs = fs} d ds) z st =
       let k : Sort = sortOf c in
       let here = left (encodeField k f) (encodeFields cs fs) st in
       let e = value-good im bounded s w p seen o i h short ready narrow at tall (and-left (suits o narrow k) (allSuit o (isNarrow k) cs) u) b d (z .0) here in
@@ -44,7 +44,7 @@ module _ (im : Image) (bounded : Bounded im) (s w p : List ℕ) (seen : Counts) 
       ∙ next (omega arith) (omega arith))
 
   module _ (r : Rec) (fits : RecordFits im o i r) where
-    pub record-good : (at : ℕ) → Stands s at (encodeRecord r) → tallestChild im o h (fieldsOf (r .kind)) (r .fields) + 1 ≤ tallest o → recordAt s w p seen o at ≡ Next (at + length (encodeRecord r)) (tallestChild im o h (fieldsOf (r .kind)) (r .fields) + 1)
+    pub record-good : (at : ℕ) → BytesAt s at (encodeRecord r) → tallestChild im o h (fieldsOf (r .kind)) (r .fields) + 1 ≤ tallest o → recordAt s w p seen o at ≡ Next (at + length (encodeRecord r)) (tallestChild im o h (fieldsOf (r .kind)) (r .fields) + 1)
     unfolding recordAt encodeRecord
     record-good at st q =
         let cs : List ℕ = fieldsOf (r .kind) in

@@ -17,7 +17,7 @@ use Rattle.rl_spec.specs.Fields.{recordAt}
 use Rattle.rl_spec.specs.Read.{after, Out, good, bad, seenBy, keep, recordsFrom}
 use Rattle.rl_spec.specs.Image.{Rec, Image, recordsOf, sizeOf, noRecord, recordOf, encodeRecord, encodeRecords, recordIn, nextAt, recordsIn, tallestChild, heightsFrom, heights, RecordFits, AllBytes}
 use Rattle.rl_laws.specs.Tests.{by-ltb}
-use Rattle.rl_images.specs.Encoding.BytesAt.{Stands, left, right}
+use Rattle.rl_images.specs.Encoding.BytesAt.{BytesAt, left, right}
 use Rattle.rl_images.specs.Encoding.FieldWidths.{Bounded, record-sized, kind-stands, next-at}
 use Rattle.rl_images.specs.Encoding.FieldChecks.{Ready}
 use Rattle.rl_images.specs.Encoding.RecordChecks.{record-good}
@@ -95,7 +95,7 @@ unfolding starts
 length-starts at [] = refl
 length-starts at (r ∷ rs) = ap suc (length-starts (at + length (encodeRecord r)) rs)
 
-pub starts-kind : {s : List ℕ} {at : ℕ} (rs : List Rec) → Stands s at (encodeRecords rs) → (n : ℕ) → n < length rs → getD s (getD (starts at rs) n 0) 0 ≡ getD rs n noRecord .kind
+pub starts-kind : {s : List ℕ} {at : ℕ} (rs : List Rec) → BytesAt s at (encodeRecords rs) → (n : ℕ) → n < length rs → getD s (getD (starts at rs) n 0) 0 ≡ getD rs n noRecord .kind
 unfolding starts encodeRecords
 starts-kind [] st n p = absurd (omega arith)
 starts-kind (r ∷ rs) st zero p = kind-stands r (left (encodeRecord r) (encodeRecords rs) st)
@@ -122,13 +122,13 @@ module _ (im : Image) (s : List ℕ) (c : Counts) (o : Section) (start : ℕ) (w
     many : length q ≡ i
     heights-left : heights im o ≡ heightsFrom im o (drop i (recordsOf im o)) h
     starts-left : starts start (recordsOf im o) ≡ q ++ starts at (drop i (recordsOf im o))
-    stands : Stands s at (encodeRecords (drop i (recordsOf im o)))
+    stands : BytesAt s at (encodeRecords (drop i (recordsOf im o)))
 
-  before-first : Stands s start (encodeRecords (recordsOf im o)) → Before 0 start [] []
+  before-first : BytesAt s start (encodeRecords (recordsOf im o)) → Before 0 start [] []
   unfolding heights
   before-first whole = record { tall = refl; many = refl; heights-left = refl; starts-left = refl; stands = whole }
 
-  module _ (bounded : Bounded im) (ready : AlwaysReady im s c o w p) (whole : Stands s start (encodeRecords (recordsOf im o))) where
+  module _ (bounded : Bounded im) (ready : AlwaysReady im s c o w p) (whole : BytesAt s start (encodeRecords (recordsOf im o))) where
     earlier-kinds : (i : ℕ) (q rest : List ℕ) → i ≤ sizeOf im o → length q ≡ i → starts start (recordsOf im o) ≡ q ++ rest → (n : ℕ) → n < i → getD s (getD q n 0) 0 ≡ recordOf im o n .kind
     earlier-kinds i q rest l e d n m =
         let z : getD (starts start (recordsOf im o)) n 0 ≡ getD q n 0 = rw d (List·getD-append q rest 0 n (omega arith)) in
@@ -145,7 +145,7 @@ module _ (im : Image) (s : List ℕ) (c : Counts) (o : Section) (start : ℕ) (w
       records-left : drop i (recordsOf im o) ≡ here ∷ later
       records-left = rw add-one (drop-cons (recordsOf im o) i noRecord l)
 
-      here-stands : Stands s at (encodeRecord here ++ encodeRecords later)
+      here-stands : BytesAt s at (encodeRecord here ++ encodeRecords later)
       unfolding encodeRecords
       here-stands = rw records-left at (b .stands)
 

@@ -13,7 +13,7 @@ use Rattle.rl_spec.specs.Schema.{textBytesAt, sections, lowest, highest, sortOf
 use Rattle.rl_spec.specs.Fields.{listsAt}
 use Rattle.rl_spec.specs.Read.{good, sectionsFrom}
 use Rattle.rl_spec.specs.Image.{Field, Rec, Image, orderOf, recordsOf, sizeOf, noField, noRecord, recordOf, first, entryOf, encodeRecord, encodeRecords, encodeSections, encode, fieldsAt, widthsOf, sectionsIn, heights, WellFormed}
-use Rattle.rl_images.specs.Encoding.BytesAt.{Stands, left, right, moved, u16-number}
+use Rattle.rl_images.specs.Encoding.BytesAt.{BytesAt, left, right, moved, u16-number}
 use Rattle.rl_images.specs.Images.SchemaSorts.{kind-range}
 use Rattle.rl_images.specs.Encoding.FieldWidths.{SizedRecord, AllSizedRecords, record-sized, length-record, fields-in, fields-stand, records-in, end-at, length-records, nth-stands}
 use Rattle.rl_images.specs.Encoding.SectionLoop.{keepAll, starts, AlwaysReady, records-good}
@@ -64,18 +64,18 @@ module _ (im : Image) (wf : WellFormed im) where
     length-at = rw (length-record (recordOf im o i) (sized-at o i l), kind-at)
 
   -- the sections from one on
-  rest-stands : (o : Section) (os : List Section) (at : ℕ) → Stands (encode im) at (encodeSections (map (recordsOf im) (o ∷ os))) → Stands (encode im) at (encodeRecords (recordsOf im o))
+  rest-stands : (o : Section) (os : List Section) (at : ℕ) → BytesAt (encode im) at (encodeSections (map (recordsOf im) (o ∷ os))) → BytesAt (encode im) at (encodeRecords (recordsOf im o))
   unfolding encodeSections
   rest-stands o os at st = left (encodeRecords (recordsOf im o)) (encodeSections (map (recordsOf im) os)) st
 
-  next-stands : (o : Section) (os : List Section) (at : ℕ) → Stands (encode im) at (encodeSections (map (recordsOf im) (o ∷ os))) → Stands (encode im) (at + length (encodeRecords (recordsOf im o))) (encodeSections (map (recordsOf im) os))
+  next-stands : (o : Section) (os : List Section) (at : ℕ) → BytesAt (encode im) at (encodeSections (map (recordsOf im) (o ∷ os))) → BytesAt (encode im) (at + length (encodeRecords (recordsOf im o))) (encodeSections (map (recordsOf im) os))
   unfolding encodeSections
   next-stands o os at st = right (encodeRecords (recordsOf im o)) (encodeSections (map (recordsOf im) os)) st
 
-  all-stand : Stands (encode im) (textBytesAt + length (im .bytes)) (encodeSections (map (recordsOf im) sections))
-  all-stand = subst (λ (rss : List (List Rec)). Stands (encode im) (textBytesAt + length (im .bytes)) (encodeSections rss)) (records-are im wf) (sections-stand im wf)
+  all-stand : BytesAt (encode im) (textBytesAt + length (im .bytes)) (encodeSections (map (recordsOf im) sections))
+  all-stand = subst (λ (rss : List (List Rec)). BytesAt (encode im) (textBytesAt + length (im .bytes)) (encodeSections rss)) (records-are im wf) (sections-stand im wf)
 
-  lists-stand : Stands (encode im) (listsAt (counts im)) (encodeRecords (recordsOf im Lists))
+  lists-stand : BytesAt (encode im) (listsAt (counts im)) (encodeRecords (recordsOf im Lists))
   unfolding sections widthsOf fieldsOf fieldsIn schema sortOf
   lists-stand =
       let os : List Section = Expressions ∷ Statements ∷ Parameters ∷ Clauses ∷ Functions ∷ Calls ∷ [] in
@@ -88,7 +88,7 @@ module _ (im : Image) (wf : WellFormed im) where
   entry-stands k l =
       let at : ℕ = listsAt (counts im) + k * 3 in
       let r : Rec = recordOf im Lists k in
-      let st : Stands (encode im) at (encodeRecord r) = nth-stands 3 noRecord (recordsOf im Lists) (length-at Lists refl) lists-stand k l in
+      let st : BytesAt (encode im) at (encodeRecord r) = nth-stands 3 noRecord (recordsOf im Lists) (length-at Lists refl) lists-stand k l in
       let e = fields-in (fieldsOf (r .kind)) (r .fields) (sized-at Lists k l) (fields-stand r st) in
       let d : fieldsAt (encode im) (fieldsOf 3) (at + 1) ≡ r .fields = subst (λ (j : ℕ). fieldsAt (encode im) (fieldsOf j) (at + 1) ≡ r .fields) (kind-at Lists refl k l) e in
       u16-number (encode im) (at + 1) ∙ ap (λ (fs : List Field). first (getD fs 0 noField)) d
@@ -99,7 +99,7 @@ module _ (im : Image) (wf : WellFormed im) where
   -- ---- the sections
 
   -- one section, and then the others
-  section-good : (o : Section) (os : List Section) (at : ℕ) (w p : List ℕ) → Stands (encode im) at (encodeSections (map (recordsOf im) (o ∷ os))) → AlwaysReady im (encode im) (counts im) o w p → sectionsFrom (encode im) (counts im) (o ∷ os) at w p ≡ sectionsFrom (encode im) (counts im) os (at + length (encodeRecords (recordsOf im o))) (keepAll (counts im) o (heights im o) w) (keepAll (counts im) o (starts at (recordsOf im o)) p)
+  section-good : (o : Section) (os : List Section) (at : ℕ) (w p : List ℕ) → BytesAt (encode im) at (encodeSections (map (recordsOf im) (o ∷ os))) → AlwaysReady im (encode im) (counts im) o w p → sectionsFrom (encode im) (counts im) (o ∷ os) at w p ≡ sectionsFrom (encode im) (counts im) os (at + length (encodeRecords (recordsOf im o))) (keepAll (counts im) o (heights im o) w) (keepAll (counts im) o (starts at (recordsOf im o)) p)
   unfolding sectionsFrom
   section-good o os at w p st ready =
       rw (count-is im o, records-good im (encode im) (counts im) o at w p (bounded im (wf .counts)) ready (rest-stands o os at st) (wf .fits o))
@@ -148,7 +148,7 @@ module _ (im : Image) (wf : WellFormed im) where
 
   -- ---- read back
 
-  sections-in : (os : List Section) (at : ℕ) → Stands (encode im) at (encodeSections (map (recordsOf im) os)) → sectionsIn (encode im) (counts im) os at ≡ map (recordsOf im) os
+  sections-in : (os : List Section) (at : ℕ) → BytesAt (encode im) at (encodeSections (map (recordsOf im) os)) → sectionsIn (encode im) (counts im) os at ≡ map (recordsOf im) os
   unfolding sectionsIn
   sections-in [] at st = refl
   sections-in (o ∷ os) at st =

@@ -9,7 +9,7 @@ use Rattle.rl_spec.specs.declared.Section.the-variants.{Lists}
 use Rattle.rl_spec.specs.declared.Target.{Target}
 use Rattle.rl_spec.specs.declared.Sort.{Sort}
 use Rattle.rl_spec.specs.declared.Sort.the-variants.{Raw, One, Maybe, Many}
-use Rattle.rl_spec.specs.Image.{Field, Image, sizeOf, first, second, Refers, Entries, FieldFits, aRaw, aReference, anOption, aList, FieldsFit, _▹_}
+use Rattle.rl_spec.specs.Image.{Field, Image, sizeOf, first, second, Refers, Entries, FieldFits, aRaw, aReference, anOption, aList, FieldsFit, _&_}
 
 module _ {im : Image} {o : Section} {i before : ℕ} where
   pub raw-says : {n : ℕ} {f : Field} → FieldFits im o i before (Raw n) f → first f < 256 ^ n
@@ -27,7 +27,7 @@ module _ {im : Image} {o : Section} {i before : ℕ} where
 
   module _ {k : Sort} {ks : List Sort} {f : Field} {fs : List Field} where
     pub first-fits : FieldsFit im o i before (k ∷ ks) (f ∷ fs) → FieldFits im o i before k f
-    first-fits (h ▹ hs) = h
+    first-fits (h & hs) = h
 
     pub others-fit : FieldsFit im o i before (k ∷ ks) (f ∷ fs) → FieldsFit im o i (first f) ks fs
-    others-fit (h ▹ hs) = hs
+    others-fit (h & hs) = hs

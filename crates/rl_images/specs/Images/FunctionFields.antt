@@ -9,7 +9,7 @@ use lib.ListN.{length}
 use Rattle.rl_spec.specs.declared.Section.the-variants.{Texts, Lists, Expressions, Parameters, Clauses, Functions}
 use Rattle.rl_spec.specs.declared.Target.the-variants.{Statement}
 use Rattle.rl_spec.specs.Schema.{schema, sortOf, fieldsIn, fieldsOf}
-use Rattle.rl_spec.specs.Image.{Field, Rec, Image, sizeOf, recordOf, fieldOf, first, second, Entries, OperandFits, SortFits, aRaw, aByte, aReference, anOption, aList, aRange, aSort, anOperand, FieldsFit, noFields, _▹_, RecordFits, WellFormed}
+use Rattle.rl_spec.specs.Image.{Field, Rec, Image, sizeOf, recordOf, fieldOf, first, second, Entries, OperandFits, SortFits, aRaw, aByte, aReference, anOption, aList, aRange, aSort, anOperand, FieldsFit, noFields, _&_, RecordFits, WellFormed}
 use Rattle.rl_spec.specs.Tree.{number}
 use Rattle.rl_spec.specs.Records.{paramAt}
 use Rattle.rl_spec.specs.Make.{made}
@@ -23,8 +23,8 @@ ClauseFits im r = (number r 0 < sizeOf im Expressions) × ((number r 1 ≡ 65535
 module _ {im : Image} {i : ℕ} where
   clause-view : {fs : List Field} → FieldsFit im Clauses i 0 (map sortOf (fieldsOf 81)) fs → ClauseFits im (made 81 fs)
   unfolding fieldsOf fieldsIn schema sortOf
-  clause-view (aReference r ▹ anOption (inl q) ▹ noFields) = (r .earlier, inl q)
-  clause-view (aReference r ▹ anOption (inr s) ▹ noFields) = (r .earlier, inr (s .earlier))
+  clause-view (aReference r & anOption (inl q) & noFields) = (r .earlier, inl q)
+  clause-view (aReference r & anOption (inr s) & noFields) = (r .earlier, inr (s .earlier))
 
   pub clause-says : (r : Rec) → RecordFits im Clauses i r → ClauseFits im r
   clause-says r f =
@@ -41,7 +41,7 @@ pub record ParameterFits (im : Image) (r : Rec) : Type 0 where
 module _ {im : Image} {i : ℕ} where
   parameter-view : {fs : List Field} → FieldsFit im Parameters i 0 (map sortOf (fieldsOf 80)) fs → ParameterFits im (made 80 fs)
   unfolding fieldsOf fieldsIn schema sortOf
-  parameter-view (aReference r ▹ aRaw w ▹ aByte l h ▹ aSort s ▹ anOperand o ▹ noFields) = record { name = r .earlier; sort = s; operand = o }
+  parameter-view (aReference r & aRaw w & aByte l h & aSort s & anOperand o & noFields) = record { name = r .earlier; sort = s; operand = o }
 
   pub parameter-says : (r : Rec) → RecordFits im Parameters i r → ParameterFits im r
   parameter-says r f =
@@ -63,7 +63,7 @@ pub record FunctionFits (im : Image) (f : ℕ) (r : Rec) : Type 0 where
 module _ {im : Image} {f : ℕ} where
   function-view : {fs : List Field} → FieldsFit im Functions f 0 (map sortOf (fieldsOf 82)) fs → FunctionFits im f (made 82 fs)
   unfolding fieldsOf fieldsIn schema sortOf
-  function-view (aReference t ▹ aRaw w ▹ aRange p ▹ aByte l h ▹ aList b m e ▹ aRange r ▹ aRange s ▹ noFields) =
+  function-view (aReference t & aRaw w & aRange p & aByte l h & aList b m e & aRange r & aRange s & noFields) =
       record { name = t .earlier; span = w; params = p; inside = b; entries = e; required = r; ensured = s; long = refl }
 
   pub function-says : (r : Rec) → RecordFits im Functions f r → FunctionFits im f r

@@ -19,7 +19,7 @@ use Rattle.rl_spec.specs.declared.Section.the-variants.{Expressions}
 use Rattle.rl_spec.specs.declared.Target.the-variants.{Expression}
 use Rattle.rl_spec.specs.Schema.{sortOf, fieldsOf, fieldsIn, schema}
 use Rattle.rl_spec.specs.Read.{answerOf, startsOf}
-use Rattle.rl_spec.specs.Image.{Field, noField, Rec, Image, recordsOf, sizeOf, noRecord, recordOf, fieldOf, first, second, entryOf, tallestEntry, tallestChild, heightsFrom, heights, imageOf, Entries, aRaw, aByte, aReference, aList, FieldsFit, noFields, _▹_, AllBytes, WellFormed}
+use Rattle.rl_spec.specs.Image.{Field, noField, Rec, Image, recordsOf, sizeOf, noRecord, recordOf, fieldOf, first, second, entryOf, tallestEntry, tallestChild, heightsFrom, heights, imageOf, Entries, aRaw, aByte, aReference, aList, FieldsFit, noFields, _&_, AllBytes, WellFormed}
 use Rattle.rl_spec.specs.Found.{imageFound}
 use Rattle.rl_spec.specs.Tree.{Expr, other, ascii, number, isResPath, below, callForm, formBy, treeBy, exprTree}
 use Rattle.rl_laws.specs.Tests.{by-ltb}
@@ -70,33 +70,33 @@ module _ (im : Image) (i : ℕ) (h : List ℕ) (t : ℕ → Expr ℕ) (low : (n 
 
   binary-low : {fs : List Field} → Fit 32 fs → Under 32 fs (first (getD fs 1 noField)) × Under 32 fs (first (getD fs 3 noField))
   unfolding fieldsOf fieldsIn schema sortOf tallestChild
-  binary-low (aRaw w ▹ aReference {x = m} p ▹ aByte l u ▹ aReference {x = n} q ▹ noFields) =
+  binary-low (aRaw w & aReference {x = m} p & aByte l u & aReference {x = n} q & noFields) =
       (omega (arith, low m (p .earlier)), omega (arith, low n (q .earlier)))
 
   unary-low : {fs : List Field} → Fit 33 fs → Under 33 fs (first (getD fs 2 noField))
   unfolding fieldsOf fieldsIn schema sortOf tallestChild
-  unary-low (aRaw w ▹ aByte l u ▹ aReference {x = n} p ▹ noFields) = omega (arith, low n (p .earlier))
+  unary-low (aRaw w & aByte l u & aReference {x = n} p & noFields) = omega (arith, low n (p .earlier))
 
   grouping-low : {fs : List Field} → Fit 34 fs → Under 34 fs (first (getD fs 1 noField))
   unfolding fieldsOf fieldsIn schema sortOf tallestChild
-  grouping-low (aRaw w ▹ aReference {x = n} p ▹ noFields) = omega (arith, low n (p .earlier))
+  grouping-low (aRaw w & aReference {x = n} p & noFields) = omega (arith, low n (p .earlier))
 
   assign-low : {fs : List Field} → Fit 39 fs → Under 39 fs (first (getD fs 2 noField))
   unfolding fieldsOf fieldsIn schema sortOf tallestChild
-  assign-low (aRaw w ▹ aReference r ▹ aReference {x = n} p ▹ noFields) = omega (arith, low n (p .earlier))
+  assign-low (aRaw w & aReference r & aReference {x = n} p & noFields) = omega (arith, low n (p .earlier))
 
   ok-low : {fs : List Field} → Fit 49 fs → Under 49 fs (first (getD fs 1 noField))
   unfolding fieldsOf fieldsIn schema sortOf tallestChild
-  ok-low (aRaw w ▹ aReference {x = n} p ▹ noFields) = omega (arith, low n (p .earlier))
+  ok-low (aRaw w & aReference {x = n} p & noFields) = omega (arith, low n (p .earlier))
 
   err-low : {fs : List Field} → Fit 50 fs → Under 50 fs (first (getD fs 1 noField))
   unfolding fieldsOf fieldsIn schema sortOf tallestChild
-  err-low (aRaw w ▹ aReference {x = n} p ▹ noFields) = omega (arith, low n (p .earlier))
+  err-low (aRaw w & aReference {x = n} p & noFields) = omega (arith, low n (p .earlier))
 
   -- the argument of a call that has one
   argument-low : {fs : List Field} → Fit 41 fs → second (getD fs 2 noField) ≡ 1 → Under 41 fs (entryOf im (first (getD fs 2 noField)))
   unfolding fieldsOf fieldsIn schema sortOf tallestChild tallestEntry
-  argument-low (aRaw w ▹ aList l m ts ▹ aList {a = a} p q es ▹ noFields) d =
+  argument-low (aRaw w & aList l m ts & aList {a = a} p q es & noFields) d =
       let e : Entries im Expressions i 1 a Expression Expression = rw d at es in
       rw d (omega (arith, low (entryOf im a) (e .0 .earlier)))
 

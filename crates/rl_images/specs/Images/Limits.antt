@@ -16,7 +16,7 @@ use Rattle.rl_images.specs.Images.FunctionFields.{function-fits}
 
 -- ---- the limits
 
-within-at : (ns ms : List ℕ) → AllWithin ns ms → (j : ℕ) → getD ns j 0 ≤ getD ms j 0
+pub within-at : (ns ms : List ℕ) → AllWithin ns ms → (j : ℕ) → getD ns j 0 ≤ getD ms j 0
 within-at [] [] h j = le-refl 0
 within-at [] (m ∷ ms) h j = absurd h
 within-at (n ∷ ns) [] h j = absurd h

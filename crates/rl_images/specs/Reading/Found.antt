@@ -20,7 +20,7 @@ use Rattle.rl_spec.specs.Found.{placeOf, callsAt, functionsAt, clausesAt, param
 use Rattle.rl_laws.specs.Found.{size-found, record-found}
 use Rattle.rl_images.specs.Images.SchemaSorts.{kind-range}
 use Rattle.rl_images.specs.Reading.ReadOutcome.{accepted-header}
-use Rattle.rl_images.specs.Reading.Starts.{sectionAt, widthIn, Stands, starts-expression, starts-statement, stands-by-width, section-places, stands-text, stands-entry, sizes-are-counts}
+use Rattle.rl_images.specs.Reading.Starts.{sectionAt, widthIn, StandsAt, starts-expression, starts-statement, stands-by-width, section-places, stands-text, stands-entry, sizes-are-counts}
 
 -- the kind of a record that stands in a section
 kind-found : (o : Section) (k : ℕ) → inSection o k ≡ true → cond (eqb (lowest o) (highest o)) (lowest o) k ≡ k
@@ -33,7 +33,7 @@ kind-found Clauses k h = omega (arith, kind-range Clauses k h)
 kind-found Functions k h = omega (arith, kind-range Functions k h)
 kind-found Calls k h = omega (arith, kind-range Calls k h)
 
-found-stands : (s : List ℕ) (o : Section) (i at : ℕ) → Stands s o i at → recordAs s (kindFound s o at) at ≡ recordOf (imageOf s) o i
+found-stands : (s : List ℕ) (o : Section) (i at : ℕ) → StandsAt s o i at → recordAs s (kindFound s o at) at ≡ recordOf (imageOf s) o i
 unfolding recordAs recordIn
 found-stands s o i at h = rw (kind-found o (getD s at 0) (h .kind)) (h .found)
 
@@ -52,7 +52,7 @@ module _ (s : List ℕ) (k : ℕ) (a : ArenaNo) (c : Counts) (e : answerOf s k �
   parameters-at = let q = section-places s k a c e .parameters in rw (← clauses-at) (omega arith)
 
   -- each record stands where it is looked for
-  stands-found : (o : Section) (i : ℕ) → i < countOf c o → Stands s o i (placeOf s (startsOf s k) c o i)
+  stands-found : (o : Section) (i : ℕ) → i < countOf c o → StandsAt s o i (placeOf s (startsOf s k) c o i)
   unfolding widthIn widthsOf fieldsOf fieldsIn schema sortOf
   stands-found Texts i h = stands-text s k a c e i h
   stands-found Lists i h = stands-entry s k a c e i h

@@ -68,20 +68,20 @@ record-whole s o (suc n) at zero h r = r .0
 record-whole s o (suc n) at (suc i) h r = record-whole s o n (nextAt s at) i (omega arith) (r .1)
 
 -- the i-th record of a section stands at a place
-pub record Stands (s : List ℕ) (o : Section) (i at : ℕ) : Type 0 where
+pub record StandsAt (s : List ℕ) (o : Section) (i at : ℕ) : Type 0 where
   pub kind : inSection o (getD s at 0) ≡ true
   pub start : at < length s
   pub end : nextAt s at ≤ length s
   pub found : recordIn s at ≡ recordOf (imageOf s) o i
 
-stands-whole : (s : List ℕ) (o : Section) (i at : ℕ) → Whole s o at → recordIn s at ≡ recordOf (imageOf s) o i → Stands s o i at
+stands-whole : (s : List ℕ) (o : Section) (i at : ℕ) → Whole s o at → recordIn s at ≡ recordOf (imageOf s) o i → StandsAt s o i at
 unfolding nextAt
 stands-whole s o i at w e =
     let h : at + 1 + widthsOf (fieldsOf (getD s at 0)) ≤ length s = w .inside in
     record { kind = w .kind; start = omega arith; end = w .inside; found = e }
 
 module _ (s : List ℕ) {p : List ℕ} (r : Reads s p) where
-  stands : (o : Section) (i : ℕ) → i < countOf (countsOf s) o → Stands s o i (endAt s i (sectionAt s o))
+  stands : (o : Section) (i : ℕ) → i < countOf (countsOf s) o → StandsAt s o i (endAt s i (sectionAt s o))
   stands o i h =
       let n : ℕ = countOf (countsOf s) o in
       stands-whole s o i (endAt s i (sectionAt s o)) (record-whole s o n (sectionAt s o) i h (section-whole s o (r .body .found)))
@@ -203,7 +203,7 @@ module _ (s : List ℕ) {p : List ℕ} (r : Reads s p) (o : Section) (e : lowest
   section-end : (i : ℕ) → i ≤ countOf (countsOf s) o → endAt s i (sectionAt s o) ≡ sectionAt s o + i * widthIn o
   section-end i h = even-end s o e (countOf (countsOf s) o) (sectionAt s o) (section-whole s o (r .body .found)) i h
 
-  stands-even : (i : ℕ) → i < countOf (countsOf s) o → Stands s o i (sectionAt s o + i * widthIn o)
+  stands-even : (i : ℕ) → i < countOf (countsOf s) o → StandsAt s o i (sectionAt s o + i * widthIn o)
   stands-even i h = rw (section-end i (omega arith)) at (stands s r o i h)
 
 -- ---- theorems
@@ -220,13 +220,13 @@ pub record SectionPlaces (s : List ℕ) (c : Counts) : Type 0 where
 
 module _ (s : List ℕ) (k : ℕ) (a : ArenaNo) (c : Counts) (e : answerOf s k ≡ Accepted a c) where
   -- THEOREM: the i-th expression stands at the i-th start
-  pub starts-expression : (i : ℕ) → i < c .expressions → Stands s Expressions i (getD (startsOf s k) i 0)
+  pub starts-expression : (i : ℕ) → i < c .expressions → StandsAt s Expressions i (getD (startsOf s k) i 0)
   starts-expression =
       let r = accepted-reads s k a c e in
       rw (accepted-header s k a c e .1) (λ i h. rw (start-expression s r i h) (stands s r Expressions i h))
 
   -- THEOREM: the starts of the statements follow those of the expressions
-  pub starts-statement : (i : ℕ) → i < c .statements → Stands s Statements i (getD (startsOf s k) (c .expressions + i) 0)
+  pub starts-statement : (i : ℕ) → i < c .statements → StandsAt s Statements i (getD (startsOf s k) (c .expressions + i) 0)
   starts-statement =
       let r = accepted-reads s k a c e in
       rw (accepted-header s k a c e .1) (λ i h. rw (start-statement s r i h) (stands s r Statements i h))
@@ -236,7 +236,7 @@ module _ (s : List ℕ) (k : ℕ) (a : ArenaNo) (c : Counts) (e : answerOf s k �
   starts-of = rw (accepted-header s k a c e .1) (starts-are s (accepted-reads s k a c e))
 
   -- THEOREM: the records of a section with one kind stand one width apart
-  pub stands-by-width : (o : Section) → lowest o ≡ highest o → (i : ℕ) → i < countOf c o → Stands s o i (sectionAt s o + i * widthIn o)
+  pub stands-by-width : (o : Section) → lowest o ≡ highest o → (i : ℕ) → i < countOf c o → StandsAt s o i (sectionAt s o + i * widthIn o)
   stands-by-width = rw (accepted-header s k a c e .1) (stands-even s (accepted-reads s k a c e))
 
   -- THEOREM
@@ -258,11 +258,11 @@ module _ (s : List ℕ) (k : ℕ) (a : ArenaNo) (c : Counts) (e : answerOf s k �
           }
 
   -- THEOREM: a text takes 5 bytes, a list entry 3
-  pub stands-text : (i : ℕ) → i < c .texts → Stands s Texts i (textBytesAt + c .bytes + i * 5)
+  pub stands-text : (i : ℕ) → i < c .texts → StandsAt s Texts i (textBytesAt + c .bytes + i * 5)
   unfolding widthIn widthsOf fieldsOf fieldsIn schema sortOf
   stands-text = rw (← section-places .texts) (stands-by-width Texts refl)
 
-  pub stands-entry : (i : ℕ) → i < c .lists → Stands s Lists i (listsAt c + i * 3)
+  pub stands-entry : (i : ℕ) → i < c .lists → StandsAt s Lists i (listsAt c + i * 3)
   unfolding widthIn widthsOf fieldsOf fieldsIn schema sortOf
   stands-entry = rw (← section-places .lists) (stands-by-width Lists refl)
 

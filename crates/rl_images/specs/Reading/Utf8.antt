@@ -9,7 +9,7 @@ use lib.ListN.{length, take, drop}
 use lib.Dec.{T, ltb, leb}
 use borrow.Author.Tests.{ltb-true, leb-true, le-leb, lt-leb}
 use Rattle.rl_laws.specs.Tests.{by-ltb}
-use Rattle.rl_laws.specs.Ranges.{within-yes, within-high}
+use Rattle.rl_laws.specs.Within.{within-yes, within-high}
 use Rattle.rl_spec.specs.Utf8.{Range, _to_, within, utf8Tail, utf8Char, begins, widthBy, charWidth, octets, utf8, isScalar, encodeScalar, encodeText}
 
 abbrev pub All : (ℕ → Bool) → List ℕ → Type 0

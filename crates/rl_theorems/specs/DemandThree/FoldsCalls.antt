@@ -1,9 +1,9 @@
 -- DEMAND 3, SECOND HALF, on definitions: a call that has a report never passes its callee's entry checks.
 -- Assumes nothing.
 use Prim.Native.Nat.{ℕ}
-use mathlib.Core.Path.{_≡_, refl, ap, subst, subst⁻¹}
+use mathlib.Core.Path.{_≡_, subst, subst⁻¹}
 use mathlib.Core.Bool.{Bool}
-use mathlib.Core.List.{List, [], _∷_, map}
+use mathlib.Core.List.{List, [], map, map-map}
 use mathlib.Core.Option.{Option, some}
 use Rattle.rl_spec.specs.Image.{Image, textOf}
 use Rattle.rl_spec.specs.Fold.{Binding, lookup}
@@ -21,10 +21,6 @@ use Rattle.rl_theorems.specs.DemandThree.FoldsChecks.{Over, over, never-
 use Rattle.rl_theorems.specs.Runs.FoldsTexts.{mapNames}
 use Rattle.rl_theorems.specs.DemandThree.FoldsEntry.{NonEmpty, Clean, entry-fails}
 use Rattle.rl_theorems.specs.DemandThree.FoldsNames.{AllNoNames, Distinct, Values, fresh-none, paired, Enters, entered, refused, enters}
-
-param-names : (f : ℕ → Text) (ps : List (Param ℕ)) → map (λ p. p .name) (map (mapParam f) ps) ≡ map (λ p. f (p .name)) ps
-param-names f [] = refl
-param-names f (p ∷ ps) = ap (λ l. f (p .name) ∷ l) (param-names f ps)
 
 -- no name is known before the first argument
 nothing-known : (f : ℕ → Text) → Agrees same (mapNames f []) []
@@ -57,7 +53,7 @@ module _ (im : Image) where
       entry-fails (textOf im) names (ascii "requires violated") ps args (contractsOf im f .requires) (paired (textOf im) [] ps args (h .distinct) (h .closed)) (h .clean) z in
       let goes : Enters (textOf im) names (bindAll (map (λ p. textOf im (p .name)) ps) vs [] budget) =
       enters (textOf im) [] ps args vs (h .distinct) (fresh-none (textOf im) ps) (h .closed) (h .values) [] budget (nothing-known (textOf im)) in
-      subst⁻¹ (λ l. Over (andThen (bindAll l vs [] budget) (λ _. checks same (functionAt im f .result) cs))) (param-names (textOf im) ps)
+      subst⁻¹ (λ l. Over (andThen (bindAll l vs [] budget) (λ _. checks same (functionAt im f .result) cs))) (map-map (λ p. p .name) (mapParam (textOf im)) ps)
       (checked (textOf im) (functionAt im f .result) cs names goes fails)
 
   by-callee : (call : ℕ) (o : Option ℕ) (f : ℕ) → o ≡ some f → NonEmpty (violationsBy im call o) → NonEmpty (proveCall (textOf im) (contractsOf im f) (argumentsOf im call))

@@ -16,7 +16,7 @@ use Rattle.rl_spec.specs.declared.Sort.{Sort}
 use Rattle.rl_spec.specs.declared.Sort.the-variants.{Many}
 use Rattle.rl_spec.specs.Schema.{inSection, sortOf, fieldsOf, fieldsIn, schema}
 use Rattle.rl_spec.specs.Fields.{takes}
-use Rattle.rl_spec.specs.Image.{Field, num, pair, noRecord, Rec, Image, recordsOf, sizeOf, recordOf, entryOf, sectionOf, sameSection, heightOf, tallestEntry, tallestChild, heights, Entries, aRaw, aPart, aList, FieldsFit, noFields, _▹_ as _▸_, RecordFits}
+use Rattle.rl_spec.specs.Image.{Field, num, pair, noRecord, Rec, Image, recordsOf, sizeOf, recordOf, entryOf, sectionOf, sameSection, heightOf, tallestEntry, tallestChild, heights, Entries, aRaw, aPart, aList, FieldsFit, noFields, _&_, RecordFits}
 use Rattle.rl_spec.specs.Make.{Context, Make, andThen, withImage, withBytes, append, made, newText, newList, most, mostBytes}
 use Rattle.rl_images.specs.Encoding.Header.{bounded}
 use Rattle.rl_images.specs.Lowering.Grows.{size-grows, appended, withText, textRecords, listRecords, records-own, Growing}
@@ -106,7 +106,7 @@ text-fits : (im : Image) (s : List ℕ) → Proper s →
 unfolding fieldsOf fieldsIn schema sortOf
 text-fits im s p =
     let e : take (length s) (drop (length (im .bytes)) (im .bytes ++ s)) ≡ s = rw (drop-append-seam (im .bytes) s) (take-length s) in
-    aPart {a = length (im .bytes)} {n = length s} (rw length-append (omega arith)) (rw e (p .is-utf8)) ▸ noFields
+    aPart {a = length (im .bytes)} {n = length s} (rw length-append (omega arith)) (rw e (p .is-utf8)) & noFields
 
 text-low : (im : Image) (h : List ℕ) (f : Field) → tallestChild im Texts h (fieldsOf 2) (f ∷ []) ≡ 0
 unfolding tallestChild fieldsOf fieldsIn schema sortOf
@@ -150,7 +150,7 @@ lists-flat Arm = refl
 
 entry-fits : (im : Image) (i n : ℕ) → n < 65536 → RecordFits im Lists i (made 3 (num n ∷ []))
 unfolding inSection fieldsOf fieldsIn schema sortOf
-entry-fits im i n p = record { kind = refl; fields = aRaw {n = 2} p ▸ noFields; height = flat-height im Lists lists-flat i }
+entry-fits im i n p = record { kind = refl; fields = aRaw {n = 2} p & noFields; height = flat-height im Lists lists-flat i }
 
 refs-small : {im : Image} {o : Section} {h : ℕ} {l r : Target} (ns : List ℕ) → Sound im → Refs im o h l r ns → (j : ℕ) → j < length ns →
     getD ns j 0 < 65536

@@ -15,7 +15,7 @@ use Rattle.rl_spec.specs.declared.Target.{Target}
 use Rattle.rl_spec.specs.declared.Target.the-variants.{Text, Expression, Statement, Branch, ElseBranch, Arm}
 use Rattle.rl_spec.specs.declared.Sort.{Sort}
 use Rattle.rl_spec.specs.Fields.{takes}
-use Rattle.rl_spec.specs.Image.{Field, Rec, Image, orderOf, sizeOf, recordOf, entryOf, sectionOf, sameSection, Refers, Entries, OperandFits, FieldFits, aRaw, aByte, aScalar, aPart, aReference, anOption, aList, aRange, aSort, anOperand, FieldsFit, noFields, _▹_}
+use Rattle.rl_spec.specs.Image.{Field, Rec, Image, orderOf, sizeOf, recordOf, entryOf, sectionOf, sameSection, Refers, Entries, OperandFits, FieldFits, aRaw, aByte, aScalar, aPart, aReference, anOption, aList, aRange, aSort, anOperand, FieldsFit, noFields, _&_}
 use Rattle.rl_images.specs.Lowering.Grows.{Longer, Grows, longer-length, longer-part, size-grows, record-kept, entry-kept}
 
 pub record Keeps (im im′ : Image) : Type 0 where
@@ -94,4 +94,4 @@ module _ {im im′ : Image} (k : Keeps im im′) (o : Section) (i j : ℕ) (l : 
 
   pub fields-kept : {b : ℕ} {ks : List Sort} {fs : List Field} → FieldsFit im o i b ks fs → FieldsFit im′ o j b ks fs
   fields-kept noFields = noFields
-  fields-kept (h ▹ hs) = field-kept h ▹ fields-kept hs
+  fields-kept (h & hs) = field-kept h & fields-kept hs

@@ -16,7 +16,7 @@ use Rattle.rl_spec.specs.declared.Target.{Target}
 use Rattle.rl_spec.specs.declared.Sort.{Sort}
 use Rattle.rl_spec.specs.declared.Sort.the-variants.{Raw, Byte, Scalar, Part, One, Maybe, Many, Range, OperandSort, Operand}
 use Rattle.rl_spec.specs.Schema.{sortOf, fieldsOf}
-use Rattle.rl_spec.specs.Image.{Field, Rec, Image, recordsOf, sizeOf, noRecord, recordOf, first, second, entryOf, sectionOf, sameSection, heightOf, tallestEntry, tallestIn, tallestChild, heightsFrom, heights, Refers, Entries, FieldFits, aRaw, aByte, aScalar, aPart, aReference, anOption, aList, aRange, aSort, anOperand, FieldsFit, noFields, _▹_}
+use Rattle.rl_spec.specs.Image.{Field, Rec, Image, recordsOf, sizeOf, noRecord, recordOf, first, second, entryOf, sectionOf, sameSection, heightOf, tallestEntry, tallestIn, tallestChild, heightsFrom, heights, Refers, Entries, FieldFits, aRaw, aByte, aScalar, aPart, aReference, anOption, aList, aRange, aSort, anOperand, FieldsFit, noFields, _&_}
 use Rattle.rl_laws.specs.Tests.{by-ltb}
 use Rattle.rl_images.specs.Encoding.SectionLoop.{heights-kept}
 use Rattle.rl_images.specs.Encoding.Encoded.{heights-all}
@@ -65,7 +65,7 @@ module _ {im im′ : Image} (k : Keeps im im′) (o : Section) (i : ℕ) (h g : 
       tallestChild im′ o g cs fs ≡ tallestChild im o h cs fs
   unfolding tallestChild
   tallest-child [] noFields = refl
-  tallest-child (c ∷ cs) (e ▹ es) = ap₂ max (tallest-in e) (tallest-child cs es)
+  tallest-child (c ∷ cs) (e & es) = ap₂ max (tallest-in e) (tallest-child cs es)
 
 -- ---- the heights of a section that has grown
 

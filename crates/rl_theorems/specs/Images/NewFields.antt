@@ -11,7 +11,7 @@ use Rattle.rl_spec.specs.declared.Target.{Target}
 use Rattle.rl_spec.specs.declared.Sort.{Sort}
 use Rattle.rl_spec.specs.declared.Sort.the-variants.{Raw, Byte, Scalar, Part, One, Maybe, Many, Range, OperandSort, Operand}
 use Rattle.rl_spec.specs.Schema.{sortOf}
-use Rattle.rl_spec.specs.Image.{Field, num, Image, first, tallestChild, FieldFits, aRaw, aByte, aScalar, aPart, aReference, anOption, aList, aRange, aSort, anOperand, FieldsFit, noFields, _▹_}
+use Rattle.rl_spec.specs.Image.{Field, num, Image, first, tallestChild, FieldFits, aRaw, aByte, aScalar, aPart, aReference, anOption, aList, aRange, aSort, anOperand, FieldsFit, noFields, _&_}
 use Rattle.rl_images.specs.Images.SchemaSorts.{and-left, and-right}
 use Rattle.rl_theorems.specs.Images.NewReferences.{Ref, Held, AllHeld}
 
@@ -54,7 +54,7 @@ nil-held = record { fits = noFields; low = omega arith }
 pub cons-held : {im : Image} {o : Section} {h b c : ℕ} {cs : List ℕ} {f : Field} {fs : List Field} → plain (sortOf c) ≡ true →
     Held im o h (sortOf c) f → AllHeld im o h (first f) cs fs → AllHeld im o h b (c ∷ cs) (f ∷ fs)
 unfolding tallestChild
-cons-held e x xs = record { fits = plain-fits e (x .fits) ▹ xs .fits; low = omega (arith, x .low, xs .low) }
+cons-held e x xs = record { fits = plain-fits e (x .fits) & xs .fits; low = omega (arith, x .low, xs .low) }
 
 pub raw-held : {im : Image} {o : Section} {h m x : ℕ} → x < 256 ^ m → Held im o h (Raw m) (num x)
 raw-held p = record { before = 0; fits = aRaw p; low = omega arith }
@@ -71,11 +71,11 @@ module _ {im : Image} {o : Section} {i : ℕ} where
   before-any : {a b : ℕ} {fs : List Field} (cs : List ℕ) → allPlain cs ≡ true → FieldsFit im o i a (map sortOf cs) fs →
       FieldsFit im o i b (map sortOf cs) fs
   before-any [] e noFields = noFields
-  before-any (c ∷ cs) e (h ▹ hs) = plain-fits (and-left (plain (sortOf c)) (allPlain cs) e) h ▹ hs
+  before-any (c ∷ cs) e (h & hs) = plain-fits (and-left (plain (sortOf c)) (allPlain cs) e) h & hs
 
   pub fields-set : {b : ℕ} {fs : List Field} (j : ℕ) (cs : List ℕ) (v : Field) → allPlain cs ≡ true →
       ((a : ℕ) → FieldFits im o i a (sortOf (getD cs j 0)) v) → FieldsFit im o i b (map sortOf cs) fs →
       FieldsFit im o i b (map sortOf cs) (set fs j v)
   fields-set j [] v e p noFields = noFields
-  fields-set {b} zero (c ∷ cs) v e p (h ▹ hs) = p b ▹ before-any cs (and-right (plain (sortOf c)) (allPlain cs) e) hs
-  fields-set (suc j) (c ∷ cs) v e p (h ▹ hs) = h ▹ fields-set j cs v (and-right (plain (sortOf c)) (allPlain cs) e) p hs
+  fields-set {b} zero (c ∷ cs) v e p (h & hs) = p b & before-any cs (and-right (plain (sortOf c)) (allPlain cs) e) hs
+  fields-set (suc j) (c ∷ cs) v e p (h & hs) = h & fields-set j cs v (and-right (plain (sortOf c)) (allPlain cs) e) p hs

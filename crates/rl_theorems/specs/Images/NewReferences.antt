@@ -12,7 +12,7 @@ use Rattle.rl_spec.specs.declared.Target.{Target}
 use Rattle.rl_spec.specs.declared.Sort.{Sort}
 use Rattle.rl_spec.specs.declared.Sort.the-variants.{Raw, One, Maybe, Many}
 use Rattle.rl_spec.specs.Schema.{sortOf, fieldsOf}
-use Rattle.rl_spec.specs.Image.{Field, noField, Rec, Image, sizeOf, recordOf, first, second, entryOf, sectionOf, heightOf, tallestEntry, tallestIn, tallestChild, heights, Refers, Entries, FieldFits, FieldsFit, noFields, _▹_}
+use Rattle.rl_spec.specs.Image.{Field, noField, Rec, Image, sizeOf, recordOf, first, second, entryOf, sectionOf, heightOf, tallestEntry, tallestIn, tallestChild, heights, Refers, Entries, FieldFits, FieldsFit, noFields, _&_}
 use Rattle.rl_spec.specs.Ranges.{upFrom}
 use Rattle.rl_spec.specs.Make.{entriesOf}
 use Rattle.rl_images.specs.Images.FieldFacts.{raw-says, reference-says, option-says, list-says}
@@ -123,8 +123,8 @@ held-at {im} {o} {h} j cs l x = go j cs l (x .fits) (x .low)
     go : {b : ℕ} {fs : List Field} (j : ℕ) (cs : List ℕ) → j < length cs → FieldsFit im o (sizeOf im o) b (map sortOf cs) fs →
         tallestChild im o (heights im o) cs fs ≤ h → Held im o h (sortOf (getD cs j 0)) (getD fs j noField)
     go j [] l noFields low = absurd (omega arith)
-    go {b} zero (c ∷ cs) l (f ▹ fs) low = record { before = b; fits = f; low = omega (arith, low) }
-    go (suc j) (c ∷ cs) l (f ▹ fs) low = go j cs (omega arith) fs (omega (arith, low))
+    go {b} zero (c ∷ cs) l (f & fs) low = record { before = b; fits = f; low = omega (arith, low) }
+    go (suc j) (c ∷ cs) l (f & fs) low = go j cs (omega arith) fs (omega (arith, low))
 
 -- ---- what a field says
 

@@ -13,7 +13,7 @@ use borrow.Author.Tests.{ltb-true}
 use Rattle.rl_spec.specs.declared.Section.the-variants.{Texts}
 use Rattle.rl_spec.specs.Schema.{sortOf, fieldsOf, fieldsIn, schema}
 use Rattle.rl_spec.specs.Utf8.{utf8, octets, encodeText}
-use Rattle.rl_spec.specs.Image.{Field, noField, Rec, Image, recordOf, first, second, textOf, aPart, FieldsFit, noFields, _▹_, RecordFits, AllBytes}
+use Rattle.rl_spec.specs.Image.{Field, noField, Rec, Image, recordOf, first, second, textOf, aPart, FieldsFit, noFields, _&_, RecordFits, AllBytes}
 use Rattle.rl_spec.specs.Values.{RefineOp, gt, ge, lt, le, eq, ne}
 use Rattle.rl_spec.specs.Tree.{ascii}
 use Rattle.rl_spec.specs.Words.{bits64}
@@ -21,7 +21,7 @@ use Rattle.rl_spec.specs.Contracts.{RefineOperand, integer, str, bool, param, P
 use Rattle.rl_spec.specs.Mapped.{mapOperand, mapRefinement}
 use Rattle.rl_spec.specs.Message.{decimalBy, decimal, integerText, refineOpText, operandText, refinementText}
 use Rattle.rl_images.specs.Encoding.AcceptedParts.{take-bytes, drop-bytes}
-use Rattle.rl_images.specs.Encoding.EncodedBytes.{append-bytes}
+use Rattle.rl_theorems.specs.Reading.EncodedBytes.{append-bytes}
 use Rattle.rl_images.specs.Images.SchemaSorts.{kind-range, and-left, and-right}
 use Rattle.rl_images.specs.Reading.Utf8.{utf8-append, encode-one, scalar-low, encoded-is-utf8}
 
@@ -78,7 +78,7 @@ module _ (im : Image) (bytes : AllBytes (im .bytes)) where
   part-proper : {t : ℕ} {fs : List Field} → FieldsFit im Texts t 0 (map sortOf (fieldsOf 2)) fs →
       Proper (take (second (getD fs 0 noField)) (drop (first (getD fs 0 noField)) (im .bytes)))
   unfolding fieldsOf fieldsIn schema sortOf
-  part-proper (aPart {a} {n} p u ▹ noFields) = record { bytes = take-bytes n (drop a (im .bytes)) (drop-bytes a (im .bytes) bytes); is-utf8 = u }
+  part-proper (aPart {a} {n} p u & noFields) = record { bytes = take-bytes n (drop a (im .bytes)) (drop-bytes a (im .bytes) bytes); is-utf8 = u }
 
   pub text-proper : (t : ℕ) → RecordFits im Texts t (recordOf im Texts t) → Proper (textOf im t)
   text-proper t h =

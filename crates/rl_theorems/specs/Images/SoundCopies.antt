@@ -14,7 +14,7 @@ use Rattle.rl_spec.specs.declared.Target.the-variants.{Text, Expression, Statem
 use Rattle.rl_spec.specs.declared.Sort.{Sort}
 use Rattle.rl_spec.specs.declared.Sort.the-variants.{Raw, Byte, Scalar, Part, One, Maybe, Many, Range, OperandSort, Operand}
 use Rattle.rl_spec.specs.Schema.{inSection, sortOf, fieldsOf, fieldsIn, schema}
-use Rattle.rl_spec.specs.Image.{Field, Rec, Image, sizeOf, recordOf, first, second, entryOf, tallestChild, heights, FieldsFit, noFields, _▹_}
+use Rattle.rl_spec.specs.Image.{Field, Rec, Image, sizeOf, recordOf, first, second, entryOf, tallestChild, heights, FieldsFit, noFields, _&_}
 use Rattle.rl_spec.specs.Tree.{below, descendBy, descend}
 use Rattle.rl_spec.specs.Ranges.{upFrom}
 use Rattle.rl_spec.specs.Make.{Context, Make, _>>=_, give, fail, self, append, made, newList, entriesOf}
@@ -102,7 +102,7 @@ module _ (h : ℕ) (clone : ℕ → Make ℕ) (copies : (n : ℕ) (c : Context) 
       KeepsSound c (λ gs d. (a : ℕ) → AllHeld (d .image) Expressions h a cs gs) (cloneFields clone cs fs c)
   unfolding cloneFields tallestChild
   fields-sure [] c p noFields low = sure-given (λ a. nil-held)
-  fields-sure {b} (k ∷ cs) c p (_▹_ {f = f} x xs) low =
+  fields-sure {b} (k ∷ cs) c p (_&_ {f = f} x xs) low =
       field-sure (sortOf k) f c (record { before = b; fits = x; low = omega (arith, low) }) ⇝ λ g d on y.
       let held : AllHeld (d .image) Expressions h (first f) cs _ = all-on on (record { fits = xs; low = omega (arith, low) }) in
       fields-sure cs d (and-right (plain (sortOf k)) (allPlain cs) p) (held .fits) (held .low) ⇝ λ gs e on′ ys.

@@ -15,7 +15,7 @@ use Rattle.rl_spec.specs.declared.Target.the-variants.{Text, Expression, Statem
 use Rattle.rl_spec.specs.declared.Sort.the-variants.{Many}
 use Rattle.rl_spec.specs.declared.Clause.{Clause}
 use Rattle.rl_spec.specs.Schema.{inSection, sortOf, fieldsOf, fieldsIn, schema}
-use Rattle.rl_spec.specs.Image.{Field, num, Image, sizeOf, tallestChild, aRaw, aByte, aReference, anOption, noFields, _▹_ as _▸_}
+use Rattle.rl_spec.specs.Image.{Field, num, Image, sizeOf, tallestChild, aRaw, aByte, aReference, anOption, noFields, _&_}
 use Rattle.rl_spec.specs.Tree.{ascii}
 use Rattle.rl_spec.specs.Message.{decimal}
 use Rattle.rl_spec.specs.Make.{Context, Make, _>>=_, give, takeTemp, counted, each, newText, stmt, newStmt, absent}
@@ -53,7 +53,7 @@ every-refs (more p ps) = ref p (every-refs ps)
 name-held : (im : Image) (kind span t : ℕ) → fieldsOf kind ≡ fieldsOf 30 → span < 256 ^ 4 → t < sizeOf im Texts →
     AllHeld im Expressions 0 0 (fieldsOf kind) (num span ∷ num t ∷ [])
 unfolding fieldsOf fieldsIn schema sortOf tallestChild
-name-held im kind span t e p q = rw e (record { fits = aRaw p ▸ aReference (record { earlier = q; taken = refl }) ▸ noFields; low = omega arith })
+name-held im kind span t e p q = rw e (record { fits = aRaw p & aReference (record { earlier = q; taken = refl }) & noFields; low = omega arith })
 
 pub ident-sure : (s : List ℕ) → Proper s → (c : Context) → KeepsSound c (Node 1) (ident s c)
 unfolding ident expr inSection fieldsOf fieldsIn schema
@@ -68,19 +68,19 @@ string-sure s p c =
 err-held : {h : ℕ} (c : Context) (msg : ℕ) → Ready c → Node h msg c →
     AllHeld (c .image) Expressions h 0 (fieldsOf 50) (num (c .span) ∷ num msg ∷ [])
 unfolding fieldsOf fieldsIn schema sortOf tallestChild
-err-held c msg r x = record { fits = aRaw (r .span) ▸ aReference (x .refers) ▸ noFields; low = omega (arith, x .low) }
+err-held c msg r x = record { fits = aRaw (r .span) & aReference (x .refers) & noFields; low = omega (arith, x .low) }
 
 not-held : {h : ℕ} (c : Context) (n : ℕ) → Ready c → Node h n c →
     AllHeld (c .image) Expressions h 0 (fieldsOf 33) (num (c .span) ∷ num 5 ∷ num n ∷ [])
 unfolding fieldsOf fieldsIn schema sortOf tallestChild
-not-held c n r x = record { fits = aRaw (r .span) ▸ aByte (lit≤ tt) (lit≤ tt) ▸ aReference (x .refers) ▸ noFields; low = omega (arith, x .low) }
+not-held c n r x = record { fits = aRaw (r .span) & aByte (lit≤ tt) (lit≤ tt) & aReference (x .refers) & noFields; low = omega (arith, x .low) }
 
 call-held : {h : ℕ} (c : Context) (path args : Field) → Ready c → Held (c .image) Expressions 0 (Many Text Text 1) path →
     Held (c .image) Expressions h (Many Expression Expression 1) args →
     AllHeld (c .image) Expressions h 0 (fieldsOf 41) (num (c .span) ∷ path ∷ args ∷ [])
 unfolding fieldsOf fieldsIn schema sortOf tallestChild
 call-held c path args r p q =
-    record { fits = aRaw (r .span) ▸ plain-fits refl (p .fits) ▸ plain-fits refl (q .fits) ▸ noFields; low = omega (arith, p .low, q .low) }
+    record { fits = aRaw (r .span) & plain-fits refl (p .fits) & plain-fits refl (q .fits) & noFields; low = omega (arith, p .low, q .low) }
 
 -- the texts of a path
 texts-sure : (ss : List (List ℕ)) (c : Context) → Every (λ s d. Proper s) c ss →
@@ -106,7 +106,7 @@ unwrap-sure x c l q = call-sure (ascii "result_unwrap") unwrap-proper x c l q
 there-held : (kind : ℕ) (c : Context) (n : ℕ) → fieldsOf kind ≡ fieldsOf 66 → Ready c → n < sizeOf (c .image) Expressions →
     AllHeld (c .image) Statements 0 0 (fieldsOf kind) (num (c .span) ∷ num n ∷ [])
 unfolding fieldsOf fieldsIn schema sortOf tallestChild
-there-held kind c n e r p = rw e (record { fits = aRaw (r .span) ▸ aReference (record { earlier = p; taken = refl }) ▸ noFields; low = omega arith })
+there-held kind c n e r p = rw e (record { fits = aRaw (r .span) & aReference (record { earlier = p; taken = refl }) & noFields; low = omega arith })
 
 return-sure : (n : ℕ) (c : Context) → n < sizeOf (c .image) Expressions → KeepsSound c (Line 1) (newStmt 66 (num n ∷ []) c)
 unfolding stmt inSection
@@ -126,15 +126,15 @@ branch-held : {h : ℕ} (c : Context) (condition : ℕ) (body : Field) → Ready
 unfolding fieldsOf fieldsIn schema sortOf tallestChild
 branch-held c condition body r p q =
     record {
-      fits = aRaw (r .span) ▸ anOption (inr (record { earlier = p; taken = refl })) ▸ plain-fits refl (q .fits) ▸ aByte (lit≤ tt) (lit≤ tt)
-          ▸ noFields;
+      fits = aRaw (r .span) & anOption (inr (record { earlier = p; taken = refl })) & plain-fits refl (q .fits) & aByte (lit≤ tt) (lit≤ tt)
+          & noFields;
       low = omega (arith, q .low, cond-zero (eqb condition 65535));
     }
 
 only-held : {h : ℕ} (c : Context) (branch : ℕ) → Ready c → Ref (c .image) Statements h Branch branch →
     AllHeld (c .image) Statements h 0 (fieldsOf 68) (num (c .span) ∷ num branch ∷ absent ∷ [])
 unfolding fieldsOf fieldsIn schema sortOf tallestChild
-only-held c branch r x = record { fits = aRaw (r .span) ▸ aReference (x .refers) ▸ anOption (inl refl) ▸ noFields; low = omega (arith, x .low) }
+only-held c branch r x = record { fits = aRaw (r .span) & aReference (x .refers) & anOption (inl refl) & noFields; low = omega (arith, x .low) }
 
 pub only-if-sure : {h : ℕ} (condition s : ℕ) (c : Context) → h < 34 → condition < sizeOf (c .image) Expressions → Line h s c →
     KeepsSound c (Line (h + 1 + 1)) (onlyIf condition s c)
@@ -198,8 +198,8 @@ declare-held : (c : Context) (t value : ℕ) → Ready c → t < sizeOf (c .imag
 unfolding fieldsOf fieldsIn schema sortOf tallestChild
 declare-held c t value r p q =
     record {
-      fits = aRaw (r .span) ▸ aReference (record { earlier = p; taken = refl }) ▸ aRaw (lit< tt)
-          ▸ aReference (record { earlier = q; taken = refl }) ▸ aRaw (lit< tt) ▸ noFields;
+      fits = aRaw (r .span) & aReference (record { earlier = p; taken = refl }) & aRaw (lit< tt)
+          & aReference (record { earlier = q; taken = refl }) & aRaw (lit< tt) & noFields;
       low = omega arith;
     }
 

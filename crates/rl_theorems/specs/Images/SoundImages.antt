@@ -13,7 +13,7 @@ use Rattle.rl_spec.specs.Schema.{limits, sections, tallest, inSection, sortOf, 
 use Rattle.rl_spec.specs.Image.{Rec, Image, orderOf, recordsOf, sizeOf, noRecord, recordOf, tallestChild, heights, encode, FieldsFit, RecordFits, AllBytes, AllWithin, WellFormed}
 use Rattle.rl_spec.specs.Make.{withBytes, most, mostBytes}
 use Rattle.rl_laws.specs.Tests.{by-ltb, by-eqb}
-use Rattle.rl_images.specs.Encoding.EncodedBytes.{append-bytes}
+use Rattle.rl_theorems.specs.Reading.EncodedBytes.{append-bytes}
 use Rattle.rl_images.specs.Lowering.Grows.{Longer, Grows, Eight, eight-sections, Growing, appended, appended-grows, bytes-grow, grows-records, record-kept, records-own, records-other}
 use Rattle.rl_theorems.specs.Images.KeptFields.{fields-kept, grows-keeps}
 use Rattle.rl_theorems.specs.Images.KeptHeights.{AllFit, height-stays, height-new}

@@ -1,19 +1,19 @@
 -- Demand 3, from records to trees: the function of the lowered image is what the function's tree is lowered to.
 -- Assumes nothing.
-use Prim.Native.Nat.{ℕ, zero, suc, _+_, _≤_, _<_}
+use Prim.Native.Nat.{ℕ, _+_, _<_}
 use mathlib.Core.Path.{_≡_, refl, ap, ap₂, sym, _∙_, subst}
 use mathlib.Core.Bool.{Bool, true, false, not, cond, _||_, true≢false}
-use mathlib.Core.List.{List, [], _∷_, _++_, map}
+use mathlib.Core.List.{List, [], _∷_, _++_, map, map-map}
 use mathlib.Core.Option.{Option, none, some, Option·some-injective, Option·none-ne-some}
 use native.Mathlib.Omega.{arith}
 use lib.Dec.{ltb}
 use lib.ListN.{length, getD}
 use lib.Seq.{getD-set-same, getD-set-other}
-use Rattle.rl_spec.specs.declared.Section.the-variants.{Texts, Parameters, Functions}
+use Rattle.rl_spec.specs.declared.Section.the-variants.{Functions}
 use Rattle.rl_spec.specs.Image.{Field, noField, Rec, Image, recordsOf, sizeOf, noRecord, recordOf, fieldOf, first, textOf, encode, WellFormed}
 use Rattle.rl_spec.specs.Tree.{ascii}
 use Rattle.rl_spec.specs.Statement.{Body, bodyTree}
-use Rattle.rl_spec.specs.Ranges.{interval, upFrom, numbersIn}
+use Rattle.rl_spec.specs.Ranges.{interval, numbersIn}
 use Rattle.rl_spec.specs.Records.{paramAt, clauseAt, functionAt}
 use Rattle.rl_spec.specs.Contracts.{ParamRefinement, Param, clauseOf, anyRefined, isEmpty, isSome, paramOf, contractsOf}
 use Rattle.rl_spec.specs.Mapped.{Text, mapBody, mapParam, mapClause}
@@ -28,16 +28,16 @@ use Rattle.rl_theorems.specs.Lowering.LowerBodies.{Ensured}
 use Rattle.rl_theorems.specs.Lowering.LoweredTo.{EnsuredTo, asIs, LoweredTo, lowered-to-runs}
 use Rattle.rl_theorems.specs.Runs.TextRuns.{mapFunction}
 use Rattle.rl_theorems.specs.Runs.ProvesTexts.{any-same}
-use Rattle.rl_images.specs.Lowering.Grows.{eight-sections, records-own, records-other, text-kept}
+use Rattle.rl_images.specs.Lowering.Grows.{eight-sections, records-own}
 use Rattle.rl_images.specs.Lowering.GrowsTo.{Later, GrowsTo, _▷_, _▹_, good-is}
-use Rattle.rl_theorems.specs.Trees.Denotes.{Says, Holds}
+use Rattle.rl_theorems.specs.Trees.Denotes.{Holds}
 use Rattle.rl_theorems.specs.Trees.DenotedTrees.{body-of}
-use Rattle.rl_theorems.specs.Trees.DenotingExpressions.{text-says}
 use Rattle.rl_theorems.specs.Lowering.MadeTrees.{list-ok}
 use Rattle.rl_theorems.specs.Lowering.Guarded.{Lines, keep-lines}
-use Rattle.rl_theorems.specs.Trees.SameTrees.{body-same, text-same}
+use Rattle.rl_theorems.specs.Trees.SameTrees.{body-same}
+use Rattle.rl_theorems.specs.Lowering.FinishedImage as finished
 use Rattle.rl_theorems.specs.Lowering.Desugared.{desugared-ok}
-use Rattle.rl_images.specs.Images.FunctionFields.{name-inside, FunctionFits, function-fits}
+use Rattle.rl_images.specs.Images.FunctionFields.{FunctionFits, function-fits}
 use Rattle.rl_theorems.specs.Trees.FunctionTrees.{clauses-check, body-stands}
 
 -- ---- no contracts
@@ -65,8 +65,9 @@ no-checks (p ∷ ps) h =
 param-names : (im : Image) (is : List ℕ) →
     map (textOf im) (map (λ i. paramAt im i .name) is) ≡ map (λ p. p .name) (map (mapParam (textOf im)) (map (paramOf im) is))
 unfolding paramOf
-param-names im [] = refl
-param-names im (i ∷ is) = ap (λ l. textOf im (paramAt im i .name) ∷ l) (param-names im is)
+param-names im is =
+    map-map (textOf im) (λ i. paramAt im i .name) is
+    ∙ sym (map-map (λ p. p .name) (mapParam (textOf im)) (map (paramOf im) is) ∙ map-map (λ p. textOf im (p .name)) (paramOf im) is)
 
 -- ---- the function of the finished image
 
@@ -90,7 +91,7 @@ module _ (im : Image) (wf : WellFormed im) (f : ℕ) (inside : f < sizeOf im Fun
 
   module _ (c : Context) (later : Later (start im f) c) (list : Field) where
     abbrev end : Image
-    end = withBody (c .image) f list
+    end = finished.end im wf f c later list
 
     abbrev own : Rec
     own = recordOf im Functions f
@@ -110,36 +111,16 @@ module _ (im : Image) (wf : WellFormed im) (f : ℕ) (inside : f < sizeOf im Fun
     unfolding functionAt
     same-params = ap (λ r. interval (fieldOf r 2)) own-record ∙ ap interval (getD-set-other (own .fields) 4 2 list noField (λ h. omega arith))
 
-    -- a text of the original
-    same-text : (t : ℕ) → t < sizeOf im Texts → textOf end t ≡ textOf im t
-    same-text t h =
-        let s : Says im t (textOf im t) = text-says im wf t h in
-        text-same (c .image) _ t ∙ text-kept (later .image) t (s .inside) (s .part)
-
     same-own-name : functionAt end f .name ≡ functionAt im f .name
     unfolding functionAt
     same-own-name = ap (λ r. first (fieldOf r 0)) own-record ∙ ap first (getD-set-other (own .fields) 4 0 list noField (λ h. omega arith))
 
-    same-name : (i : ℕ) → i < sizeOf im Parameters → textOf end (paramAt end i .name) ≡ textOf im (paramAt im i .name)
-    unfolding paramAt
-    same-name i h =
-        ap (λ l. textOf end (first (fieldOf (getD l i noRecord) 0)))
-        (records-other (c .image) Functions Parameters _ (λ h. omega arith) ∙ later .image .parameters)
-        ∙ same-text (paramAt im i .name) (name-inside im wf i h)
-
-    same-names : (a n : ℕ) → a + n ≤ sizeOf im Parameters →
-        map (λ p. p .name) (map (mapParam (textOf end)) (map (paramOf end) (upFrom a n)))
-        ≡ map (λ p. p .name) (map (mapParam (textOf im)) (map (paramOf im) (upFrom a n)))
-    unfolding upFrom paramOf
-    same-names a zero h = refl
-    same-names a (suc n) h = ap₂ (λ x xs. x ∷ xs) (same-name a (omega arith)) (same-names (a + 1) n (omega arith))
-
     finished-to : Made list c → LoweredTo source (contractFunction end f)
     unfolding contractFunction contractsOf functionAt
     finished-to h = record {
-      name = ap (textOf end) same-own-name ∙ same-text _ (function-fits im wf f inside .name);
+      name = ap (textOf end) same-own-name ∙ finished.same-text im wf f c later list _ (function-fits im wf f inside .name);
       params = ap (λ l. map (λ p. p .name) (map (mapParam (textOf end)) (map (paramOf end) (numbersIn l)))) same-params
-          ∙ same-names _ _ (function-fits im wf f inside .params);
+          ∙ ap (map (λ p. p .name)) (finished.same-params im wf f c later list _ _ (function-fits im wf f inside .params));
       rest = h .0;
       ensured = h .4;
       body = ap (λ l. mapBody (textOf end) (bodyTree end l)) new-body

@@ -217,7 +217,7 @@ read-within s k =
 part-part : (s : List ℕ) (m a n : ℕ) → textBytesAt + m ≤ length s → a + n ≤ m → take n (drop (textBytesAt + a) s) ≡ take n (drop a (take m (drop textBytesAt s)))
 part-part s m a n h l =
     let x : List ℕ = take m (drop textBytesAt s) in
-    let st : standing.Stands s textBytesAt x = record {
+    let st : standing.BytesAt s textBytesAt x = record {
       before = take textBytesAt s;
       rest = drop m (drop textBytesAt s);
       whole = rw (take-append-drop m (drop textBytesAt s), take-append-drop textBytesAt s) refl;

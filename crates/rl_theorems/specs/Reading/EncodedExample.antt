@@ -14,7 +14,7 @@ use Rattle.rl_spec.specs.Utf8.{within, utf8Char, begins, widthBy, charWidth, oc
 use Rattle.rl_spec.specs.Bytes.{u16At, u32At, past}
 use Rattle.rl_spec.specs.Fields.{kindOfStatement, allowed, childHeight, entryAt, rangeOf, partOf, byteIn, referTo, entriesFrom, listOf, valueOf, fieldAt, fieldsFrom, recordAt}
 use Rattle.rl_spec.specs.Read.{countsOf, countsFrom, headerOf, recordsFrom, sectionsFrom, endOf, bodyOf, readOf, answerOf}
-use Rattle.rl_spec.specs.Image.{Field, num, pair, Rec, Image, sizeOf, recordOf, bytesOf, encodeFields, encodeRecord, encodeRecords, encodeSections, encodeCounts, encode, tallestEntry, tallestChild, heightsFrom, heights, Refers, aRaw, aByte, aPart, aReference, aList, aRange, noFields, _▹_, RecordFits, WellFormed}
+use Rattle.rl_spec.specs.Image.{Field, num, pair, Rec, Image, sizeOf, recordOf, bytesOf, encodeFields, encodeRecord, encodeRecords, encodeSections, encodeCounts, encode, tallestEntry, tallestChild, heightsFrom, heights, Refers, aRaw, aByte, aPart, aReference, aList, aRange, noFields, _&_, RecordFits, WellFormed}
 
 abbrev made : ℕ → List Field → Rec
 made k fs = record { kind = k; fields = fs }
@@ -38,16 +38,16 @@ example =
 
 example-fits : (o : Section) (i : ℕ) → i < sizeOf example o → RecordFits example o i (recordOf example o i)
 unfolding inSection fieldsOf fieldsIn schema sortOf heights heightsFrom tallestChild tallestEntry utf8 octets charWidth widthBy begins utf8Char within
-example-fits Texts zero l = record { kind = refl; fields = aPart (lit≤ tt) refl ▹ noFields; height = lit≤ tt }
+example-fits Texts zero l = record { kind = refl; fields = aPart (lit≤ tt) refl & noFields; height = lit≤ tt }
 example-fits Texts (suc i) l = absurd (omega arith)
-example-fits Lists zero l = record { kind = refl; fields = aRaw (lit< tt) ▹ noFields; height = lit≤ tt }
+example-fits Lists zero l = record { kind = refl; fields = aRaw (lit< tt) & noFields; height = lit≤ tt }
 example-fits Lists (suc i) l = absurd (omega arith)
-example-fits Expressions zero l = record { kind = refl; fields = aRaw (lit< tt) ▹ noFields; height = lit≤ tt }
+example-fits Expressions zero l = record { kind = refl; fields = aRaw (lit< tt) & noFields; height = lit≤ tt }
 example-fits Expressions (suc zero) l =
-    record { kind = refl; fields = aRaw (lit< tt) ▹ aReference (record { earlier = lit< tt; taken = refl }) ▹ noFields; height = lit≤ tt }
+    record { kind = refl; fields = aRaw (lit< tt) & aReference (record { earlier = lit< tt; taken = refl }) & noFields; height = lit≤ tt }
 example-fits Expressions (suc (suc i)) l = absurd (omega arith)
 example-fits Statements zero l =
-    record { kind = refl; fields = aRaw (lit< tt) ▹ aReference (record { earlier = lit< tt; taken = refl }) ▹ noFields; height = lit≤ tt }
+    record { kind = refl; fields = aRaw (lit< tt) & aReference (record { earlier = lit< tt; taken = refl }) & noFields; height = lit≤ tt }
 example-fits Statements (suc i) l = absurd (omega arith)
 example-fits Parameters i l = absurd (omega arith)
 example-fits Clauses i l = absurd (omega arith)
@@ -56,8 +56,8 @@ example-fits Functions zero l =
     let body : Refers example Functions 0 Target.Statement 0 = record { earlier = lit< tt; taken = refl } in
     record {
       kind = refl;
-      fields = aReference name ▹ aRaw (lit< tt) ▹ aRange (lit≤ tt) ▹ aByte (lit≤ tt) (lit≤ tt) ▹ aList {n = 1} (lit≤ tt) refl (body, tt)
-          ▹ aRange (lit≤ tt) ▹ aRange (lit≤ tt) ▹ noFields;
+      fields = aReference name & aRaw (lit< tt) & aRange (lit≤ tt) & aByte (lit≤ tt) (lit≤ tt) & aList {n = 1} (lit≤ tt) refl (body, tt)
+          & aRange (lit≤ tt) & aRange (lit≤ tt) & noFields;
       height = lit≤ tt;
     }
 example-fits Functions (suc i) l = absurd (omega arith)
@@ -66,7 +66,7 @@ example-fits Calls zero l =
     let argument : Refers example Calls 0 Target.Expression 0 = record { earlier = lit< tt; taken = refl } in
     record {
       kind = refl;
-      fields = aReference callee ▹ aRaw (lit< tt) ▹ aList {n = 1} (lit≤ tt) refl (argument, tt) ▹ noFields;
+      fields = aReference callee & aRaw (lit< tt) & aList {n = 1} (lit≤ tt) refl (argument, tt) & noFields;
       height = lit≤ tt;
     }
 example-fits Calls (suc i) l = absurd (omega arith)

@@ -3,7 +3,7 @@
 -- Assumes nothing.
 use Prim.Native.Nat.{ℕ, _+_}
 use mathlib.Core.Path.{_≡_, refl, ap, ap₂, _∙_}
-use mathlib.Core.Bool.{true, false, not, _||_}
+use mathlib.Core.Bool.{true, false, _||_}
 use mathlib.Core.List.{List, [], _∷_, _++_, map}
 use mathlib.Core.Option.{Option, none, some, Option·map}
 use Rattle.rl_spec.specs.declared.Violation.the-variants.{Refinement, Requires}
@@ -11,7 +11,7 @@ use Rattle.rl_spec.specs.Values as value
 use Rattle.rl_spec.specs.Values.{ConstVal, RefineOp}
 use Rattle.rl_spec.specs.Tree.{Expr}
 use Rattle.rl_spec.specs.Fold.{Binding, constEval}
-use Rattle.rl_spec.specs.Contracts.{RefineOperand, integer, str, bool, param, ParamRefinement, Param, ContractClause, FnContracts, isSome, anyRefined, isEmpty, hasContracts}
+use Rattle.rl_spec.specs.Contracts.{RefineOperand, integer, str, bool, param, ParamRefinement, Param, ContractClause, FnContracts, isSome, anyRefined}
 use Rattle.rl_spec.specs.Prove.{bound, isNo, isFalse, report, bindArguments, refineBound, refutes, failsAt, failedRefinements, failedRequires, proveCall}
 use Rattle.rl_spec.specs.Mapped.{mapExpr, mapOperand, mapRefinement, mapParam, mapClause, mapContracts}
 use Rattle.rl_theorems.specs.Runs.Texts.{mapMaybe, compare-same}
@@ -39,13 +39,6 @@ module _ {A B : Type 0} (f : A → B) where
   unfolding anyRefined
   any-same [] = refl
   any-same (p ∷ ps) = ap₂ _||_ (some-same (p .refinement)) (any-same ps)
-
-  empty-same : (cs : List (ContractClause A)) → isEmpty (map (mapClause f) cs) ≡ isEmpty cs
-  empty-same [] = refl
-  empty-same (c ∷ cs) = refl
-
-  pub has-mapped : (c : FnContracts A) → hasContracts (mapContracts f c) ≡ hasContracts c
-  has-mapped c = ap₂ (λ x y. not x || y) (empty-same (c .requires)) (any-same (c .params))
 
 module _ {A B : Type 0} (f : A → B) (bytesA : A → List ℕ) (bytesB : B → List ℕ) (keeps : (t : A) → bytesB (f t) ≡ bytesA t) where
   bind-same : (env : List (Binding A)) (ps : List (Param A)) (args : List (Expr A)) →

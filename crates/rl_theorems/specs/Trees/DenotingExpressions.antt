@@ -12,7 +12,7 @@ use Rattle.rl_spec.specs.declared.Section.{Section}
 use Rattle.rl_spec.specs.declared.Section.the-variants.{Texts, Lists, Expressions, Statements, Parameters, Clauses, Functions, Calls}
 use Rattle.rl_spec.specs.declared.Target.the-variants.{Text as aText, Expression}
 use Rattle.rl_spec.specs.Schema.{limits, schema, sortOf, fieldsIn, fieldsOf}
-use Rattle.rl_spec.specs.Image.{Field, Image, sizeOf, recordOf, fieldOf, first, second, entryOf, textOf, Entries, aRaw, aByte, aPart, aReference, aList, FieldsFit, noFields, _▹_, RecordFits, WellFormed}
+use Rattle.rl_spec.specs.Image.{Field, Image, sizeOf, recordOf, fieldOf, first, second, entryOf, textOf, Entries, aRaw, aByte, aPart, aReference, aList, FieldsFit, noFields, _&_, RecordFits, WellFormed}
 use Rattle.rl_spec.specs.Tree.{Expr, formBy}
 use Rattle.rl_spec.specs.Ranges.{upFrom}
 use Rattle.rl_spec.specs.Mapped.{Text}
@@ -43,7 +43,7 @@ module _ (im : Image) (wf : WellFormed im) where
   part-fits : {t : ℕ} {fs : List Field} → FieldsFit im Texts t 0 (map sortOf (fieldsOf 2)) fs →
       first (fieldOf (made 2 fs) 0) + second (fieldOf (made 2 fs) 0) ≤ length (im .bytes)
   unfolding fieldsOf fieldsIn schema sortOf
-  part-fits (aPart p u ▹ noFields) = p
+  part-fits (aPart p u & noFields) = p
 
   pub text-says : (t : ℕ) → t < sizeOf im Texts → Says im t (textOf im t)
   text-says t h =
@@ -78,72 +78,72 @@ module _ (im : Image) (wf : WellFormed im) where
 
     null-reads : {fs : List Field} → Fit i 16 fs → Some i 16 fs
     unfolding fieldsOf fieldsIn schema sortOf
-    null-reads (aRaw w ▹ noFields) = (_, aNull refl)
+    null-reads (aRaw w & noFields) = (_, aNull refl)
 
     integer-reads : {fs : List Field} → Fit i 17 fs → Some i 17 fs
     unfolding fieldsOf fieldsIn schema sortOf
-    integer-reads (aRaw w ▹ aRaw v ▹ noFields) = (_, aLiteral anInteger)
+    integer-reads (aRaw w & aRaw v & noFields) = (_, aLiteral anInteger)
 
     sint-reads : {fs : List Field} → Fit i 18 fs → Some i 18 fs
     unfolding fieldsOf fieldsIn schema sortOf
-    sint-reads (aRaw w ▹ aRaw v ▹ noFields) = (_, aLiteral anSInt)
+    sint-reads (aRaw w & aRaw v & noFields) = (_, aLiteral anSInt)
 
     uint-reads : {fs : List Field} → Fit i 19 fs → Some i 19 fs
     unfolding fieldsOf fieldsIn schema sortOf
-    uint-reads (aRaw w ▹ aRaw v ▹ noFields) = (_, aLiteral aUInt)
+    uint-reads (aRaw w & aRaw v & noFields) = (_, aLiteral aUInt)
 
     string-reads : {fs : List Field} → Fit i 25 fs → Some i 25 fs
     unfolding fieldsOf fieldsIn schema sortOf
-    string-reads (aRaw w ▹ aReference {x = t} r ▹ noFields) = (_, aString refl (text-says t (r .earlier)))
+    string-reads (aRaw w & aReference {x = t} r & noFields) = (_, aString refl (text-says t (r .earlier)))
 
     bool-reads : {fs : List Field} → Fit i 26 fs → Some i 26 fs
     unfolding fieldsOf fieldsIn schema sortOf
-    bool-reads (aRaw w ▹ aByte l h ▹ noFields) = (_, aLiteral aBool)
+    bool-reads (aRaw w & aByte l h & noFields) = (_, aLiteral aBool)
 
     float-reads : {fs : List Field} → Fit i 27 fs → Some i 27 fs
     unfolding fieldsOf fieldsIn schema sortOf
-    float-reads (aRaw w ▹ aRaw v ▹ noFields) = (_, aLiteral aFloat)
+    float-reads (aRaw w & aRaw v & noFields) = (_, aLiteral aFloat)
 
     sfloat-reads : {fs : List Field} → Fit i 28 fs → Some i 28 fs
     unfolding fieldsOf fieldsIn schema sortOf
-    sfloat-reads (aRaw w ▹ aRaw v ▹ noFields) = (_, aLiteral anSFloat)
+    sfloat-reads (aRaw w & aRaw v & noFields) = (_, aLiteral anSFloat)
 
     identifier-reads : {fs : List Field} → Fit i 30 fs → Some i 30 fs
     unfolding fieldsOf fieldsIn schema sortOf
-    identifier-reads (aRaw w ▹ aReference {x = t} r ▹ noFields) = (_, anIdentifier refl (text-says t (r .earlier)))
+    identifier-reads (aRaw w & aReference {x = t} r & noFields) = (_, anIdentifier refl (text-says t (r .earlier)))
 
     binary-reads : {fs : List Field} → Fit i 32 fs → Some i 32 fs
     unfolding fieldsOf fieldsIn schema sortOf
-    binary-reads (aRaw w ▹ aReference {x = m} p ▹ aByte l h ▹ aReference {x = n} q ▹ noFields) =
+    binary-reads (aRaw w & aReference {x = m} p & aByte l h & aReference {x = n} q & noFields) =
         (_, aBinary refl (p .earlier) (q .earlier) (earlier m (p .earlier) .1) (earlier n (q .earlier) .1))
 
     unary-reads : {fs : List Field} → Fit i 33 fs → Some i 33 fs
     unfolding fieldsOf fieldsIn schema sortOf
-    unary-reads (aRaw w ▹ aByte l h ▹ aReference {x = n} q ▹ noFields) = (_, aUnary refl (q .earlier) (earlier n (q .earlier) .1))
+    unary-reads (aRaw w & aByte l h & aReference {x = n} q & noFields) = (_, aUnary refl (q .earlier) (earlier n (q .earlier) .1))
 
     grouping-reads : {fs : List Field} → Fit i 34 fs → Some i 34 fs
     unfolding fieldsOf fieldsIn schema sortOf
-    grouping-reads (aRaw w ▹ aReference {x = n} q ▹ noFields) = (_, aGrouping refl (q .earlier) (earlier n (q .earlier) .1))
+    grouping-reads (aRaw w & aReference {x = n} q & noFields) = (_, aGrouping refl (q .earlier) (earlier n (q .earlier) .1))
 
     assign-reads : {fs : List Field} → Fit i 39 fs → Some i 39 fs
     unfolding fieldsOf fieldsIn schema sortOf
-    assign-reads (aRaw w ▹ aReference {x = t} r ▹ aReference {x = n} q ▹ noFields) =
+    assign-reads (aRaw w & aReference {x = t} r & aReference {x = n} q & noFields) =
         (_, anAssign refl (text-says t (r .earlier)) (q .earlier) (earlier n (q .earlier) .1))
 
     call-reads : {fs : List Field} → Fit i 41 fs → Some i 41 fs
     unfolding fieldsOf fieldsIn schema sortOf
-    call-reads (aRaw w ▹ aList {a = a} {n = m} l y p ▹ aList {a = b} {n = n} h z q ▹ noFields) =
+    call-reads (aRaw w & aList {a = a} {n = m} l y p & aList {a = b} {n = n} h z q & noFields) =
         let ts = texts-say i m a p in
         let es = args-stand n b q in
         (_, aCall refl (record { inside = l; is = refl }) (ts .1) (record { inside = h; is = refl }) (es .1) refl)
 
     ok-reads : {fs : List Field} → Fit i 49 fs → Some i 49 fs
     unfolding fieldsOf fieldsIn schema sortOf
-    ok-reads (aRaw w ▹ aReference {x = n} q ▹ noFields) = (_, anOk refl (q .earlier) (earlier n (q .earlier) .1))
+    ok-reads (aRaw w & aReference {x = n} q & noFields) = (_, anOk refl (q .earlier) (earlier n (q .earlier) .1))
 
     err-reads : {fs : List Field} → Fit i 50 fs → Some i 50 fs
     unfolding fieldsOf fieldsIn schema sortOf
-    err-reads (aRaw w ▹ aReference {x = n} q ▹ noFields) = (_, anErr refl (q .earlier) (earlier n (q .earlier) .1))
+    err-reads (aRaw w & aReference {x = n} q & noFields) = (_, anErr refl (q .earlier) (earlier n (q .earlier) .1))
 
     reads : (k : ℕ) (fs : List Field) → Fit i k fs → Some i k fs
     unfolding formBy

@@ -14,7 +14,7 @@ use Rattle.rl_spec.specs.declared.Target.the-variants.{Expression, Statement, B
 use Rattle.rl_spec.specs.declared.StatementForm.{StatementForm}
 use Rattle.rl_spec.specs.declared.StatementForm.the-variants as form
 use Rattle.rl_spec.specs.Schema.{schema, sortOf, fieldsIn, fieldsOf}
-use Rattle.rl_spec.specs.Image.{Field, pair, Image, sizeOf, recordOf, entryOf, Refers, Entries, aRaw, aByte, aReference, anOption, aList, FieldsFit, noFields, _▹_, RecordFits, WellFormed}
+use Rattle.rl_spec.specs.Image.{Field, pair, Image, sizeOf, recordOf, entryOf, Refers, Entries, aRaw, aByte, aReference, anOption, aList, FieldsFit, noFields, _&_, RecordFits, WellFormed}
 use Rattle.rl_spec.specs.Tree.{Expr}
 use Rattle.rl_spec.specs.Statement.{conditional, Body, nil, _▸_, Branch, Else, statementBy, Item, aStatement, aBranch, asStatement}
 use Rattle.rl_spec.specs.Ranges.{upFrom}
@@ -130,46 +130,46 @@ module _ (im : Image) (wf : WellFormed im) where
 
     declaration-reads : {fs : List Field} → Fit i 64 fs → Some i 64 fs
     unfolding fieldsOf fieldsIn schema sortOf
-    declaration-reads (aRaw w ▹ aReference {x = t} r ▹ aRaw v ▹ aReference q ▹ aRaw u ▹ noFields) =
+    declaration-reads (aRaw w & aReference {x = t} r & aRaw v & aReference q & aRaw u & noFields) =
         (_, aDeclaration refl (text-says im wf t (r .earlier)) (node q .1))
 
     expression-reads : {fs : List Field} → Fit i 65 fs → Some i 65 fs
     unfolding fieldsOf fieldsIn schema sortOf
-    expression-reads (aRaw w ▹ aReference q ▹ noFields) = (_, anExpression refl (node q .1))
+    expression-reads (aRaw w & aReference q & noFields) = (_, anExpression refl (node q .1))
 
     return-reads : {fs : List Field} → Fit i 66 fs → Some i 66 fs
     unfolding fieldsOf fieldsIn schema sortOf
-    return-reads (aRaw w ▹ aReference q ▹ noFields) = (_, aReturn refl (node q .1))
+    return-reads (aRaw w & aReference q & noFields) = (_, aReturn refl (node q .1))
 
     alone-reads : {fs : List Field} → Fit i 67 fs → Some i 67 fs
     unfolding fieldsOf fieldsIn schema sortOf
-    alone-reads (aRaw w ▹ noFields) = (_, aReturnAlone refl)
+    alone-reads (aRaw w & noFields) = (_, aReturnAlone refl)
 
     conditional-reads : {fs : List Field} → Fit i 68 fs → Some i 68 fs
     unfolding fieldsOf fieldsIn schema sortOf
-    conditional-reads (aRaw w ▹ aReference q ▹ anOption o ▹ noFields) =
+    conditional-reads (aRaw w & aReference q & anOption o & noFields) =
         (_, aConditional refl (q .earlier) (branch-stands q .1) (else-stands o .1))
 
     branch-reads : {fs : List Field} → Fit i 69 fs → Some i 69 fs
     unfolding fieldsOf fieldsIn schema sortOf
-    branch-reads (aRaw w ▹ anOption o ▹ aList {a = a} {n = n} h z q ▹ aByte l m ▹ noFields) =
+    branch-reads (aRaw w & anOption o & aList {a = a} {n = n} h z q & aByte l m & noFields) =
         (_, anArm refl (condition o .1) (held h) (rows-stand n a q .1))
 
     while-reads : {fs : List Field} → Fit i 70 fs → Some i 70 fs
     unfolding fieldsOf fieldsIn schema sortOf
-    while-reads (aRaw w ▹ aReference r ▹ aList {a = a} {n = n} h z q ▹ noFields) = (_, aWhile refl (node r .1) (held h) (rows-stand n a q .1))
+    while-reads (aRaw w & aReference r & aList {a = a} {n = n} h z q & noFields) = (_, aWhile refl (node r .1) (held h) (rows-stand n a q .1))
 
     loop-reads : {fs : List Field} → Fit i 71 fs → Some i 71 fs
     unfolding fieldsOf fieldsIn schema sortOf
-    loop-reads (aRaw w ▹ aList {a = a} {n = n} h z q ▹ noFields) = (_, aLoop refl (held h) (rows-stand n a q .1))
+    loop-reads (aRaw w & aList {a = a} {n = n} h z q & noFields) = (_, aLoop refl (held h) (rows-stand n a q .1))
 
     break-reads : {fs : List Field} → Fit i 77 fs → Some i 77 fs
     unfolding fieldsOf fieldsIn schema sortOf
-    break-reads (aRaw w ▹ noFields) = (_, aBreak refl)
+    break-reads (aRaw w & noFields) = (_, aBreak refl)
 
     continue-reads : {fs : List Field} → Fit i 78 fs → Some i 78 fs
     unfolding fieldsOf fieldsIn schema sortOf
-    continue-reads (aRaw w ▹ noFields) = (_, aContinue refl)
+    continue-reads (aRaw w & noFields) = (_, aContinue refl)
 
     reads : (k : ℕ) (fs : List Field) → Fit i k fs → Some i k fs
     unfolding statementBy
