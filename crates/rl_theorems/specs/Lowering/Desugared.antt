@@ -12,9 +12,7 @@ use borrow.Author.Tests.{lt-ltb, le-ltb}
 use Rattle.rl_laws.specs.Tests.{by-ltb}
 use Rattle.rl_spec.specs.declared.Section.the-variants.{Parameters}
 use Rattle.rl_spec.specs.declared.RefineOp as operator
-use Rattle.rl_spec.specs.declared.RefineOperand as operand
 use Rattle.rl_spec.specs.declared.RefineOperand.the-variants.{Integer, Str, Bool as Truth, Param as Named}
-use Rattle.rl_spec.specs.declared.ParamRefinement as refinement
 use Rattle.rl_spec.specs.declared.ParamRefinement.the-variants.{Unrefined, Refined}
 use Rattle.rl_spec.specs.declared.Clause.{Clause}
 use Rattle.rl_spec.specs.Image.{num, Image, recordOf, textOf}

@@ -9,7 +9,6 @@ use native.Mathlib.Omega.{arith}
 use lib.Dec.{eqb}
 use lib.ListN.{getD}
 use borrow.Author.Tests.{eqb-false}
-use Rattle.rl_spec.specs.declared.Function as declared
 use Rattle.rl_spec.specs.declared.ParamRefinement.the-variants.{Unrefined, Refined}
 use Rattle.rl_spec.specs.declared.Section.the-variants.{Texts, Parameters, Functions}
 use Rattle.rl_spec.specs.Image.{Field, Rec, Image, sizeOf, noRecord, recordOf, textOf, SortFits, OperandFits, WellFormed}
