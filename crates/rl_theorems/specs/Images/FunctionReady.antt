@@ -1,24 +1,19 @@
 -- What a function of a well-formed image says is there: its span, parameters, clauses and body.
 -- Assumes nothing.
-use Prim.Native.Nat.{ℕ, zero, suc, _+_, _-_, _%_, _^_, _≤_, _<_}
-use mathlib.Core.Path.{_≡_, refl}
-use mathlib.Core.Bool.{Bool, true, false, cond}
+use Prim.Native.Nat.{ℕ, zero, suc, _+_, _-_, _≤_, _<_}
+use mathlib.Core.Path.{refl}
 use mathlib.Core.List.{List, [], _∷_, map}
 use mathlib.Core.Logic.{inl, inr}
+use mathlib.Core.Option.{Option, none, some}
 use native.Mathlib.Omega.{arith}
-use lib.Dec.{eqb, ltb}
-use lib.IntN.{pos, negsuc}
 use lib.ListN.{getD}
-use borrow.Author.Tests.{eqb-false}
 use Rattle.rl_spec.specs.declared.Section.the-variants.{Texts, Expressions, Statements, Parameters, Clauses, Functions}
 use Rattle.rl_spec.specs.declared.Target.the-variants.{Statement}
-use Rattle.rl_spec.specs.declared.ParamRefinement.the-variants.{Unrefined, Refined}
-use Rattle.rl_spec.specs.Image.{Rec, Image, sizeOf, recordOf, entryOf, textOf, Refers, Entries, heights, OperandFits, SortFits}
-use Rattle.rl_spec.specs.Tree.{signed, number}
-use Rattle.rl_spec.specs.Words.{bits64}
-use Rattle.rl_spec.specs.Records.{refineOp, refineOperand, refinementBy, paramAt, clauseAt, functionAt}
+use Rattle.rl_spec.specs.Image.{Rec, Image, sizeOf, recordOf, entryOf, textOf, Refers, Entries, heights}
+use Rattle.rl_spec.specs.Tree.{number}
+use Rattle.rl_spec.specs.Records.{paramAt, clauseAt, functionAt}
 use Rattle.rl_spec.specs.Ranges.{upFrom}
-use Rattle.rl_spec.specs.Contracts.{operandOf, refinementOf, paramOf}
+use Rattle.rl_spec.specs.Contracts.{RefineOperand, integer, str, bool, param, ParamRefinement, paramOf}
 use Rattle.rl_spec.specs.Lower.{start, paramsIn, requiresIn, ensuresIn, bodyIn}
 use Rattle.rl_images.specs.Lowering.GrowsTo.{Every, noMore, more}
 use Rattle.rl_images.specs.Images.FunctionFields.{ClauseFits, clause-says, ParameterFits, parameter-says, FunctionFits, function-says}
@@ -27,6 +22,7 @@ use Rattle.rl_theorems.specs.Images.SoundImages.{Sound}
 use Rattle.rl_theorems.specs.Images.NewReferences.{noRefs, ref}
 use Rattle.rl_theorems.specs.Images.KeepsSound.{Ready, Node, Lines}
 use Rattle.rl_theorems.specs.Images.SoundGuards.{ClauseReady}
+use Rattle.rl_theorems.specs.Images.Refinements.{OperandSays, RefinementSays, refinement-says}
 use Rattle.rl_theorems.specs.Images.SoundBodies.{RefinementReady, ParamsReady}
 
 -- all heights of a section are at most h
@@ -41,44 +37,25 @@ under-at h (x ∷ xs) u (suc i) = under-at h xs (u .1) i
 
 -- ---- a parameter
 
-signed-below : (x : ℕ) → x < 2 ^ 64 → bits64 (signed 64 x) < 256 ^ 8
-signed-below x p = go (ltb x (2 ^ 63))
-  where
-    go : (b : Bool) → bits64 (cond b (pos x) (negsuc (2 ^ 64 - suc x))) < 256 ^ 8
-    go true = omega arith
-    go false = omega arith
-
 module _ {im : Image} (s : Sound im) where
   named : (t : ℕ) → t < sizeOf im Texts → Proper (textOf im t)
   named t p = text-proper im (s .bytes) t (s .fits Texts t p)
 
-  operand-ready : (sort x : ℕ) → 1 ≤ sort → OperandFits im sort x → OperandReady im (operandOf (refineOperand sort x))
-  operand-ready zero x l h = absurd (omega arith)
-  operand-ready (suc zero) x l h = signed-below x h
-  operand-ready (suc (suc zero)) x l h = named (x % 65536) (omega arith)
-  operand-ready (suc (suc (suc zero))) x l h = tt
-  operand-ready (suc (suc (suc (suc zero)))) x l h = named (x % 65536) (omega arith)
-  operand-ready (suc (suc (suc (suc (suc n))))) x l h = absurd h
+  operand-ready : (x : RefineOperand ℕ) → OperandSays im x → OperandReady im x
+  operand-ready (integer x) h = h
+  operand-ready (str t) h = named t h
+  operand-ready (bool b) h = tt
+  operand-ready (param t) h = named t h
 
-  sort-some : (n x : ℕ) → (n ≡ 0 → ⊥) → SortFits n x → 1 ≤ x
-  sort-some zero x z h = absurd (z refl)
-  sort-some (suc n) x z h = h .0
-
-  refinement-ready : (name n sort x : ℕ) → Proper (textOf im name) → SortFits n sort → OperandFits im sort x →
-      RefinementReady im name (refinementOf (refinementBy n sort x))
-  refinement-ready name n sort x p h o = go (eqb n 0) refl
-    where
-      go : (b : Bool) → eqb n 0 ≡ b →
-          RefinementReady im name (refinementOf (cond b Unrefined (Refined (refineOp n) (refineOperand sort x))))
-      go true e = tt
-      go false e = (p, operand-ready sort x (sort-some n sort (eqb-false n 0 e) h) o)
+  refinement-ready : (name : ℕ) (o : Option (ParamRefinement ℕ)) → Proper (textOf im name) → RefinementSays im o → RefinementReady im name o
+  refinement-ready name none p h = tt
+  refinement-ready name (some r) p h = (p, operand-ready (r .operand) h)
 
   param-ready : (i : ℕ) → i < sizeOf im Parameters → RefinementReady im (paramOf im i .name) (paramOf im i .refinement)
   unfolding paramOf paramAt
   param-ready i p =
-      let r : Rec = recordOf im Parameters i in
-      let x : ParameterFits im r = parameter-says r (s .fits Parameters i p) in
-      refinement-ready (number r 0) (number r 2) (number r 3) (number r 4) (named (number r 0) (x .name)) (x .sort) (x .operand)
+      let x : ParameterFits im (recordOf im Parameters i) = parameter-says (recordOf im Parameters i) (s .fits Parameters i p) in
+      refinement-ready (paramOf im i .name) (paramOf im i .refinement) (named (paramOf im i .name) (x .name)) (refinement-says im i x)
 
   params-from : (k n : ℕ) → k + n ≤ sizeOf im Parameters → ParamsReady im (map (paramOf im) (upFrom k n))
   unfolding upFrom
