@@ -22,7 +22,7 @@ use Rattle.rl_spec.specs.Ranges.{upFrom}
 use Rattle.rl_spec.specs.Contracts.{paramOf, clauseOf, contractsOf, anyRefined}
 use Rattle.rl_spec.specs.Message.{decimalBy, decimal}
 use Rattle.rl_spec.specs.Make.{each, flatMap, append, appendBytes, made, newText, newList, stmt, absent}
-use Rattle.rl_spec.specs.Lower.{expr, ident, strLit, errLit, resCall, cloneEntries, cloneFields, deepCloneExpr, violation, onlyIf, guard, declare, returnOf, wrapAs, wrapReturn, refinePredicate, transformBranch, transformArm, transformStatement, wrapTrailing, desugarFnContracts, hasContracts, newBody, fitting, lowered}
+use Rattle.rl_spec.specs.Lower.{expr, ident, strLit, errLit, resCall, cloneEntries, cloneFields, deepCloneExpr, violation, onlyIf, guard, declare, returnOf, wrapAs, wrapReturn, refinePredicate, transformBranch, transformArm, transformStatement, wrapTrailing, desugarFnContracts, hasContracts, newBody, fitting, loweredBy, lowered}
 use Rattle.rl_spec.specs.Values as value
 use Rattle.rl_spec.specs.Values.{sameText, compareValues, bang}
 use Rattle.rl_spec.specs.Fold.{unaryValue, binaryValue}
@@ -67,7 +67,7 @@ kinds o (some im) = map (λ (r : Rec). r .kind) (recordsOf im o)
 
 -- what computation opens
 unfoldable pub lowering : Unit {0}
-unfolding textBytes textRecords ascii limits sortOf fieldsOf fieldsIn schema bytesOf encodeFields encodeRecord encodeRecords encodeSections encodeCounts encode descendBy descend paramAt clauseAt functionAt upFrom paramOf anyRefined decimalBy decimal each flatMap append appendBytes newText newList stmt expr ident strLit errLit resCall cloneEntries cloneFields deepCloneExpr violation onlyIf guard declare returnOf wrapAs wrapReturn refinePredicate transformBranch transformArm transformStatement wrapTrailing desugarFnContracts hasContracts newBody fitting lowered
+unfolding textBytes textRecords ascii limits sortOf fieldsOf fieldsIn schema bytesOf encodeFields encodeRecord encodeRecords encodeSections encodeCounts encode descendBy descend paramAt clauseAt functionAt upFrom paramOf anyRefined decimalBy decimal each flatMap append appendBytes newText newList stmt expr ident strLit errLit resCall cloneEntries cloneFields deepCloneExpr violation onlyIf guard declare returnOf wrapAs wrapReturn refinePredicate transformBranch transformArm transformStatement wrapTrailing desugarFnContracts hasContracts newBody fitting loweredBy
 lowering = tt
 
 -- ---- MARKED CASE 10: an Identifier as requires without message, empty plain body

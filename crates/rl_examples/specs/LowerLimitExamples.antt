@@ -29,6 +29,7 @@ filled bytes texts lists expressions statements =
       span = 9;
       isResult = false;
       tempCounter = 0;
+      limited = true;
     }
 
 -- the number of what is made
@@ -64,10 +65,10 @@ sized bytes =
           [] ∷ [] ∷ replicate 4096 (made 31 (num 1 ∷ num 2 ∷ num 3 ∷ num 4 ∷ [])) ∷ [] ∷ [] ∷ [] ∷ [] ∷ [] ∷ [];
     }
 
-pub longest : isSome (fitting (sized 4072)) ≡ true
+pub longest : isSome (fitting true (sized 4072)) ≡ true
 unfolding lowering
 longest = refl
 
-pub too-long : isSome (fitting (sized 4073)) ≡ false
+pub too-long : isSome (fitting true (sized 4073)) ≡ false
 unfolding lowering
 too-long = refl

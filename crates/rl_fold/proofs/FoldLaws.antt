@@ -118,7 +118,7 @@ module _ (im : Image) (env : List (Binding ℕ)) where
 
   module _ (cs w : List ℕ) (count : ℕ) (nm : Names im env cs w count) (n : ℕ) where
     abbrev made : Form → Folded
-    made f = asFolded (constEval (textOf im) env (treeBy im f (below n other (exprTree im))))
+    made f = asFolded (constEval (textOf im) env (treeBy im f (below n (λ _. other) (exprTree im))))
 
     head-means : (f : Form) → Means (headOf cs w count n f) (made f)
     unfolding headOf constEval unaryFolded binaryFolded

@@ -80,7 +80,7 @@ last-same true t e = e
 last-same false t e = refl
 
 -- by its form
-made : (im : Image) (s : ℕ) (x : StatementForm) → statementOf im s ≡ x → asStatement (itemTree im s) ≡ asStatement (itemBy im x (below s (aStatement otherStatement) (itemTree im)))
+made : (im : Image) (s : ℕ) (x : StatementForm) → statementOf im s ≡ x → asStatement (itemTree im s) ≡ asStatement (itemBy im x (below s (λ _. aStatement otherStatement) (itemTree im)))
 made im s x e = rw (item-is im s, e) refl
 
 -- one that holds statements
@@ -94,7 +94,7 @@ module _ (x : StatementForm) (s : ℕ) (last : Bool) where
       × ((im : Image) (bound : ℕ) → s < bound → Low im → Room im bound 0 r)
 
   -- one that the last bare expression may not stand for
-  as-made : (im : Image) (y : StatementForm) (t : Stmt ℕ) → statementOf im s ≡ x → x ≡ y → asStatement (itemBy im y (below s (aStatement otherStatement) (itemTree im))) ≡ t → asReturn t ≡ t → lastAs last (asStatement (itemTree im s)) ≡ t
+  as-made : (im : Image) (y : StatementForm) (t : Stmt ℕ) → statementOf im s ≡ x → x ≡ y → asStatement (itemBy im y (below s (λ _. aStatement otherStatement) (itemTree im))) ≡ t → asReturn t ≡ t → lastAs last (asStatement (itemTree im s)) ≡ t
   as-made im y t e f g h = rw (made im s x e, f, g) (last-same last t h)
 
   pub begin-alone : x ≡ form.ReturnAlone → Begun (Ends (Over (Returned (Plain Null))))
@@ -174,7 +174,7 @@ module _ (b p : List ℕ) (c : Counts) (limit s : ℕ) (last : Bool) (r : State)
 
   pub begin-late : limit ≤ s → r ≡ Ends (Over (Fault 1)) → Reached
   unfolding stmt
-  begin-late h e = rw (under-later (aStatement otherStatement) (itemTree here) limit s h, last-same last otherStatement refl, e) (λ base rest k env n. refl, λ im low. tt)
+  begin-late h e = rw (under-later (λ _. aStatement otherStatement) (itemTree here) limit s h, last-same last otherStatement refl, e) (λ base rest k env n. refl, λ im low. tt)
 
   pub begin-early : s < limit → (x : StatementForm) → x ≡ statementOf here s → Begun x s last r → Reached
-  begin-early h x e f = rw (under-earlier (aStatement otherStatement) (itemTree here) limit s h) (f .0 here (sym e), λ im low. f .1 im limit h low)
+  begin-early h x e f = rw (under-earlier (λ _. aStatement otherStatement) (itemTree here) limit s h) (f .0 here (sym e), λ im low. f .1 im limit h low)

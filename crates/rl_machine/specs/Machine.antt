@@ -50,10 +50,10 @@ flows r = andThen r (λ f. give (asFlow f))
 -- ---- trees under a limit
 
 abbrev pub treeUnder : Image → ℕ → ℕ → Expr ℕ
-treeUnder im limit n = below limit other (exprTree im) n
+treeUnder im limit n = below limit (λ _. other) (exprTree im) n
 
 abbrev pub itemUnder : Image → ℕ → ℕ → Item ℕ
-itemUnder im limit n = below limit (aStatement otherStatement) (itemTree im) n
+itemUnder im limit n = below limit (λ _. aStatement otherStatement) (itemTree im) n
 
 -- the last bare expression of a body gives the value: it is a return
 abbrev pub asReturn : Stmt ℕ → Stmt ℕ

@@ -169,7 +169,7 @@ whole-body : (im : Image) → ((k : ℕ) → entryOf im k < 65536) → (list : I
 whole-body im h list =
     ap (λ k. bodyFrom (map under (upFrom k (list .count - 0)))) (first-is (list .first))
     ∙ ap (λ n. bodyFrom (map under (upFrom (list .first) n))) (count-is (list .count))
-    ∙ ap bodyFrom (same-map under (λ k. itemTree im (entryOf im k)) (λ k. under-earlier (aStatement otherStatement) (itemTree im) 65536 (entryOf im k) (h k)) (upFrom (list .first) (list .count)))
+    ∙ ap bodyFrom (same-map under (λ k. itemTree im (entryOf im k)) (λ k. under-earlier (λ _. aStatement otherStatement) (itemTree im) 65536 (entryOf im k) (h k)) (upFrom (list .first) (list .count)))
   where
     under : ℕ → Item ℕ
     under k = itemUnder im 65536 (entryOf im k)

@@ -22,7 +22,7 @@ use Rattle.rl_spec.specs.Ranges.{numbersIn}
 use Rattle.rl_spec.specs.Contracts.{RefineOperand, integer, str, bool, param, ParamRefinement, Param, paramOf, anyRefined, isEmpty}
 use Rattle.rl_spec.specs.Mapped.{mapRefinement}
 use Rattle.rl_spec.specs.Message.{decimal, refinementText}
-use Rattle.rl_spec.specs.Make.{Context, Make, _>>=_, give, fail, self, takeTemp, each, flatMap, withRecords, append, made, newText, newList, stmt, newStmt, absent, entriesOf}
+use Rattle.rl_spec.specs.Make.{Context, Make, _>>=_, give, imageSoFar, resultFlag, takeTemp, each, flatMap, withRecords, append, made, newText, newList, stmt, newStmt, absent, entriesOf}
 
 -- ---- Ctx: expr to msg_expr. The texts of a new record come before it, those of a path before its list.
 
@@ -88,7 +88,7 @@ cloneField clone Part f = give f
 cloneField clone (One t) f = cond (isNode t) (clone (first f) >>= λ n. give (num n)) (give f)
 cloneField clone (Maybe t) f = give f
 cloneField clone (Many l r n) f =
-    cond (isNode l || isNode r) (self >>= λ ctx. cloneEntries clone l r (entriesOf (ctx .image) f) >>= newList) (give f)
+    cond (isNode l || isNode r) (imageSoFar >>= λ im. cloneEntries clone l r (entriesOf im f) >>= newList) (give f)
 cloneField clone (Range o) f = give f
 cloneField clone OperandSort f = give f
 cloneField clone Operand f = give f
@@ -110,17 +110,16 @@ cloneRecord clone id r =
     cond (isLambda (r .kind)) (give id)
     (cloneFields clone (fieldsOf (r .kind)) (r .fields) >>= λ fs. append Expressions (made (r .kind) fs ∷ []))
 
--- `fail` stands for a child that is no earlier node: there is none in a well-formed image
 unfoldable pub deepCloneExpr : ℕ → Make ℕ
-deepCloneExpr = descend fail (λ id clone. self >>= λ ctx. cloneRecord clone id (recordOf (ctx .image) Expressions id))
+deepCloneExpr = descend give (λ id clone. imageSoFar >>= λ im. cloneRecord clone id (recordOf im Expressions id))
 
 -- ---- Ctx: violation to refine_predicate
 
 unfoldable pub violation : ℕ → Make ℕ
 violation msg = do
   err ← errLit msg
-  ctx ← self
-  cond (ctx .isResult) (newStmt 66 (num err ∷ [])) (unwrapCall err >>= λ abort. newStmt 65 (num abort ∷ []))
+  isResult ← resultFlag
+  cond isResult (newStmt 66 (num err ∷ [])) (unwrapCall err >>= λ abort. newStmt 65 (num abort ∷ []))
 
 -- `if (condition) { s }`: the list, the branch with needs_scope false, the conditional
 unfoldable pub onlyIf : ℕ → ℕ → Make ℕ
@@ -177,8 +176,8 @@ wrapAs temp isResult value ensures = do
 unfoldable pub wrapReturn : ℕ → List Clause → Make (List ℕ)
 wrapReturn value ensures = do
   n ← takeTemp
-  ctx ← self
-  wrapAs (ascii "__ensure_ret_" ++ decimal n) (ctx .isResult) value ensures
+  isResult ← resultFlag
+  wrapAs (ascii "__ensure_ret_" ++ decimal n) isResult value ensures
 
 -- Greater, GreaterEqual, Less, LessEqual, Compare, BangEqual
 abbrev pub tokenOf : RefineOp → ℕ
@@ -212,8 +211,8 @@ module _ (walk : ℕ → Make (List ℕ)) where
   -- a record's list, as a new list
   abbrev pub transformList : Field → Make Field
   transformList list = do
-    ctx ← self
-    ss ← transformReturns (entriesOf (ctx .image) list)
+    im ← imageSoFar
+    ss ← transformReturns (entriesOf im list)
     newList ss
 
   -- a 68 as an else branch passes untouched; needs_scope is false
@@ -223,7 +222,7 @@ module _ (walk : ℕ → Make (List ℕ)) where
       (transformList (fieldOf r 2) >>= λ body. stmt 69 (number r 0) (fieldOf r 1 ∷ body ∷ num 0 ∷ [])) (give s)
 
   unfoldable pub transformBranch : ℕ → Make ℕ
-  transformBranch s = self >>= λ ctx. transformBranchBy s (recordOf (ctx .image) Statements s)
+  transformBranch s = imageSoFar >>= λ im. transformBranchBy s (recordOf im Statements s)
 
   abbrev pub transformElse : ℕ → Make ℕ
   transformElse s = cond (eqb s 65535) (give s) (transformBranch s)
@@ -233,7 +232,7 @@ module _ (walk : ℕ → Make (List ℕ)) where
   transformArmBy r = transformList (fieldOf r 2) >>= λ body. stmt 76 (number r 0) (fieldOf r 1 ∷ body ∷ [])
 
   unfoldable pub transformArm : ℕ → Make ℕ
-  transformArm s = self >>= λ ctx. transformArmBy (recordOf (ctx .image) Statements s)
+  transformArm s = imageSoFar >>= λ im. transformArmBy (recordOf im Statements s)
 
   abbrev pub conditional : Rec → Make ℕ
   conditional r = do
@@ -243,8 +242,8 @@ module _ (walk : ℕ → Make (List ℕ)) where
 
   abbrev pub match : Rec → Make ℕ
   match r = do
-    ctx ← self
-    ss ← each transformArm (entriesOf (ctx .image) (fieldOf r 2))
+    im ← imageSoFar
+    ss ← each transformArm (entriesOf im (fieldOf r 2))
     arms ← newList ss
     stmt 75 (number r 0) (fieldOf r 1 ∷ arms ∷ [])
 
@@ -271,7 +270,7 @@ module _ (walk : ℕ → Make (List ℕ)) where
 
 unfoldable pub transformStatement : List Clause → ℕ → Make (List ℕ)
 transformStatement ensures =
-    descend fail (λ s walk. self >>= λ ctx. transformStatementBy walk ensures s (recordOf (ctx .image) Statements s))
+    descend (λ s. give (s ∷ [])) (λ s walk. imageSoFar >>= λ im. transformStatementBy walk ensures s (recordOf im Statements s))
 
 -- ---- desugar_fn_contracts
 
@@ -290,9 +289,9 @@ lastOf im body = recordOf im Statements (getD body (length body - 1) 0)
 -- a bare last expression is wrapped after the returns before it, and comes ahead of the other statements
 unfoldable pub wrapTrailing : List Clause → List ℕ → Make (List ℕ)
 wrapTrailing ensures body = do
-  ctx ← self
-  cond (not (isEmpty body) && eqb (lastOf (ctx .image) body .kind) 65)
-      (wrapReturn (number (lastOf (ctx .image) body) 1) ensures >>= λ seq. give (seq ++ take (length body - 1) body))
+  im ← imageSoFar
+  cond (not (isEmpty body) && eqb (lastOf im body .kind) 65)
+      (wrapReturn (number (lastOf im body) 1) ensures >>= λ seq. give (seq ++ take (length body - 1) body))
       (give body)
 
 abbrev pub ensuredBody : List Clause → List ℕ → Make (List ℕ)
@@ -302,8 +301,8 @@ ensuredBody ensures body = do
 
 unfoldable pub desugarFnContracts : List (Param ℕ) → List ℕ → List Clause → List Clause → Make (List ℕ)
 desugarFnContracts params body requires ensures = do
-  ctx ← self
-  refined ← flatMap (λ p. refinementGuard (ctx .image) (p .name) (p .refinement)) params
+  im ← imageSoFar
+  refined ← flatMap (λ p. refinementGuard im (p .name) (p .refinement)) params
   required ← each (clauseGuard (ascii "requires violated")) requires
   rest ← cond (isEmpty ensures) (give body) (ensuredBody ensures body)
   give (refined ++ required ++ rest)
@@ -331,8 +330,13 @@ newBody im f = do
   ss ← desugarFnContracts (paramsIn im f) (bodyIn im f) (requiresIn im f) (ensuresIn im f)
   newList ss
 
+-- with limits, or without
+abbrev pub startBy : Bool → Image → ℕ → Context
+startBy limited im f =
+    record { image = im; span = functionAt im f .span; isResult = functionAt im f .result; tempCounter = 0; limited = limited }
+
 abbrev pub start : Image → ℕ → Context
-start im f = record { image = im; span = functionAt im f .span; isResult = functionAt im f .result; tempCounter = 0 }
+start = startBy true
 
 -- the body is field 4 of a function
 abbrev pub bodied : Rec → Field → Rec
@@ -342,13 +346,21 @@ abbrev pub withBody : Image → ℕ → Field → Image
 withBody im f list = withRecords im Functions (set (recordsOf im Functions) f (bodied (recordOf im Functions f) list))
 
 -- the sixth limit, of the image's bytes, is tested on the finished image: nothing that is made takes bytes away
-unfoldable pub fitting : Image → Option Image
-fitting im = cond (ltb 65535 (length (encode im))) none (some im)
+unfoldable pub fitting : Bool → Image → Option Image
+fitting limited im = cond (limited && ltb 65535 (length (encode im))) none (some im)
 
-abbrev pub finished : ℕ → Option (Field × Context) → Option Image
-finished f none = none
-finished f (some r) = fitting (withBody (r .1 .image) f (r .0))
+abbrev pub finished : Bool → ℕ → Option (Field × Context) → Option Image
+finished limited f none = none
+finished limited f (some r) = fitting limited (withBody (r .1 .image) f (r .0))
 
--- of an accepted image and one of its functions; none is refusal 14
-unfoldable pub lowered : Image → ℕ → Option Image
-lowered im f = cond (hasContracts im f) (finished f (newBody im f (start im f))) (some im)
+-- of an accepted image and one of its functions
+unfoldable pub loweredBy : Bool → Image → ℕ → Option Image
+loweredBy limited im f = cond (hasContracts im f) (finished limited f (newBody im f (startBy limited im f))) (some im)
+
+-- none is refusal 14
+abbrev pub lowered : Image → ℕ → Option Image
+lowered = loweredBy true
+
+-- what it would be if there were no limits: there always is one
+abbrev pub unlimited : Image → ℕ → Option Image
+unlimited = loweredBy false

@@ -1,6 +1,6 @@
--- Making records: computations that append to an image, and stop where a limit would be passed.
+-- Making records: computations that append to an image. Under limits they stop where one would be passed; without limits they never stop.
 use Prim.Native.Nat.{ℕ, suc, _+_}
-use mathlib.Core.Bool.{Bool, cond}
+use mathlib.Core.Bool.{Bool, cond, _&&_}
 use mathlib.Core.List.{List, [], _∷_, _++_, map}
 use mathlib.Core.Option.{Option, none, some}
 use lib.Dec.{ltb}
@@ -14,12 +14,13 @@ use Rattle.rl_spec.specs.Ranges.{interval, numbersIn}
 infixl 1 _>>=_
 -- ---- making: from the context to what is made and the context then; none where a limit would be passed
 
--- the image so far, the function's span and result flag, the number of the next temporary
+-- the image so far, the function's span and result flag, the number of the next temporary, and whether there are limits
 pub record Context : Type 0 where
   pub image : Image
   pub span : ℕ
   pub isResult : Bool
   pub tempCounter : ℕ
+  pub limited : Bool
 
 abbrev pub Make : Type 0 → Type 0
 Make A = Context → Option (A × Context)
@@ -34,16 +35,23 @@ _>>=_ m f = λ ctx. andThen (m ctx) f
 abbrev pub give : {A : Type 0} → A → Make A
 give a ctx = some (a, ctx)
 
-abbrev pub fail : {A : Type 0} → Make A
-fail ctx = none
+-- the image so far
+abbrev pub imageSoFar : Make Image
+imageSoFar ctx = some (ctx .image, ctx)
 
--- the context as it is
-abbrev pub self : Make Context
-self ctx = some (ctx, ctx)
+-- whether the function's result is a Result or CResult
+abbrev pub resultFlag : Make Bool
+resultFlag ctx = some (ctx .isResult, ctx)
 
 abbrev pub counted : Context → Context
 counted ctx =
-    record { image = ctx .image; span = ctx .span; isResult = ctx .isResult; tempCounter = suc (ctx .tempCounter) }
+    record {
+      image = ctx .image;
+      span = ctx .span;
+      isResult = ctx .isResult;
+      tempCounter = suc (ctx .tempCounter);
+      limited = ctx .limited;
+    }
 
 -- the number of a temporary, which is then taken
 abbrev pub takeTemp : Make ℕ
@@ -67,7 +75,8 @@ flatMap f (a ∷ l) = do
 -- ---- the image grows, up to five of the six limits; the sixth, of its bytes, is tested on the finished image
 
 abbrev pub withImage : Context → Image → Context
-withImage ctx im = record { image = im; span = ctx .span; isResult = ctx .isResult; tempCounter = ctx .tempCounter }
+withImage ctx im =
+    record { image = im; span = ctx .span; isResult = ctx .isResult; tempCounter = ctx .tempCounter; limited = ctx .limited }
 
 abbrev pub withRecords : Image → Section → List Rec → Image
 withRecords im o rs = record { arena = im .arena; bytes = im .bytes; records = set (im .records) (orderOf o) rs }
@@ -85,12 +94,12 @@ mostBytes = getD limits 0 0
 -- records at the end of a section; the number of the first
 unfoldable pub append : Section → List Rec → Make ℕ
 append o rs ctx =
-    cond (ltb (most o) (sizeOf (ctx .image) o + length rs)) none
+    cond (ctx .limited && ltb (most o) (sizeOf (ctx .image) o + length rs)) none
     (some (sizeOf (ctx .image) o, withImage ctx (withRecords (ctx .image) o (recordsOf (ctx .image) o ++ rs))))
 
 unfoldable pub appendBytes : List ℕ → Make ℕ
 appendBytes s ctx =
-    cond (ltb mostBytes (length (ctx .image .bytes) + length s)) none
+    cond (ctx .limited && ltb mostBytes (length (ctx .image .bytes) + length s)) none
     (some (length (ctx .image .bytes), withImage ctx (withBytes (ctx .image) (ctx .image .bytes ++ s))))
 
 abbrev pub made : ℕ → List Field → Rec

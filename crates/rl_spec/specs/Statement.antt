@@ -118,7 +118,7 @@ itemBy im Continue item = aStatement continue
 itemBy im Other item = aStatement otherStatement
 
 unfoldable pub itemTree : Image → ℕ → Item ℕ
-itemTree im = descend (aStatement otherStatement) (λ i item. itemBy im (statementOf im i) item)
+itemTree im = descend (λ _. aStatement otherStatement) (λ i item. itemBy im (statementOf im i) item)
 
 abbrev pub bodyTree : Image → Interval → Body ℕ
 bodyTree im list = bodyBy im (itemTree im) list

@@ -94,15 +94,15 @@ formOf im i = formBy im (recordOf im Expressions i)
 
 -- ---- the tree at an index
 
--- what `step` makes at an index of what is made at the smaller ones; d stands for the others
-abbrev pub below : {X : Type 0} → ℕ → X → (ℕ → X) → ℕ → X
-below i d g j = cond (ltb j i) (g j) d
+-- what `step` makes at an index of what is made at the smaller ones; d is for the others, which no accepted image has
+abbrev pub below : {X : Type 0} → ℕ → (ℕ → X) → (ℕ → X) → ℕ → X
+below i d g j = cond (ltb j i) (g j) (d j)
 
-unfoldable pub descendBy : {X : Type 0} → X → (ℕ → (ℕ → X) → X) → ℕ → ℕ → X
-descendBy d step zero i = d
+unfoldable pub descendBy : {X : Type 0} → (ℕ → X) → (ℕ → (ℕ → X) → X) → ℕ → ℕ → X
+descendBy d step zero i = d i
 descendBy d step (suc fuel) i = step i (below i d (descendBy d step fuel))
 
-unfoldable pub descend : {X : Type 0} → X → (ℕ → (ℕ → X) → X) → ℕ → X
+unfoldable pub descend : {X : Type 0} → (ℕ → X) → (ℕ → (ℕ → X) → X) → ℕ → X
 descend d step i = descendBy d step (suc i) i
 
 -- a form with the trees of its parts
@@ -121,4 +121,4 @@ treeBy im (ResultUnwrap n) tree = resultUnwrap (tree n)
 treeBy im Other tree = other
 
 unfoldable pub exprTree : Image → ℕ → Expr ℕ
-exprTree im = descend other (λ i tree. treeBy im (formOf im i) tree)
+exprTree im = descend (λ _. other) (λ i tree. treeBy im (formOf im i) tree)

@@ -46,7 +46,7 @@ none-item = aStatement otherStatement
 
 item-at : (im : Image) (limit b : ℕ) (x : StatementForm) → b < limit → statementOf im b ≡ x → itemUnder im limit b ≡ itemBy im x (itemUnder im b)
 item-at im limit b x h e =
-    under-earlier none-item (itemTree im) limit b h ∙ item-is im b ∙ ap (λ y. itemBy im y (itemUnder im b)) e
+    under-earlier (λ _. none-item) (itemTree im) limit b h ∙ item-is im b ∙ ap (λ y. itemBy im y (itemUnder im b)) e
 
 statement-at : (im : Image) (s : ℕ) (x : StatementForm) → statementOf im s ≡ x → asStatement (itemTree im s) ≡ asStatement (itemBy im x (itemUnder im s))
 statement-at im s x e = ap asStatement (item-is im s ∙ ap (λ y. itemBy im y (itemUnder im s)) e)
@@ -201,7 +201,7 @@ module _ (b p : List ℕ) (c : Counts) where
   here = imageFound b p c
 
   pub branch-late : (limit i : ℕ) → limit ≤ i → BranchIs here limit i branches.Missing
-  branch-late limit i h = no-branch here limit i none-item (under-later none-item (itemTree here) limit i h) refl
+  branch-late limit i h = no-branch here limit i none-item (under-later (λ _. none-item) (itemTree here) limit i h) refl
 
   pub branch-view : (limit i : ℕ) (x : StatementForm) (r : BranchForm) → i < limit → x ≡ statementOf here i → r ≡ branchOf x → BranchIs here limit i r
   branch-view limit i x r h e f = subst (BranchIs here limit i) (sym f) (branch-is here limit i x h (sym e))
@@ -210,7 +210,7 @@ module _ (b p : List ℕ) (c : Counts) where
   no-other limit i e = no-else here limit i (ap (λ t. cond t noElse (asElse (itemUnder here limit i))) (eq-eqb i 65535 e))
 
   pub other-late : (limit i : ℕ) → (i ≡ 65535 → ⊥) → limit ≤ i → ElseIs here limit i elses.Missing
-  other-late limit i g h = no-else here limit i (else-some here limit i none-item g (under-later none-item (itemTree here) limit i h))
+  other-late limit i g h = no-else here limit i (else-some here limit i none-item g (under-later (λ _. none-item) (itemTree here) limit i h))
 
   pub else-view : (limit i : ℕ) (x : StatementForm) (r : ElseForm) → (i ≡ 65535 → ⊥) → i < limit → x ≡ statementOf here i → r ≡ elseOf x → ElseIs here limit i r
   else-view limit i x r g h e f = subst (ElseIs here limit i) (sym f) (else-is here limit i x g h (sym e))

@@ -159,14 +159,14 @@ module _ (im : Image) (wf : WellFormed im) where
   trees-tall zero i p l = absurd (omega arith)
   trees-tall (suc n) i p l =
       let next = next-at im Expressions i l in
-      let q = form-low im i (next .earlier) (below i other (exprTree im)) (λ m z. rw (below-earlier im i m z, ← next .same m z) (trees-tall n m (omega arith) (omega arith))) (recordOf im Expressions i) (wf .fits Expressions i l .fields) in
+      let q = form-low im i (next .earlier) (below i (λ _. other) (exprTree im)) (λ m z. rw (below-earlier im i m z, ← next .same m z) (trees-tall n m (omega arith) (omega arith))) (recordOf im Expressions i) (wf .fits Expressions i l .fields) in
       rw (tree-is im i, next .here) (q .low-is)
 
   tree-missing : (i : ℕ) → sizeOf im Expressions ≤ i → exprTree im i ≡ other
   unfolding formBy
   tree-missing i l =
       let e : recordOf im Expressions i ≡ noRecord = List·getD-eq-default (recordsOf im Expressions) noRecord l in
-      tree-is im i ∙ ap (λ (r : Rec). treeBy im (formBy im r) (below i other (exprTree im))) e
+      tree-is im i ∙ ap (λ (r : Rec). treeBy im (formBy im r) (below i (λ _. other) (exprTree im))) e
 
   -- THEOREM: no tree is taller than an expression may be
   pub trees-low : (i : ℕ) → exprHeight (exprTree im i) ≤ 68

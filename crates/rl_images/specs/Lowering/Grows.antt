@@ -2,6 +2,7 @@
 -- Assumes nothing.
 use Prim.Native.Nat.{ℕ, suc, _+_, _≤_, _<_}
 use mathlib.Core.Path.{_≡_, refl, ap, sym, _∙_}
+use mathlib.Core.Bool.{Bool, true, false, _&&_, false≢true}
 use mathlib.Core.List.{List, [], _∷_, _++_, map, append-assoc, append-nil}
 use native.Mathlib.Omega.{arith}
 use native.Mathlib.Nat.{suc-inj}
@@ -249,29 +250,33 @@ bytes-grow im s = record {
   calls = refl;
 }
 
--- ---- what each making gives: the number of what is new, and the image then, within the limits
+-- ---- what each making gives: the number of what is new, and the image then; where there are limits, within them
+
+within-limit : (limited b : Bool) → limited ≡ true → limited && b ≡ false → b ≡ false
+within-limit true b l e = e
+within-limit false b l e = absurd (false≢true l)
 
 pub record Appended (ctx : Context) (o : Section) (rs : List Rec) (n : ℕ) (c : Context) : Type 0 where
   pub at : n ≡ sizeOf (ctx .image) o
   pub is : c ≡ withImage ctx (appended (ctx .image) o rs)
-  pub within : sizeOf (ctx .image) o + length rs ≤ most o
+  pub within : ctx .limited ≡ true → sizeOf (ctx .image) o + length rs ≤ most o
 
 pub append-gives : (o : Section) (rs : List Rec) (ctx : Context) → Gives (Appended ctx o rs) (append o rs ctx)
 unfolding append
 append-gives o rs ctx =
-    by-limit (ltb (most o) (sizeOf (ctx .image) o + length rs)) _ _ λ e.
-    record { at = refl; is = refl; within = ltb-false (most o) (sizeOf (ctx .image) o + length rs) e }
+    by-limit (ctx .limited && ltb (most o) (sizeOf (ctx .image) o + length rs)) _ _ λ e.
+    record { at = refl; is = refl; within = λ l. ltb-false (most o) (sizeOf (ctx .image) o + length rs) (within-limit (ctx .limited) _ l e) }
 
 pub record AppendedBytes (ctx : Context) (s : List ℕ) (n : ℕ) (c : Context) : Type 0 where
   pub at : n ≡ length (ctx .image .bytes)
   pub is : c ≡ withImage ctx (withBytes (ctx .image) (ctx .image .bytes ++ s))
-  pub within : length (ctx .image .bytes) + length s ≤ mostBytes
+  pub within : ctx .limited ≡ true → length (ctx .image .bytes) + length s ≤ mostBytes
 
 pub bytes-give : (s : List ℕ) (ctx : Context) → Gives (AppendedBytes ctx s) (appendBytes s ctx)
 unfolding appendBytes
 bytes-give s ctx =
-    by-limit (ltb mostBytes (length (ctx .image .bytes) + length s)) _ _ λ e.
-    record { at = refl; is = refl; within = ltb-false mostBytes (length (ctx .image .bytes) + length s) e }
+    by-limit (ctx .limited && ltb mostBytes (length (ctx .image .bytes) + length s)) _ _ λ e.
+    record { at = refl; is = refl; within = λ l. ltb-false mostBytes (length (ctx .image .bytes) + length s) (within-limit (ctx .limited) _ l e) }
 
 -- a text's record, and a list's records
 abbrev pub textRecords : Image → List ℕ → List Rec
@@ -286,8 +291,8 @@ withText im s = appended (withBytes im (im .bytes ++ s)) Texts (textRecords im s
 pub record NewText (ctx : Context) (s : List ℕ) (t : ℕ) (c : Context) : Type 0 where
   pub at : t ≡ sizeOf (ctx .image) Texts
   pub is : c ≡ withImage ctx (withText (ctx .image) s)
-  pub bytes : length (ctx .image .bytes) + length s ≤ mostBytes
-  pub texts : sizeOf (ctx .image) Texts + 1 ≤ most Texts
+  pub bytes : ctx .limited ≡ true → length (ctx .image .bytes) + length s ≤ mostBytes
+  pub texts : ctx .limited ≡ true → sizeOf (ctx .image) Texts + 1 ≤ most Texts
 
 pub text-gives : (s : List ℕ) (ctx : Context) → Gives (NewText ctx s) (newText s ctx)
 unfolding newText
@@ -299,7 +304,7 @@ text-gives s ctx =
 pub record NewList (ctx : Context) (ns : List ℕ) (list : Field) (c : Context) : Type 0 where
   pub at : list ≡ pair (sizeOf (ctx .image) Lists) (length ns)
   pub is : c ≡ withImage ctx (appended (ctx .image) Lists (listRecords ns))
-  pub within : sizeOf (ctx .image) Lists + length ns ≤ most Lists
+  pub within : ctx .limited ≡ true → sizeOf (ctx .image) Lists + length ns ≤ most Lists
 
 pub list-gives : (ns : List ℕ) (ctx : Context) → Gives (NewList ctx ns) (newList ns ctx)
 unfolding newList
@@ -308,7 +313,7 @@ list-gives ns ctx =
     gives (record {
       at = ap (λ n. pair n (length ns)) (h .at);
       is = h .is;
-      within = rw (length-map ns (λ n. made 3 (num n ∷ []))) at (h .within);
+      within = λ l. rw (length-map ns (λ n. made 3 (num n ∷ []))) at (h .within l);
     })
 
 pub stmt-gives : (kind span : ℕ) (fields : List Field) (ctx : Context) →

@@ -1,4 +1,4 @@
--- Computations under which an image of eight sections grows, with what holds of what they give.
+-- Computations under limits, under which an image of eight sections grows, with what holds of what they give.
 -- Assumes nothing.
 use Prim.Native.Nat.{ℕ}
 use mathlib.Core.Path.{_≡_, refl, _∙_}
@@ -21,25 +21,40 @@ pub record Later (c d : Context) : Type 0 where
   pub image : Grows (c .image) (d .image)
   pub span : d .span ≡ c .span
   pub isResult : d .isResult ≡ c .isResult
+  pub limited : d .limited ≡ c .limited
 
 pub now : {c : Context} → Later c c
-now = record { image = grows-same; span = refl; isResult = refl }
+now = record { image = grows-same; span = refl; isResult = refl; limited = refl }
 
 pub _⊕_ : {a b c : Context} → Later a b → Later b c → Later a c
-_⊕_ p q = record { image = grows-on (p .image) (q .image); span = q .span ∙ p .span; isResult = q .isResult ∙ p .isResult }
+_⊕_ p q =
+    record {
+      image = grows-on (p .image) (q .image);
+      span = q .span ∙ p .span;
+      isResult = q .isResult ∙ p .isResult;
+      limited = q .limited ∙ p .limited;
+    }
 
 pub eight-later : {c d : Context} → Later c d → Eight (c .image) → Eight (d .image)
 eight-later p e = p .image .sections ∙ e
 
+-- eight sections, and limits
+pub record Limited (c : Context) : Type 0 where
+  pub sections : Eight (c .image)
+  pub limits : c .limited ≡ true
+
+limited-later : {c d : Context} → Later c d → Limited c → Limited d
+limited-later p e = record { sections = eight-later p (e .sections); limits = p .limited ∙ e .limits }
+
 -- ---- what is given, and the context then, which is a later one
 
 pub record GrowsTo {A : Type 0} (ctx : Context) (Q : A → Context → Type 0) (o : Option (A × Context)) : Type 0 where
-  pub makes : Eight (ctx .image) → Gives (λ a c. Later ctx c × Q a c) o
+  pub makes : Limited ctx → Gives (λ a c. Later ctx c × Q a c) o
 
 pub _▷_ : {A B : Type 0} {ctx : Context} {P : A → Context → Type 0} {Q : B → Context → Type 0} {o : Option (A × Context)} {f : A → Make B} →
     GrowsTo ctx P o → ((a : A) (c : Context) → Later ctx c → P a c → GrowsTo c Q (f a c)) → GrowsTo ctx Q (andThen o f)
 _▷_ g k =
-    record { makes = λ e. after (g .makes e) λ a c p. weaker (k a c (p .0) (p .1) .makes (eight-later (p .0) e)) λ b d q. (p .0 ⊕ q .0, q .1) }
+    record { makes = λ e. after (g .makes e) λ a c p. weaker (k a c (p .0) (p .1) .makes (limited-later (p .0) e)) λ b d q. (p .0 ⊕ q .0, q .1) }
 
 pub _▹_ : {A : Type 0} {ctx : Context} {P Q : A → Context → Type 0} {o : Option (A × Context)} →
     GrowsTo ctx P o → ((a : A) (c : Context) → Later ctx c → P a c → Q a c) → GrowsTo ctx Q o
@@ -58,7 +73,7 @@ test true m n ctx p q = p refl
 test false m n ctx p q = q refl
 
 pub good-is : {A : Type 0} {ctx : Context} {Q : A → Context → Type 0} {o : Option (A × Context)} {a : A} {c : Context} →
-    GrowsTo ctx Q o → Eight (ctx .image) → o ≡ some (a, c) → Later ctx c × Q a c
+    GrowsTo ctx Q o → Limited ctx → o ≡ some (a, c) → Later ctx c × Q a c
 good-is g e h = given-is (g .makes e) h
 
 -- nothing but growth
@@ -80,17 +95,17 @@ under {A} {X} {ctx} {Q} g f = record { makes = λ e. go (g .makes e) (λ x. f x 
 
 -- ---- each making
 
-with-later : {ctx : Context} {im : Image} → Grows (ctx .image) im → Later ctx (withImage ctx im)
-with-later g = record { image = g; span = refl; isResult = refl }
+pub with-later : {ctx : Context} {im : Image} → Grows (ctx .image) im → Later ctx (withImage ctx im)
+with-later g = record { image = g; span = refl; isResult = refl; limited = refl }
 
 pub append-good : (o : Section) → Growing o → (rs : List Rec) (ctx : Context) → GrowsTo ctx (Appended ctx o rs) (append o rs ctx)
 append-good o k rs ctx =
-    record { makes = λ e. weaker (append-gives o rs ctx) λ n c h. (rw (h .is) (with-later (appended-grows (ctx .image) o rs k e)), h) }
+    record { makes = λ e. weaker (append-gives o rs ctx) λ n c h. (rw (h .is) (with-later (appended-grows (ctx .image) o rs k (e .sections))), h) }
 
 pub text-good : (s : List ℕ) (ctx : Context) → GrowsTo ctx (NewText ctx s) (newText s ctx)
 text-good s ctx = record {
   makes = λ e. weaker (text-gives s ctx) λ n c h.
-      let texts = appended-grows (withBytes (ctx .image) (ctx .image .bytes ++ s)) Texts (textRecords (ctx .image) s) tt e in
+      let texts = appended-grows (withBytes (ctx .image) (ctx .image .bytes ++ s)) Texts (textRecords (ctx .image) s) tt (e .sections) in
       (rw (h .is) (with-later (grows-on (bytes-grow (ctx .image) s) texts)), h);
 }
 
@@ -98,7 +113,7 @@ pub list-good : (ns : List ℕ) (ctx : Context) → GrowsTo ctx (NewList ctx ns)
 list-good ns ctx =
     record {
       makes = λ e. weaker (list-gives ns ctx) λ n c h.
-          (rw (h .is) (with-later (appended-grows (ctx .image) Lists (listRecords ns) tt e)), h);
+          (rw (h .is) (with-later (appended-grows (ctx .image) Lists (listRecords ns) tt (e .sections))), h);
     }
 
 pub stmt-good : (kind span : ℕ) (fields : List Field) (ctx : Context) →
@@ -113,7 +128,7 @@ expr-good kind fields ctx = append-good Expressions tt _ ctx
 
 -- a temporary's number
 pub temp-good : (ctx : Context) → GrowsTo ctx (λ n c. (n ≡ ctx .tempCounter) × (c ≡ counted ctx)) (takeTemp ctx)
-temp-good ctx = record { makes = λ e. gives (record { image = grows-same; span = refl; isResult = refl }, (refl, refl)) }
+temp-good ctx = record { makes = λ e. gives (record { image = grows-same; span = refl; isResult = refl; limited = refl }, (refl, refl)) }
 
 -- ---- one after the other: P is asked of each input, and Q holds of it and its output; growth keeps both
 

@@ -15,13 +15,14 @@ use Rattle.rl_spec.specs.Image.{Field, num, Rec, Image, sizeOf, recordOf, field
 use Rattle.rl_spec.specs.Tree.{ascii, number, below}
 use Rattle.rl_spec.specs.Contracts.{isEmpty}
 use Rattle.rl_spec.specs.Message.{decimal}
-use Rattle.rl_spec.specs.Make.{Context, Make, andThen, _>>=_, give, fail, self, flatMap, made, stmt, entriesOf}
+use Rattle.rl_spec.specs.Make.{Context, Make, andThen, _>>=_, give, imageSoFar, flatMap, made, stmt, entriesOf}
 use Rattle.rl_spec.specs.Lower.{returnOf, wrapAs, wrapReturn, conditional, match, loop, only, transformStatementBy, transformStatement, lastOf}
 use Rattle.rl_laws.specs.Descend.{descend-is}
 use Rattle.rl_images.specs.Lowering.Gives.{Gives, gives, weaker}
-use Rattle.rl_images.specs.Lowering.Grows.{Grows, size-grows, record-kept, Eight}
-use Rattle.rl_images.specs.Lowering.GrowsTo.{GrowsTo, _▷_, _▹_, given, stopped, test, list-good, expr-good, temp-good}
-use Rattle.rl_images.specs.Lowering.Followed.{AllGrow, gives-grow, by-test, each-grow, ident-grow, call-grow, clause-grow, declare-grow, skip-grow, list-grow, branch-grow, arm-grow, transform-grow}
+use Rattle.rl_images.specs.Lowering.Grows.{Grows, size-grows, record-kept}
+use Rattle.rl_images.specs.Lowering.GrowsTo.{Limited, GrowsTo, _▷_, _▹_, given, test, list-good, expr-good, temp-good}
+use Rattle.rl_images.specs.Lowering.Adds.{Adds, adds-grows, adds-give, adds-cond, adds-each}
+use Rattle.rl_images.specs.Lowering.AddsLower.{adds-ident, adds-call, adds-clause, adds-declare, adds-skip, adds-body, adds-branch, adds-else, adds-arm, adds-statement}
 use Rattle.rl_images.specs.Lowering.NewRecords.{record-ok}
 
 -- ---- the last of a list
@@ -76,15 +77,15 @@ only-other g = g ▷ λ n c k h. given (n, end, h)
 -- a wrapped return ends in a return
 return-other : (temp : List ℕ) (ctx : Context) → GrowsTo ctx Other (returnOf temp ctx)
 unfolding returnOf
-return-other temp ctx = ident-grow temp ctx ▷ λ n c k h. other-made 66 (c .span) (num n ∷ []) c λ e. omega arith
+return-other temp ctx = adds-grows (adds-ident temp) ctx ▷ λ n c k h. other-made 66 (c .span) (num n ∷ []) c λ e. omega arith
 
 wrap-as-other : (temp : List ℕ) (isResult : Bool) (value : ℕ) (ensures : List Clause) (ctx : Context) →
     GrowsTo ctx OtherLast (wrapAs temp isResult value ensures ctx)
 unfolding wrapAs
 wrap-as-other temp isResult value ensures ctx =
-    declare-grow temp value ctx ▷ λ dec c₁ k₁ h₁. by-test isResult (skip-grow temp) (gives-grow []) c₁ ▷ λ skip c₂ k₂ h₂.
-    ident-grow temp c₂ ▷ λ n c₃ k₃ h₃. by-test isResult (call-grow _ n) (gives-grow n) c₃ ▷ λ inner c₄ k₄ h₄.
-    declare-grow (ascii "ret") inner c₄ ▷ λ ret c₅ k₅ h₅. each-grow _ (clause-grow _) ensures c₅ ▷ λ guards c₆ k₆ h₆.
+    adds-grows (adds-declare temp value) ctx ▷ λ dec c₁ k₁ h₁. adds-grows (adds-cond isResult (adds-skip temp) (adds-give [])) c₁ ▷ λ skip c₂ k₂ h₂.
+    adds-grows (adds-ident temp) c₂ ▷ λ n c₃ k₃ h₃. adds-grows (adds-cond isResult (adds-call _ n) (adds-give n)) c₃ ▷ λ inner c₄ k₄ h₄.
+    adds-grows (adds-declare (ascii "ret") inner) c₄ ▷ λ ret c₅ k₅ h₅. adds-grows (adds-each (adds-clause _) ensures) c₅ ▷ λ guards c₆ k₆ h₆.
     return-other temp c₆ ▷ λ s c₇ k₇ h₇. given (s, ends-append ((dec ∷ skip) ++ (ret ∷ guards)) end, h₇)
 
 wrap-other : (value : ℕ) (ensures : List Clause) (ctx : Context) → GrowsTo ctx OtherLast (wrapReturn value ensures ctx)
@@ -101,21 +102,21 @@ record Ends (im : Image) (s : ℕ) (ns : List ℕ) (im′ : Image) : Type 0 wher
   pub same : bareAt im′ last ≡ bareAt im s
   pub number : bareAt im s ≡ true → last ≡ s
 
-module _ (walk : ℕ → Make (List ℕ)) (grow : (n : ℕ) → AllGrow (walk n)) where
+module _ (walk : ℕ → Make (List ℕ)) (grow : (n : ℕ) → Adds (walk n)) where
   conditional-other : (r : Rec) (ctx : Context) → GrowsTo ctx Other (conditional walk r ctx)
   conditional-other r ctx =
-      branch-grow walk grow (number r 1) ctx ▷ λ branch c₁ k₁ h₁.
-      by-test (eqb (number r 2) 65535) (gives-grow (number r 2)) (branch-grow walk grow (number r 2)) c₁ ▷ λ other c₂ k₂ h₂.
+      adds-grows (adds-branch walk grow (number r 1)) ctx ▷ λ branch c₁ k₁ h₁.
+      adds-grows (adds-else walk grow (number r 2)) c₁ ▷ λ other c₂ k₂ h₂.
       other-made 68 (number r 0) (num branch ∷ num other ∷ []) c₂ λ e. omega arith
 
   match-other : (r : Rec) (ctx : Context) → GrowsTo ctx Other (match walk r ctx)
   match-other r ctx =
-      each-grow _ (arm-grow walk grow) (entriesOf (ctx .image) (fieldOf r 2)) ctx ▷ λ ss c₁ k₁ h₁. list-good ss c₁ ▷ λ arms c₂ k₂ h₂.
+      adds-grows (adds-each (adds-arm walk grow) (entriesOf (ctx .image) (fieldOf r 2))) ctx ▷ λ ss c₁ k₁ h₁. list-good ss c₁ ▷ λ arms c₂ k₂ h₂.
       other-made 75 (number r 0) (fieldOf r 1 ∷ arms ∷ []) c₂ λ e. omega arith
 
   loop-other : (r : Rec) (kept : List Field) (list : Field) (ctx : Context) → (r .kind ≡ 65 → ⊥) → GrowsTo ctx Other (loop walk r kept list ctx)
   loop-other r kept list ctx h =
-      list-grow walk grow list ctx ▷ λ body c k p. other-made (r .kind) (number r 0) (kept ++ body ∷ []) c h
+      adds-grows (adds-body walk grow list) ctx ▷ λ body c k p. other-made (r .kind) (number r 0) (kept ++ body ∷ []) c h
 
   statement-ends : (ensures : List Clause) (s : ℕ) (ctx : Context) → s < sizeOf (ctx .image) Statements →
       GrowsTo ctx (λ ns c. Ends (ctx .image) s ns (c .image))
@@ -158,12 +159,15 @@ module _ (walk : ℕ → Make (List ℕ)) (grow : (n : ℕ) → AllGrow (walk n)
 transform-ends : (ensures : List Clause) (s : ℕ) (ctx : Context) → s < sizeOf (ctx .image) Statements →
     GrowsTo ctx (λ ns c. Ends (ctx .image) s ns (c .image)) (transformStatement ensures s ctx)
 unfolding transformStatement
-transform-ends ensures s ctx l = rw (descend-is fail step s)
-    (statement-ends (below s fail (transformStatement ensures))
-    (λ n. by-test (ltb n s) (transform-grow ensures n) (λ c. stopped)) ensures s ctx l)
+transform-ends ensures s ctx l = rw (descend-is untouched step s)
+    (statement-ends (below s untouched (transformStatement ensures))
+    (λ n. adds-cond (ltb n s) (adds-statement ensures n) (adds-give (n ∷ []))) ensures s ctx l)
   where
     step : ℕ → (ℕ → Make (List ℕ)) → Make (List ℕ)
-    step = λ s walk. self >>= λ ctx. transformStatementBy walk ensures s (recordOf (ctx .image) Statements s)
+    step = λ s walk. imageSoFar >>= λ im. transformStatementBy walk ensures s (recordOf im Statements s)
+
+    untouched : ℕ → Make (List ℕ)
+    untouched = λ s. give (s ∷ [])
 
 -- ---- a body
 
@@ -184,7 +188,7 @@ body-ends : (ensures : List Clause) {s : ℕ} {body : List ℕ} (ctx : Context) 
 unfolding flatMap
 body-ends ensures {s} ctx end l = transform-ends ensures s ctx l ▷ λ ns c k h. given (rw (append-nil ns) h)
 body-ends ensures {s} ctx (before {m} p) l =
-    transform-grow ensures m ctx ▷ λ ms c k h. body-ends ensures c p (omega (arith, l, size-grows (k .image) Statements)) ▷ λ ns d j q.
+    adds-grows (adds-statement ensures m) ctx ▷ λ ms c k h. body-ends ensures c p (omega (arith, l, size-grows (k .image) Statements)) ▷ λ ns d j q.
     given (ends-later ms (k .image) l q)
 
 -- the body in the image before, and the statements that are made for it in the image after
@@ -214,7 +218,7 @@ last-of {im} {im′} {s} {body} {ss} g l e p =
     stays b = p .number (sym (bare-last im e) ∙ b)
 
 -- THEOREM
-pub last-bare : (ensures : List Clause) (x : Context) (body : List ℕ) → Eight (x .image) →
+pub last-bare : (ensures : List Clause) (x : Context) (body : List ℕ) → Limited x →
     ((i : ℕ) → i < length body → getD body i 0 < sizeOf (x .image) Statements) →
     Gives (λ ss y. Last (x .image) body ss (y .image)) (flatMap (transformStatement ensures) body x)
 unfolding flatMap

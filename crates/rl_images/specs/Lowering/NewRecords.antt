@@ -12,8 +12,8 @@ use Rattle.rl_spec.specs.Schema.{limits}
 use Rattle.rl_spec.specs.Image.{Rec, Image, recordsOf, sizeOf, noRecord, recordOf}
 use Rattle.rl_spec.specs.Make.{Context, most, append}
 use Rattle.rl_images.specs.Lowering.Gives.{weaker}
-use Rattle.rl_images.specs.Lowering.Grows.{Eight, records-own, Growing, appended, Appended}
-use Rattle.rl_images.specs.Lowering.GrowsTo.{GrowsTo, append-good}
+use Rattle.rl_images.specs.Lowering.Grows.{records-own, Growing, appended, Appended}
+use Rattle.rl_images.specs.Lowering.GrowsTo.{Limited, GrowsTo, append-good}
 
 -- the record at an index, which no field takes for none
 pub record At (im : Image) (o : Section) (i : ℕ) (r : Rec) : Type 0 where
@@ -33,16 +33,16 @@ limit-small Functions = omega arith
 limit-small Calls = omega arith
 
 -- the new record is there
-at-end : (o : Section) (ctx : Context) (r : Rec) (n : ℕ) (c : Context) → Eight (ctx .image) → Appended ctx o (r ∷ []) n c →
+at-end : (o : Section) (ctx : Context) (r : Rec) (n : ℕ) (c : Context) → Limited ctx → Appended ctx o (r ∷ []) n c →
     At (c .image) o n r
 at-end o ctx r n c e h = rw (h .is, h .at) (record {
   inside = rw (own, length-append) (omega arith);
-  small = omega (arith, h .within, limit-small o);
+  small = omega (arith, h .within (e .limits), limit-small o);
   is = ap (λ l. getD l (sizeOf (ctx .image) o) noRecord) own ∙ getD-append-seam (recordsOf (ctx .image) o) r [] noRecord;
 })
   where
     own : recordsOf (appended (ctx .image) o (r ∷ [])) o ≡ recordsOf (ctx .image) o ++ r ∷ []
-    own = records-own (ctx .image) o (recordsOf (ctx .image) o ++ r ∷ []) e
+    own = records-own (ctx .image) o (recordsOf (ctx .image) o ++ r ∷ []) (e .sections)
 
 -- its number is the old size
 pub record-ok : (o : Section) → Growing o → (r : Rec) (ctx : Context) →

@@ -97,7 +97,7 @@ module _ {im : Image} (s : Sound im) (f : ℕ) (low : Under 64 (heights im Expre
 
     pub start-ready : Ready (start im f)
     unfolding functionAt
-    start-ready = record { sound = s; span = here .span }
+    start-ready = record { sound = s; span = here .span; limited = refl }
 
     pub params-ready : ParamsReady im (paramsIn im f)
     unfolding functionAt

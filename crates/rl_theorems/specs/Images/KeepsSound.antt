@@ -28,11 +28,12 @@ use Rattle.rl_theorems.specs.Images.NewReferences.{Ref, ref-there, Refs,
 
 infixr 1 _⇝_ _↠_
 infixl 20 _then_
--- ---- a sound image, and a span that fits a record
+-- ---- a sound image, a span that fits a record, and limits
 
 pub record Ready (c : Context) : Type 0 where
   pub sound : Sound (c .image)
   pub span : c .span < 256 ^ 4
+  pub limited : c .limited ≡ true
 
 -- from one such context to a later one
 pub record Onward (c d : Context) : Type 0 where
@@ -125,7 +126,7 @@ text-sound im s sound p l m =
     (rw (text-low longer (heights longer Texts) (pair (length (im .bytes)) (length s))) (omega arith)) m
 
 withImage-ready : {c : Context} {im : Image} → Ready c → Sound im → Ready (withImage c im)
-withImage-ready r s = record { sound = s; span = r .span }
+withImage-ready r s = record { sound = s; span = r .span; limited = r .limited }
 
 text-size : (im : Image) (s : List ℕ) → Sound im → sizeOf im Texts < sizeOf (withText im s) Texts
 text-size im s sound =
@@ -135,7 +136,7 @@ pub text-sure : (s : List ℕ) → Proper s → (c : Context) → KeepsSound c (
 text-sure s p c =
     record {
       good = λ r. text-good s c ▹ λ t d l n. rw (n .at, n .is)
-          (withImage-ready r (text-sound (c .image) s (r .sound) p (n .bytes) (n .texts)), text-size (c .image) s (r .sound));
+          (withImage-ready r (text-sound (c .image) s (r .sound) p (n .bytes (r .limited)) (n .texts (r .limited))), text-size (c .image) s (r .sound));
     }
 
 -- ---- a list
@@ -201,7 +202,7 @@ pub list-sure : {o : Section} {h : ℕ} {l r : Target} (m : ℕ) (ns : List ℕ)
 list-sure m ns c e xs =
     record {
       good = λ r. list-good ns c ▹ λ list d l n. rw (n .at, n .is)
-          (withImage-ready r (list-sound ns (r .sound) (refs-small ns (r .sound) xs) (n .within)), list-held (r .sound) ns xs e);
+          (withImage-ready r (list-sound ns (r .sound) (refs-small ns (r .sound) xs) (n .within (r .limited))), list-held (r .sound) ns xs e);
     }
 
 -- ---- an expression and a statement
@@ -221,7 +222,7 @@ pub node-sure : {h : ℕ} (kind : ℕ) (fs : List Field) (c : Context) → inSec
 node-sure {h} kind fs c e l x =
     record {
       good = λ r. append-good Expressions tt _ c ▹ λ n d z a. rw (a .at, a .is) (
-        withImage-ready r (one-sound (r .sound) Expressions tt (made kind fs) e (x .fits) (omega (arith, x .low)) (a .within)),
+        withImage-ready r (one-sound (r .sound) Expressions tt (made kind fs) e (x .fits) (omega (arith, x .low)) (a .within (r .limited))),
         record {
           refers = record { earlier = last-there (r .sound) Expressions tt (made kind fs); taken = refl };
           low = last-low (r .sound) Expressions tt (made kind fs) x;
@@ -239,7 +240,7 @@ pub statement-sure : {h : ℕ} (t : Target) (kind : ℕ) (fs : List Field) (c : 
 statement-sure {h} t kind fs c o taken e l x =
     record {
       good = λ r. append-good Statements tt _ c ▹ λ n d z a. rw (a .at, a .is) (
-        withImage-ready r (one-sound (r .sound) Statements tt (made kind fs) e (x .fits) (omega (arith, x .low)) (a .within)),
+        withImage-ready r (one-sound (r .sound) Statements tt (made kind fs) e (x .fits) (omega (arith, x .low)) (a .within (r .limited))),
         record {
           refers = record
               { earlier = rw o (last-there (r .sound) Statements tt (made kind fs)); taken = rw (last-is (r .sound) Statements tt (made kind fs)) taken };

@@ -168,7 +168,7 @@ module _ (im : Image) (f : ℕ) (wf : WellFormed im) (p : f < sizeOf im Function
   lowering-well-formed im′ untouched = wf
   lowering-well-formed im′ (rebuilt {list} {c} d l) =
       let g : Later (start im f) c × (Ready c × BodyHeld list c) =
-      good-is (body-sure im f sound low lower p .good (start-ready sound f low lower p)) (sound .eight) d in
+      good-is (body-sure im f sound low lower p .good (start-ready sound f low lower p)) (record { sections = sound .eight; limits = refl }) d in
       sound-well-formed (withBody (c .image) f list)
       (body-sound (g .1 .0 .sound) f (omega (arith, p, size-grows (g .0 .image) Functions)) list (g .1 .1)) l
 

@@ -17,13 +17,13 @@ use Rattle.rl_spec.specs.Schema.{inSection, sortOf, fieldsOf, fieldsIn, schema}
 use Rattle.rl_spec.specs.Image.{Field, Rec, Image, sizeOf, recordOf, first, second, entryOf, tallestChild, heights, FieldsFit, noFields, _&_}
 use Rattle.rl_spec.specs.Tree.{below, descendBy, descend}
 use Rattle.rl_spec.specs.Ranges.{upFrom}
-use Rattle.rl_spec.specs.Make.{Context, Make, _>>=_, give, fail, self, append, made, newList, entriesOf}
+use Rattle.rl_spec.specs.Make.{Context, Make, _>>=_, give, imageSoFar, append, made, newList, entriesOf}
 use Rattle.rl_spec.specs.Lower.{isNode, cloneEntries, cloneField, cloneFields, isLambda, cloneRecord, deepCloneExpr}
 use Rattle.rl_images.specs.Images.FieldFacts.{list-says}
 use Rattle.rl_images.specs.Images.SchemaSorts.{all-at, and-left, and-right, kind-range}
 use Rattle.rl_theorems.specs.Images.NewReferences.{Ref, ref-there, ref-higher, Refs, noRefs, ref, Held, AllHeld, own-held, own-tall, one-ref, many-refs}
 use Rattle.rl_theorems.specs.Images.NewFields.{allPlain, plain, nil-held, cons-held, one-held}
-use Rattle.rl_theorems.specs.Images.KeepsSound.{Ready, KeepsSound, ref-on, refs-on, held-on, all-on, Node, sure-given, sure-stopped, sure-test, sure-ready, list-sure, node-sure, _⇝_, _↠_}
+use Rattle.rl_theorems.specs.Images.KeepsSound.{Ready, KeepsSound, ref-on, refs-on, held-on, all-on, Node, sure-given, sure-test, sure-ready, list-sure, node-sure, _⇝_, _↠_}
 
 -- ---- no field of an expression looks at the one before it
 
@@ -78,7 +78,7 @@ module _ (h : ℕ) (clone : ℕ → Make ℕ) (copies : (n : ℕ) (c : Context) 
   many-sure : (l r : Target) (m : ℕ) (f : Field) (c : Context) → Held (c .image) Expressions h (Many l r m) f →
       KeepsSound c (λ g d. Held (d .image) Expressions h (Many l r m) g) (cloneField clone (Many l r m) f c)
   many-sure l r m f c x =
-      sure-test (isNode l || isNode r) (self >>= λ ctx. cloneEntries clone l r (entriesOf (ctx .image) f) >>= newList) (give f) c
+      sure-test (isNode l || isNode r) (imageSoFar >>= λ im. cloneEntries clone l r (entriesOf im f) >>= newList) (give f) c
       (λ e. entries-sure l r (entriesOf (c .image) f) c (many-refs f x) ⇝ λ ns d on ys.
       list-sure m ns d (rw (ys .1, length-entries (c .image) f) (many-turns f x)) (ys .0))
       (λ e. sure-given x)
@@ -135,14 +135,14 @@ record-sure clone copies h id c l x =
     node-sure (r .kind) fs d kind (omega arith) (ys 0) ↠ λ n z on′ y. ref-higher q y)
 
 abbrev copyStep : ℕ → (ℕ → Make ℕ) → Make ℕ
-copyStep id clone = self >>= λ ctx. cloneRecord clone id (recordOf (ctx .image) Expressions id)
+copyStep id clone = imageSoFar >>= λ im. cloneRecord clone id (recordOf im Expressions id)
 
-copies-by : (n : ℕ) → Copies (descendBy fail copyStep n)
+copies-by : (n : ℕ) → Copies (descendBy give copyStep n)
 unfolding descendBy
-copies-by zero h id c l x = sure-stopped
+copies-by zero h id c l x = sure-given x
 copies-by (suc n) h id c l x =
-    record-sure (below id fail (descendBy fail copyStep n))
-    (λ g j d m y. sure-test (ltb j id) (descendBy fail copyStep n j) fail d (λ e. copies-by n g j d m y) (λ e. sure-stopped)) h id c l x
+    record-sure (below id give (descendBy give copyStep n))
+    (λ g j d m y. sure-test (ltb j id) (descendBy give copyStep n j) (give j) d (λ e. copies-by n g j d m y) (λ e. sure-given y)) h id c l x
 
 pub clone-sure : (h id : ℕ) (c : Context) → h ≤ 68 → Node h id c → KeepsSound c (Node h) (deepCloneExpr id c)
 unfolding deepCloneExpr descend

@@ -247,7 +247,7 @@ wrap-as-sure temp p isResult value ensures c q xs =
     (ref (ref-higher one y7) noRefs))
 
 counted-sure : (c : Context) → KeepsSound c (λ n d. d ≡ counted c) (takeTemp c)
-counted-sure c = record { good = λ r. temp-good c ▹ λ n d l p. (rw (p .1) (record { sound = r .sound; span = r .span }), p .1) }
+counted-sure c = record { good = λ r. temp-good c ▹ λ n d l p. (rw (p .1) (record { sound = r .sound; span = r .span; limited = r .limited }), p .1) }
 
 pub wrap-sure : (value : ℕ) (ensures : List Clause) (c : Context) → There value c → Every ClauseReady c ensures →
     KeepsSound c (Lines 3) (wrapReturn value ensures c)

@@ -21,12 +21,12 @@ use Rattle.rl_spec.specs.Schema.{inSection, sortOf, fieldsOf, fieldsIn, schema}
 use Rattle.rl_spec.specs.Fields.{takes}
 use Rattle.rl_spec.specs.Image.{Field, num, Rec, Image, sizeOf, recordOf, fieldOf, first, sectionOf, heights, anOption}
 use Rattle.rl_spec.specs.Tree.{number, below, descendBy, descend}
-use Rattle.rl_spec.specs.Make.{Context, Make, andThen, _>>=_, give, fail, self, flatMap, append, made, stmt, entriesOf}
+use Rattle.rl_spec.specs.Make.{Context, Make, andThen, _>>=_, give, imageSoFar, flatMap, append, made, stmt, entriesOf}
 use Rattle.rl_spec.specs.Lower.{expr, wrapReturn, transformList, transformBranchBy, transformBranch, transformElse, transformArmBy, transformArm, conditional, match, loop, transformStatementBy, transformStatement}
 use Rattle.rl_images.specs.Lowering.GrowsTo.{Every, noMore, more}
 use Rattle.rl_theorems.specs.Images.KeptFields.{same-size}
 use Rattle.rl_theorems.specs.Images.NewReferences.{Ref, ref-there, ref-higher, Refs, noRefs, ref, refs-higher, refs-append, Held, held-higher, held-at, AllHeld, own-held, own-tall, raw-below, one-ref, maybe-ref, many-refs}
-use Rattle.rl_theorems.specs.Images.KeepsSound.{Ready, Onward, KeepsSound, sure-given, sure-stopped, sure-test, sure-ready, ref-on, refs-on, held-on, Line, Lines, OfStatements, list-sure, node-sure, statement-sure, _then_, _⇝_, _↠_}
+use Rattle.rl_theorems.specs.Images.KeepsSound.{Ready, Onward, KeepsSound, sure-given, sure-test, sure-ready, ref-on, refs-on, held-on, Line, Lines, OfStatements, list-sure, node-sure, statement-sure, _then_, _⇝_, _↠_}
 use Rattle.rl_theorems.specs.Images.NewFields.{nil-held, cons-held, raw-held, byte-held, one-held}
 use Rattle.rl_theorems.specs.Images.SoundGuards.{every-on, each-sure, every-refs, ClauseReady, clause-on, wrap-sure}
 
@@ -285,14 +285,20 @@ module _ (ensures : List Clause) where
   -- ---- all the statements before
 
   abbrev statementStep : ℕ → (ℕ → Make (List ℕ)) → Make (List ℕ)
-  statementStep s walk = self >>= λ ctx. transformStatementBy walk ensures s (recordOf (ctx .image) Statements s)
+  statementStep s walk = imageSoFar >>= λ im. transformStatementBy walk ensures s (recordOf im Statements s)
 
-  walks-by : (n : ℕ) → Walks (descendBy fail statementStep n)
+  abbrev untouched : ℕ → Make (List ℕ)
+  untouched s = give (s ∷ [])
+
+  untouched-sure : Walks untouched
+  untouched-sure h s c l es x = sure-given (ref (ref-higher (omega arith) x) noRefs)
+
+  walks-by : (n : ℕ) → Walks (descendBy untouched statementStep n)
   unfolding descendBy
-  walks-by zero h s c l es x = sure-stopped
+  walks-by zero h s c l es x = untouched-sure h s c l es x
   walks-by (suc n) h s c l es x =
-      statement-by (below s fail (descendBy fail statementStep n))
-      (λ g j d m fs y. sure-test (ltb j s) (descendBy fail statementStep n j) fail d (λ e. walks-by n g j d m fs y) (λ e. sure-stopped)) h s c l es x
+      statement-by (below s untouched (descendBy untouched statementStep n))
+      (λ g j d m fs y. sure-test (ltb j s) (descendBy untouched statementStep n j) (untouched j) d (λ e. walks-by n g j d m fs y) (λ e. untouched-sure g j d m fs y)) h s c l es x
 
   pub transform-sure : Walks (transformStatement ensures)
   unfolding transformStatement descend

@@ -17,7 +17,7 @@ use Rattle.rl_spec.specs.Image.{Field, num, Rec, Image, sizeOf, recordOf, first
 use Rattle.rl_spec.specs.Values.{ConstVal, str}
 use Rattle.rl_spec.specs.Tree.{Expr, null, literal, identifier, unary, binary, grouping, assign, okLiteral, errLiteral, below}
 use Rattle.rl_spec.specs.Mapped.{Text}
-use Rattle.rl_spec.specs.Make.{Context, Make, _>>=_, give, fail, self, made, newList, entriesOf}
+use Rattle.rl_spec.specs.Make.{Context, Make, _>>=_, give, imageSoFar, made, newList, entriesOf}
 use Rattle.rl_spec.specs.Lower.{isNode, cloneEntries, cloneField, cloneFields, isLambda, cloneRecord, deepCloneExpr}
 use Rattle.rl_laws.specs.Descend.{descend-is}
 use Rattle.rl_images.specs.Images.SchemaSorts.{and-left, and-right}
@@ -166,7 +166,7 @@ module _ (clone : ℕ → Make ℕ) (clones : Clones clone) where
       (λ q. given (all-kept q refl))
   field-ok (Maybe t) f ctx = given (all-kept refl refl)
   field-ok (Many l r n) f ctx =
-      test (isNode l || isNode r) (self >>= λ ctx. cloneEntries clone l r (entriesOf (ctx .image) f) >>= newList) (give f) ctx
+      test (isNode l || isNode r) (imageSoFar >>= λ im. cloneEntries clone l r (entriesOf im f) >>= newList) (give f) ctx
       (λ q. list-copied l r f ctx ▹ λ g c k h. record {
         node = λ p. absurd (false≢true p);
         list = λ p. h (and-left (isNode l) (isNode r) p) (and-right (isNode l) (isNode r) p);
@@ -321,17 +321,17 @@ step-ok i clone clones ctx =
     r = recordOf (ctx .image) Expressions i
 
 clones-below : (i : ℕ) → ((n : ℕ) → n < i → (ctx : Context) → GrowsTo ctx (Copied ctx n) (deepCloneExpr n ctx)) →
-    Clones (below i fail deepCloneExpr)
-clones-below i h n ctx = test (ltb n i) (deepCloneExpr n) fail ctx (λ q. h n (ltb-true n i q) ctx) (λ q. stopped)
+    Clones (below i give deepCloneExpr)
+clones-below i h n ctx = test (ltb n i) (deepCloneExpr n) (give n) ctx (λ q. h n (ltb-true n i q) ctx) (λ q. given λ e x. x)
 
 copy-under : (b i : ℕ) → i < b → (ctx : Context) → GrowsTo ctx (Copied ctx i) (deepCloneExpr i ctx)
 unfolding deepCloneExpr
 copy-under zero i l ctx = absurd (omega arith)
-copy-under (suc b) i l ctx = rw (descend-is fail cloneStep i)
-    (step-ok i (below i fail deepCloneExpr) (clones-below i λ n m c. copy-under b n (omega arith) c) ctx)
+copy-under (suc b) i l ctx = rw (descend-is give cloneStep i)
+    (step-ok i (below i give deepCloneExpr) (clones-below i λ n m c. copy-under b n (omega arith) c) ctx)
   where
     cloneStep : ℕ → (ℕ → Make ℕ) → Make ℕ
-    cloneStep = λ id clone. self >>= λ ctx. cloneRecord clone id (recordOf (ctx .image) Expressions id)
+    cloneStep = λ id clone. imageSoFar >>= λ im. cloneRecord clone id (recordOf im Expressions id)
 
 -- THEOREM: the copy of any expression; where the original stands for a tree the copy does
 pub copy-ok : Clones deepCloneExpr

@@ -21,7 +21,7 @@ use Rattle.rl_spec.specs.Functions.{plainFunction, contractFunction, checkFirst
 use Rattle.rl_spec.specs.Run.{Value, ending, _>>_}
 use Rattle.rl_spec.specs.Reading.{Check, Function, plainly, bindAll, top, runFunction, reading}
 use Rattle.rl_spec.specs.Make.{Context}
-use Rattle.rl_spec.specs.Lower.{paramsIn, requiresIn, ensuresIn, bodyIn, hasContracts, newBody, start, bodied, withBody, fitting, finished, lowered}
+use Rattle.rl_spec.specs.Lower.{paramsIn, requiresIn, ensuresIn, bodyIn, hasContracts, newBody, start, bodied, withBody, fitting, finished, loweredBy, lowered}
 use Rattle.rl_theorems.specs.Lowering.LowerTrees as tree
 use Rattle.rl_theorems.specs.Lowering.LowerFrame.{CleanChecks}
 use Rattle.rl_theorems.specs.Lowering.LowerBodies.{Ensured}
@@ -130,11 +130,11 @@ module _ (im : Image) (wf : WellFormed im) (f : ℕ) (inside : f < sizeOf im Fun
 
   finished-case : (im′ : Image) → Ensured (source .ensures) (source .body) → (o : Option (Field × Context)) →
       newBody im f (start im f) ≡ o →
-      finished f o ≡ some im′ → LoweredTo source (contractFunction im′ f)
+      finished true f o ≡ some im′ → LoweredTo source (contractFunction im′ f)
   unfolding fitting
   finished-case im′ h none e q = absurd (Option·none-ne-some im′ q)
   finished-case im′ h (some r) e q =
-      let m = good-is (made-body h) (eight-sections im wf) e in
+      let m = good-is (made-body h) (record { sections = eight-sections im wf; limits = refl }) e in
       let is = fitting-is (ltb 65535 (length (encode (withBody (r .1 .image) f (r .0))))) q in
       subst (λ x. LoweredTo source (contractFunction x f)) is (finished-to (r .1) (m .0) (r .0) (m .1))
     where
@@ -165,10 +165,10 @@ module _ (im : Image) (wf : WellFormed im) (f : ℕ) (inside : f < sizeOf im Fun
 -- THEOREM: the function of the lowered image is what the function is lowered to
 pub lowered-trees : (im im′ : Image) (f : ℕ) → WellFormed im → f < sizeOf im Functions → lowered im f ≡ some im′ →
     Ensured (contractFunction im f .ensures) (contractFunction im f .body) → LoweredTo (contractFunction im f) (contractFunction im′ f)
-unfolding lowered
+unfolding loweredBy
 lowered-trees im im′ f wf inside e o = go (hasContracts im f) refl e
   where
-    go : (b : Bool) → hasContracts im f ≡ b → cond b (finished f (newBody im f (start im f))) (some im) ≡ some im′ →
+    go : (b : Bool) → hasContracts im f ≡ b → cond b (finished true f (newBody im f (start im f))) (some im) ≡ some im′ →
         LoweredTo (contractFunction im f) (contractFunction im′ f)
     go true h q = finished-case im wf f inside im′ o (newBody im f (start im f)) refl q
     go false h q = subst (λ x. LoweredTo (contractFunction im f) (contractFunction x f)) (Option·some-injective im im′ q) (plain-case im wf f inside h)

@@ -23,7 +23,10 @@ use Rattle.rl_spec.specs.Reading.{Function}
 use Rattle.rl_spec.specs.Make.{Context}
 use Rattle.rl_spec.specs.Lower.{start, lowered}
 use Rattle.rl_images.specs.Lowering.Grows.{eight-sections, records-own, records-other}
-use Rattle.rl_images.specs.Lowering.GrowsTo.{Later, good-is}
+use Rattle.rl_images.specs.Lowering.Gives.{given-is}
+use Rattle.rl_images.specs.Lowering.GrowsTo.{Later}
+use Rattle.rl_images.specs.Lowering.Adds.{adds-later}
+use Rattle.rl_images.specs.Lowering.AddsLower.{adds-new-body}
 use Rattle.rl_theorems.specs.Trees.Denotes.{keep-holds, keep}
 use Rattle.rl_theorems.specs.Trees.DenotedTrees.{tree-of, body-of}
 use Rattle.rl_theorems.specs.Trees.DenotingExpressions.{few}
@@ -32,7 +35,7 @@ use Rattle.rl_theorems.specs.Trees.SameTrees.{expr-same, body-same}
 use Rattle.rl_images.specs.Images.FunctionFields.{ClauseFits, clause-fits, function-fits}
 use Rattle.rl_theorems.specs.Lowering.FinishedImage as finished
 use Rattle.rl_theorems.specs.Trees.FunctionTrees.{expression-is, body-stands}
-use Rattle.rl_images.specs.Lowering.Followed.{Lowering, untouched, rebuilt, body-grow, lowering}
+use Rattle.rl_images.specs.Lowering.Followed.{Lowering, untouched, rebuilt, lowering}
 
 -- the function of a record
 abbrev contractOf : Image → declared.Function → Function Text
@@ -113,4 +116,4 @@ others-same im im′ f wf e g inside apart = go (lowering im im′ f e)
     go : {x : Image} → Lowering im f x → contractFunction x g ≡ contractFunction im g
     go untouched = refl
     go (rebuilt {list = list} {c = c} d l) =
-        other-same im wf f c (good-is (body-grow im f (start im f)) (eight-sections im wf) d .0) list g inside apart
+        other-same im wf f c (given-is (adds-later (adds-new-body im f) (start im f) (eight-sections im wf)) d) list g inside apart

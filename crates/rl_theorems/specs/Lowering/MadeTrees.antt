@@ -59,7 +59,7 @@ text-says im s e = record {
 
 pub text-ok : (s : List ℕ) (ctx : Context) → GrowsTo ctx (λ t c. Says (c .image) t s) (newText s ctx)
 text-ok s ctx =
-    record { makes = λ e. weaker (text-good s ctx .makes e) λ t c h. (h .0, rw (h .1 .is, h .1 .at) (text-says (ctx .image) s e)) }
+    record { makes = λ e. weaker (text-good s ctx .makes e) λ t c h. (h .0, rw (h .1 .is, h .1 .at) (text-says (ctx .image) s (e .sections))) }
 
 -- the entries at these places among these records
 abbrev entriesIn : List Rec → ℕ → ℕ → List ℕ
@@ -78,7 +78,7 @@ new-entries l (n ∷ ns) =
 
 pub list-ok : (ns : List ℕ) (ctx : Context) → GrowsTo ctx (λ list c. Holds (c .image) list ns) (newList ns ctx)
 list-ok ns ctx = record {
-  makes = λ e. weaker (list-good ns ctx .makes e) λ list c h. (h .0, rw (h .1 .is, h .1 .at) (held e));
+  makes = λ e. weaker (list-good ns ctx .makes e) λ list c h. (h .0, rw (h .1 .is, h .1 .at) (held (e .sections)));
 }
   where
     im : Image

@@ -178,9 +178,9 @@ EnsuredRows ensures r im ns ms im′ =
 pub ensured-ok : (ensures : List Clause) (ns : List ℕ) (ctx : Context) →
     GrowsTo ctx (λ ms c. EnsuredRows ensures (ctx .isResult) (ctx .image) ns ms (c .image)) (ensuredBody ensures ns ctx)
 ensured-ok ensures ns ctx =
-    rows-ok ensures (transformStatement ensures) (transform-ok ensures) ns ctx ▷ λ ss c₁ k₁ h₁. trailing-ok ensures ss c₁ ▹ λ ms c₂ k₂ h₂.
+    rows-ok ensures (λ n. Unit {0}) (transformStatement ensures) (transform-ok ensures) ns ctx ▷ λ ss c₁ k₁ h₁. trailing-ok ensures ss c₁ ▹ λ ms c₂ k₂ h₂.
     λ k ks i b d x o.
-    let t = h₁ (k ∷ ks) i b d x in
+    let t = h₁ (k ∷ ks) i b (λ n l. tt) d x in
     elim (only-bare b o) [
       | inl h ↦ (t .0, h₂ .left (t .0) (t .1) (no-last-to (t .2) h), wrapped h (t .2))
       | inr (e, q) ↦ (

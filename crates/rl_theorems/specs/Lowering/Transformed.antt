@@ -7,7 +7,7 @@ use mathlib.Core.List.{List, [], _∷_, _++_}
 use mathlib.Core.Option.{Option, some}
 use native.Mathlib.Omega.{arith}
 use lib.Dec.{eqb, ltb}
-use borrow.Author.Tests.{eqb-true, ltb-true}
+use borrow.Author.Tests.{eqb-true, ltb-true, ltb-false}
 use Rattle.rl_spec.specs.declared.Section.the-variants.{Statements}
 use Rattle.rl_spec.specs.declared.Clause.{Clause}
 use Rattle.rl_spec.specs.Image.{Field, num, Rec, Image, sizeOf, recordOf, fieldOf, first}
@@ -15,7 +15,7 @@ use Rattle.rl_spec.specs.Tree.{Expr, null, ascii, number, below}
 use Rattle.rl_spec.specs.Statement.{Stmt, conditional, while, loop as loopTree, otherStatement, Body, nil, _▸_, Branch, branch, Else, statementBy, Item, aStatement, aBranch, asStatement}
 use Rattle.rl_spec.specs.Mapped.{Text}
 use Rattle.rl_spec.specs.Reading.{Check}
-use Rattle.rl_spec.specs.Make.{Context, Make, andThen, _>>=_, give, fail, self, each, flatMap, made, stmt, entriesOf}
+use Rattle.rl_spec.specs.Make.{Context, Make, andThen, _>>=_, give, imageSoFar, each, flatMap, made, stmt, entriesOf}
 use Rattle.rl_spec.specs.Lower.{transformReturns, transformList, transformBranch, transformElse, transformArm, conditional as makeConditional, match, loop, only, transformStatementBy, transformStatement}
 use Rattle.rl_laws.specs.Descend.{descend-is}
 use Rattle.rl_theorems.specs.Lowering.LowerTrees.{_⧺_}
@@ -39,43 +39,47 @@ module _ (ensures : List Clause) where
   LineTo r im n ns im′ =
       (ks : List (Check Text)) (x : Item Text) → Ensures im ks → IsLine im n x → (a : Body Text) × Lines im′ ns a × StmtTo r ks (asStatement x) a
 
-  abbrev pub RowsTo : Bool → Image → List ℕ → List ℕ → Image → Type 0
-  RowsTo r im ns ms im′ =
-      (ks : List (Check Text)) (i : ℕ) (b : Body Text) → Ensures im ks → Rows im i ns b →
+  -- the statements that are transformed; all of those before the i-th are among them
+  abbrev Among : (ℕ → Type 0) → ℕ → Type 0
+  Among Met i = (n : ℕ) → n < i → Met n
+
+  abbrev pub RowsTo : (ℕ → Type 0) → Bool → Image → List ℕ → List ℕ → Image → Type 0
+  RowsTo Met r im ns ms im′ =
+      (ks : List (Check Text)) (i : ℕ) (b : Body Text) → Among Met i → Ensures im ks → Rows im i ns b →
       (b′ : Body Text) × Lines im′ ms b′ × BodyTo r ks b b′
 
-  abbrev ListTo : Bool → Image → Field → Field → Image → Type 0
-  ListTo r im f g im′ =
-      (ks : List (Check Text)) (i : ℕ) (ns : List ℕ) (b : Body Text) → Ensures im ks → Holds im f ns → Rows im i ns b →
+  abbrev ListTo : (ℕ → Type 0) → Bool → Image → Field → Field → Image → Type 0
+  ListTo Met r im f g im′ =
+      (ks : List (Check Text)) (i : ℕ) (ns : List ℕ) (b : Body Text) → Among Met i → Ensures im ks → Holds im f ns → Rows im i ns b →
       (ms : List ℕ) × (b′ : Body Text) × Holds im′ g ms × Lines im′ ms b′ × BodyTo r ks b b′
 
-  no-rows : (r : Bool) (im im′ : Image) → RowsTo r im [] [] im′
-  no-rows r im im′ ks i b d noRows = (nil, noRows, nilTo)
+  no-rows : (Met : ℕ → Type 0) (r : Bool) (im im′ : Image) → RowsTo Met r im [] [] im′
+  no-rows Met r im im′ ks i b m d noRows = (nil, noRows, nilTo)
 
-  more-rows : (r : Bool) {a b c : Image} {n : ℕ} {ns l ms : List ℕ} → Grows a b → Grows b c → LineTo r a n ns b → RowsTo r b l ms c →
-      RowsTo r a (n ∷ l) (ns ++ ms) c
-  more-rows r {a} g g′ p q ks i _ d (aRow {x = x} {b = b} l h e hs) =
-      let s = p ks x d h in
-      let t = q ks i b (keep-checks g d) (keep-rows g (λ n l. l) hs) in
+  more-rows : (Met : ℕ → Type 0) (r : Bool) {a b c : Image} {n : ℕ} {ns l ms : List ℕ} → Grows a b → Grows b c → (Met n → LineTo r a n ns b) →
+      RowsTo Met r b l ms c → RowsTo Met r a (n ∷ l) (ns ++ ms) c
+  more-rows Met r {a} {n = n} g g′ p q ks i _ m d (aRow {x = x} {b = b} l h e hs) =
+      let s = p (m n l) ks x d h in
+      let t = q ks i b m (keep-checks g d) (keep-rows g (λ n l. l) hs) in
       (s .0 ⧺ t .0, both-lines (keep-lines g′ (s .1)) (t .1), consTo (subst (λ z. StmtTo r ks z (s .0)) (sym e) (s .2)) (t .2) refl)
 
-  abbrev pub Walks : (ℕ → Make (List ℕ)) → Type 0
-  Walks walk = (n : ℕ) (ctx : Context) → GrowsTo ctx (λ ns c. LineTo (ctx .isResult) (ctx .image) n ns (c .image)) (walk n ctx)
+  abbrev pub Walks : (ℕ → Type 0) → (ℕ → Make (List ℕ)) → Type 0
+  Walks Met walk = (n : ℕ) (ctx : Context) → GrowsTo ctx (λ ns c. Met n → LineTo (ctx .isResult) (ctx .image) n ns (c .image)) (walk n ctx)
 
-  module _ (walk : ℕ → Make (List ℕ)) (walks : Walks walk) where
+  module _ (Met : ℕ → Type 0) (walk : ℕ → Make (List ℕ)) (walks : Walks Met walk) where
     pub rows-ok : (ns : List ℕ) (ctx : Context) →
-        GrowsTo ctx (λ ms c. RowsTo (ctx .isResult) (ctx .image) ns ms (c .image)) (transformReturns walk ns ctx)
+        GrowsTo ctx (λ ms c. RowsTo Met (ctx .isResult) (ctx .image) ns ms (c .image)) (transformReturns walk ns ctx)
     unfolding flatMap
-    rows-ok [] ctx = given (no-rows (ctx .isResult) (ctx .image) (ctx .image))
+    rows-ok [] ctx = given (no-rows Met (ctx .isResult) (ctx .image) (ctx .image))
     rows-ok (n ∷ l) ctx =
         walks n ctx ▷ λ ns c₁ k₁ h₁. rows-ok l c₁ ▷ λ ms c₂ k₂ h₂.
-        given (more-rows (ctx .isResult) (k₁ .image) (k₂ .image) h₁ (rw (k₁ .isResult) at h₂))
+        given (more-rows Met (ctx .isResult) (k₁ .image) (k₂ .image) h₁ (rw (k₁ .isResult) at h₂))
 
     rows-list : (f : Field) (ctx : Context) →
-        GrowsTo ctx (λ g c. ListTo (ctx .isResult) (ctx .image) f g (c .image)) (transformList walk f ctx)
+        GrowsTo ctx (λ g c. ListTo Met (ctx .isResult) (ctx .image) f g (c .image)) (transformList walk f ctx)
     rows-list f ctx =
-        rows-ok (entriesOf (ctx .image) f) ctx ▷ λ ms c₁ k₁ h₁. list-ok ms c₁ ▹ λ g c₂ k₂ h₂ ks i ns b d x y.
-        let s = h₁ ks i b d (rw (x .is) y) in
+        rows-ok (entriesOf (ctx .image) f) ctx ▷ λ ms c₁ k₁ h₁. list-ok ms c₁ ▹ λ g c₂ k₂ h₂ ks i ns b m d x y.
+        let s = h₁ ks i b m d (rw (x .is) y) in
         (ms, s .0, h₂, keep-lines (k₂ .image) (s .1), s .2)
 
     -- ---- any record, of which nothing is known
@@ -158,12 +162,12 @@ module _ (ensures : List Clause) where
       abbrev r : Bool
       r = ctx .isResult
 
-      branch-known : {s : ℕ} {b : Branch Text} → IsLine (ctx .image) s (aBranch b) →
+      branch-known : {s : ℕ} {b : Branch Text} → Among Met s → IsLine (ctx .image) s (aBranch b) →
           GrowsTo ctx (λ n c. (b′ : Branch Text) × IsLine (c .image) n (aBranch b′) × BranchTo r ks b b′) (transformBranch walk s ctx)
       unfolding transformBranch
-      branch-known {s} (standsLine k fs h (anArm {n = n} {list = list} {ns = ns} {b = b} q c l rs)) =
+      branch-known {s} met (standsLine k fs h (anArm {n = n} {list = list} {ns = ns} {b = b} q c l rs)) =
           rw (h .is, q) (rows-list list ctx ▷ λ g c₁ k₁ h₁. stmt-ok 69 _ (num n ∷ g ∷ num 0 ∷ []) c₁ ▹ λ m c₂ k₂ f.
-          let t = h₁ ks s ns b d l rs in
+          let t = h₁ ks s ns b met d l rs in
           (_, f _ (anArm refl (keep-condition (k₁ .image) c) (t .2) (t .3)), branchTo (t .4)))
 
       -- a conditional that is an else branch is left alone
@@ -172,13 +176,13 @@ module _ (ensures : List Clause) where
       unfolding transformBranch
       chain-known (standsLine k fs h (aConditional q l x o)) = rw (h .is, q) (given (standsLine k fs h (aConditional q l x o)))
 
-      else-known : {i s : ℕ} {e : Else Text} → IsElse (ctx .image) i s e →
+      else-known : {i s : ℕ} {e : Else Text} → Among Met i → IsElse (ctx .image) i s e →
           GrowsTo ctx (λ n c. (e′ : Else Text) × IsElse (c .image) (sizeOf (c .image) Statements) n e′ × ElseTo r ks e e′)
           (transformElse walk s ctx)
-      else-known (withoutElse q) = rw q (given (_, withoutElse refl, noElseTo))
-      else-known (anElse l h) =
-          rw (not-none (ctx .image) h) (branch-known h ▹ λ n c k t. (_, anElse (line-inside (t .1)) (t .1), elseBranchTo (t .2)))
-      else-known (aChain l h) =
+      else-known met (withoutElse q) = rw q (given (_, withoutElse refl, noElseTo))
+      else-known met (anElse l h) =
+          rw (not-none (ctx .image) h) (branch-known (λ n k. met n (omega (arith, k, l))) h ▹ λ n c k t. (_, anElse (line-inside (t .1)) (t .1), elseBranchTo (t .2)))
+      else-known met (aChain l h) =
           rw (not-none (ctx .image) h) (chain-known h ▹ λ n c k t. (_, aChain (line-inside t) t, elseConditionalTo))
 
     module _ (ctx : Context) (ks : List (Check Text)) (d : Ensures (ctx .image) ks) where
@@ -192,30 +196,30 @@ module _ (ensures : List Clause) where
       alone : {s : Stmt Text} {o : Option (ℕ × Context)} → GrowsTo ctx (Single s) o → GrowsTo ctx (Result s) (andThen o (λ n. give (n ∷ [])))
       alone g = g ▷ λ n c k t. given (_, a-line (t .1) noRows, t .2)
 
-      conditional-known : {i : ℕ} (n o span : ℕ) {b : Branch Text} {e : Else Text} → IsLine (ctx .image) n (aBranch b) →
+      conditional-known : {i : ℕ} (n o span : ℕ) {b : Branch Text} {e : Else Text} → Among Met i → n < i → IsLine (ctx .image) n (aBranch b) →
           IsElse (ctx .image) i o e →
           GrowsTo ctx (Single (conditional b e))
           ((transformBranch walk n >>= λ branch. transformElse walk o >>= λ other. stmt 68 span (num branch ∷ num other ∷ [])) ctx)
-      conditional-known n o span h x =
-          branch-known ctx ks d h ▷ λ branch c₁ k₁ t.
-          else-known c₁ ks (keep-checks (k₁ .image) d) (keep-else (k₁ .image) (λ n l. l) x) ▷ λ other c₂ k₂ u.
+      conditional-known n o span met l h x =
+          branch-known ctx ks d (λ k z. met k (omega (arith, z, l))) h ▷ λ branch c₁ k₁ t.
+          else-known c₁ ks (keep-checks (k₁ .image) d) met (keep-else (k₁ .image) (λ n l. l) x) ▷ λ other c₂ k₂ u.
           stmt-ok 68 span (num branch ∷ num other ∷ []) c₂ ▹ λ m c₃ k₃ f.
           let b = keep-line (k₂ .image) (t .1) in
           (_, f _ (aConditional refl (line-inside b) b (u .1)), conditionalTo (t .2) (rw (k₁ .isResult) at (u .2)))
 
-      while-known : {i : ℕ} (n span : ℕ) (list : Field) {ns : List ℕ} {e : Expr Text} {b : Body Text} → IsExpr (ctx .image) n e →
+      while-known : {i : ℕ} (n span : ℕ) (list : Field) {ns : List ℕ} {e : Expr Text} {b : Body Text} → Among Met i → IsExpr (ctx .image) n e →
           Holds (ctx .image) list ns →
           Rows (ctx .image) i ns b → GrowsTo ctx (Single (while e b)) ((transformList walk list >>= λ body. stmt 70 span (num n ∷ body ∷ [])) ctx)
-      while-known {i} n span list {ns} {b = b} e h rs =
+      while-known {i} n span list {ns} {b = b} met e h rs =
           rows-list list ctx ▷ λ g c₁ k₁ h₁. stmt-ok 70 span (num n ∷ g ∷ []) c₁ ▹ λ m c₂ k₂ f.
-          let t = h₁ ks i ns b d h rs in
+          let t = h₁ ks i ns b met d h rs in
           (_, f _ (aWhile refl (keep (k₁ .image) e) (t .2) (t .3)), whileTo (t .4))
 
-      loop-known : {i : ℕ} (span : ℕ) (list : Field) {ns : List ℕ} {b : Body Text} → Holds (ctx .image) list ns →
+      loop-known : {i : ℕ} (span : ℕ) (list : Field) {ns : List ℕ} {b : Body Text} → Among Met i → Holds (ctx .image) list ns →
           Rows (ctx .image) i ns b → GrowsTo ctx (Single (loopTree b)) ((transformList walk list >>= λ body. stmt 71 span (body ∷ [])) ctx)
-      loop-known {i} span list {ns} {b = b} h rs =
+      loop-known {i} span list {ns} {b = b} met h rs =
           rows-list list ctx ▷ λ g c₁ k₁ h₁. stmt-ok 71 span (g ∷ []) c₁ ▹ λ m c₂ k₂ f.
-          let t = h₁ ks i ns b d h rs in
+          let t = h₁ ks i ns b met d h rs in
           (_, f _ (aLoop refl (t .2) (t .3)), loopTo (t .4))
 
       other-known : (k : ℕ) (fs : List Field) (s : ℕ) → OtherLine k → IsLine (ctx .image) s (aStatement otherStatement) →
@@ -234,55 +238,61 @@ module _ (ensures : List Clause) where
           GrowsTo ctx (Result (asStatement x)) (some (s ∷ [], ctx))
       left h t = given (_, aRow (line-inside h) h refl noRows, t)
 
-      reads-known : {s k : ℕ} {fs : List Field} {x : Item Text} → IsLine (ctx .image) s x → ReadsLine (ctx .image) s k fs x →
+      reads-known : {s k : ℕ} {fs : List Field} {x : Item Text} → Among Met s → IsLine (ctx .image) s x → ReadsLine (ctx .image) s k fs x →
           GrowsTo ctx (Result (asStatement x)) (transformStatementBy walk ensures s (made k fs) ctx)
-      reads-known is (aDeclaration q t h) = rw q (left is declarationTo)
-      reads-known is (anExpression q h) = rw q (left is expressionTo)
-      reads-known is (aReturn {n = n} {e = e} q h) =
+      reads-known met is (aDeclaration q t h) = rw q (left is declarationTo)
+      reads-known met is (anExpression q h) = rw q (left is expressionTo)
+      reads-known met is (aReturn {n = n} {e = e} q h) =
           rw q (wrapped-ok n ensures ctx ▹ λ ns c k w. (_, w .2 e ks h d, returnTo (w .0) (w .1) refl))
-      reads-known is (aReturnAlone q) =
+      reads-known met is (aReturnAlone q) =
           rw q (expr-ok 16 [] ctx ▷ λ n c₁ k₁ h₁. wrapped-ok n ensures c₁ ▹ λ ns c₂ k₂ w.
           (_, rw (k₁ .isResult) at (w .2 null ks (h₁ _ (aNull refl)) (keep-checks (k₁ .image) d)), returnAloneTo (w .0) (w .1) refl))
-      reads-known is (aConditional {n = n} {o = o} {s = span} q l h e) = rw q (alone (conditional-known n o (first span) h e))
-      reads-known is (anArm q c h b) = rw q (left is otherTo)
-      reads-known is (aWhile {n = n} {s = span} {list = list} q e h rs) = rw q (alone (while-known n (first span) list e h rs))
-      reads-known is (aLoop {s = span} {list = list} q h rs) = rw q (alone (loop-known (first span) list h rs))
-      reads-known is (aBreak q) = rw q (left is breakTo)
-      reads-known is (aContinue q) = rw q (left is continueTo)
-      reads-known {s} {k} {fs} is (anOtherLine o) = other-known k fs s o is
+      reads-known met is (aConditional {n = n} {o = o} {s = span} q l h e) = rw q (alone (conditional-known n o (first span) met l h e))
+      reads-known met is (anArm q c h b) = rw q (left is otherTo)
+      reads-known met is (aWhile {n = n} {s = span} {list = list} q e h rs) = rw q (alone (while-known n (first span) list met e h rs))
+      reads-known met is (aLoop {s = span} {list = list} q h rs) = rw q (alone (loop-known (first span) list met h rs))
+      reads-known met is (aBreak q) = rw q (left is breakTo)
+      reads-known met is (aContinue q) = rw q (left is continueTo)
+      reads-known {s} {k} {fs} met is (anOtherLine o) = other-known k fs s o is
 
-      statement-known : {s : ℕ} {x : Item Text} → IsLine (ctx .image) s x →
+      statement-known : {s : ℕ} {x : Item Text} → Among Met s → IsLine (ctx .image) s x →
           GrowsTo ctx (Result (asStatement x)) (transformStatementBy walk ensures s (recordOf (ctx .image) Statements s) ctx)
-      statement-known (standsLine k fs h t) = rw (h .is) (reads-known (standsLine k fs h t) t)
+      statement-known met (standsLine k fs h t) = rw (h .is) (reads-known met (standsLine k fs h t) t)
 
-    step-ok : (s : ℕ) (ctx : Context) →
+    step-ok : (s : ℕ) → Among Met s → (ctx : Context) →
         GrowsTo ctx (λ ns c. LineTo (ctx .isResult) (ctx .image) s ns (c .image))
         (transformStatementBy walk ensures s (recordOf (ctx .image) Statements s) ctx)
-    step-ok s ctx =
+    step-ok s met ctx =
         under (statement-grows s (recordOf (ctx .image) Statements s) ctx) known ▹ λ ns c k h ks x d l. h (ks, x, d, l)
       where
         known : (p : (ks : List (Check Text)) × (x : Item Text) × Ensures (ctx .image) ks × IsLine (ctx .image) s x) →
             GrowsTo ctx (λ ns c. (a : Body Text) × Lines (c .image) ns a × StmtTo (ctx .isResult) (p .0) (asStatement (p .1)) a)
             (transformStatementBy walk ensures s (recordOf (ctx .image) Statements s) ctx)
-        known p = statement-known ctx (p .0) (p .2) (p .3)
+        known p = statement-known ctx (p .0) (p .2) met (p .3)
 
   -- ---- all statements
 
+  abbrev untouched : ℕ → Make (List ℕ)
+  untouched s = give (s ∷ [])
+
   walks-below : (i : ℕ) → ((n : ℕ) → n < i → (ctx : Context) →
       GrowsTo ctx (λ ns c. LineTo (ctx .isResult) (ctx .image) n ns (c .image))
-      (transformStatement ensures n ctx)) → Walks (below i fail (transformStatement ensures))
-  walks-below i h n ctx = test (ltb n i) (transformStatement ensures n) fail ctx (λ q. h n (ltb-true n i q) ctx) (λ q. stopped)
+      (transformStatement ensures n ctx)) → Walks (λ n. n < i) (below i untouched (transformStatement ensures))
+  walks-below i h n ctx =
+      test (ltb n i) (transformStatement ensures n) (untouched n) ctx (λ q. h n (ltb-true n i q) ctx ▹ λ ns c k t m. t)
+      (λ q. given λ m. absurd (omega (arith, m, ltb-false n i q)))
 
   walk-under : (b i : ℕ) → i < b → (ctx : Context) →
       GrowsTo ctx (λ ns c. LineTo (ctx .isResult) (ctx .image) i ns (c .image)) (transformStatement ensures i ctx)
   unfolding transformStatement
   walk-under zero i l ctx = absurd (omega arith)
-  walk-under (suc b) i l ctx = rw (descend-is fail step i)
-      (step-ok (below i fail (transformStatement ensures)) (walks-below i λ n m c. walk-under b n (omega arith) c) i ctx)
+  walk-under (suc b) i l ctx = rw (descend-is untouched step i)
+      (step-ok (λ n. n < i) (below i untouched (transformStatement ensures)) (walks-below i λ n m c. walk-under b n (omega arith) c) i
+      (λ n m. m) ctx)
     where
       step : ℕ → (ℕ → Make (List ℕ)) → Make (List ℕ)
-      step = λ s walk. self >>= λ ctx. transformStatementBy walk ensures s (recordOf (ctx .image) Statements s)
+      step = λ s walk. imageSoFar >>= λ im. transformStatementBy walk ensures s (recordOf im Statements s)
 
   -- THEOREM: the transform of any statement; where it stands for a tree the new ones stand for what the tree is lowered to
-  pub transform-ok : Walks (transformStatement ensures)
-  transform-ok i ctx = walk-under (suc i) i (omega arith) ctx
+  pub transform-ok : Walks (λ n. Unit {0}) (transformStatement ensures)
+  transform-ok i ctx = walk-under (suc i) i (omega arith) ctx ▹ λ ns c k t m. t

@@ -91,7 +91,7 @@ module _ (im : Image) where
   call-by false true n tree = refl
   call-by false false n tree = refl
 
-  before : {i n : ℕ} {e : Expr Text} → n < i → mapExpr texts (exprTree im n) ≡ e → mapExpr texts (below i other (exprTree im) n) ≡ e
+  before : {i n : ℕ} {e : Expr Text} → n < i → mapExpr texts (exprTree im n) ≡ e → mapExpr texts (below i (λ _. other) (exprTree im) n) ≡ e
   before {i} {n} l h = ap (mapExpr texts) (below-earlier im i n l) ∙ h
 
   mutual
@@ -99,12 +99,12 @@ module _ (im : Image) where
 
     pub tree-of : {i : ℕ} {e : Expr Text} → IsExpr im i e → mapExpr texts (exprTree im i) ≡ e
     tree-of (stands {i = i} k fs h d) =
-        ap (mapExpr texts) (tree-is im i ∙ ap (λ r. treeBy im (formBy im r) (below i other (exprTree im))) (h .is)) ∙ tree-reads d
+        ap (mapExpr texts) (tree-is im i ∙ ap (λ r. treeBy im (formBy im r) (below i (λ _. other) (exprTree im))) (h .is)) ∙ tree-reads d
 
     tree-reads : {i k : ℕ} {fs : List Field} {e : Expr Text} → Reads im i k fs e →
-        mapExpr texts (treeBy im (formBy im (made k fs)) (below i other (exprTree im))) ≡ e
+        mapExpr texts (treeBy im (formBy im (made k fs)) (below i (λ _. other) (exprTree im))) ≡ e
     tree-reads (aNull q) = rw q refl
-    tree-reads (aLiteral {i = i} {s = s} p) = plain-is s (below i other (exprTree im)) p
+    tree-reads (aLiteral {i = i} {s = s} p) = plain-is s (below i (λ _. other) (exprTree im)) p
     tree-reads (aString q t) = rw q (ap (λ x. literal (some (str x))) (t .is))
     tree-reads (anIdentifier q t) = rw q (ap identifier (t .is))
     tree-reads (aBinary {op = op} q l m h k) = rw q (ap₂ (λ d e. binary d op e) (before l (tree-of h)) (before m (tree-of k)))
@@ -114,14 +114,14 @@ module _ (im : Image) where
     tree-reads (aCall q p ts a es d) = rw q (tree-call p ts a es ∙ sym d)
     tree-reads (anOk q l h) = rw q (ap okLiteral (before l (tree-of h)))
     tree-reads (anErr q l h) = rw q (ap errLiteral (before l (tree-of h)))
-    tree-reads (anOther {i = i} {fs = fs} k) = ap (λ f. mapExpr texts (treeBy im f (below i other (exprTree im)))) (k im fs)
+    tree-reads (anOther {i = i} {fs = fs} k) = ap (λ f. mapExpr texts (treeBy im f (below i (λ _. other) (exprTree im)))) (k im fs)
 
     tree-call : {i : ℕ} {path args : Field} {ts ns : List ℕ} {xs : List Text} {es : List (Expr Text)} → Holds im path ts → AllSay im ts xs →
-        Holds im args ns → Args im i ns es → mapExpr texts (treeBy im (callForm im path args) (below i other (exprTree im))) ≡ callTree xs es
+        Holds im args ns → Args im i ns es → mapExpr texts (treeBy im (callForm im path args) (below i (λ _. other) (exprTree im))) ≡ callTree xs es
     tree-call p ts a noArgs = rw (holds-length a) refl
     tree-call {i} {path} {args} {xs = xs} p ts a (anArg {n = n} l h noArgs) =
         rw (holds-length a, path-is (ascii "is_err") ts p, path-is (ascii "result_unwrap") ts p, holds-first a)
-        (call-by (isRes xs (ascii "is_err")) (isRes xs (ascii "result_unwrap")) n (below i other (exprTree im))
+        (call-by (isRes xs (ascii "is_err")) (isRes xs (ascii "result_unwrap")) n (below i (λ _. other) (exprTree im))
         ∙ ap (λ e. callTree xs (e ∷ [])) (before l (tree-of h)))
     tree-call {args = args} p ts a (anArg l h (anArg m k es)) = rw (ne-eqb (second args) 1 (λ e. omega (arith, holds-length a))) refl
 
@@ -134,10 +134,10 @@ module _ (im : Image) where
 
   -- the items before the i-th
   abbrev items : ℕ → ℕ → Item ℕ
-  items i = below i (aStatement otherStatement) (itemTree im)
+  items i = below i (λ _. aStatement otherStatement) (itemTree im)
 
   earlier : {i n : ℕ} {x : Item Text} → n < i → mapItem texts (itemTree im n) ≡ x → mapItem texts (items i n) ≡ x
-  earlier {i} {n} l h = ap (mapItem texts) (under-earlier (aStatement otherStatement) (itemTree im) i n l) ∙ h
+  earlier {i} {n} l h = ap (mapItem texts) (under-earlier (λ _. aStatement otherStatement) (itemTree im) i n l) ∙ h
 
   pub not-none : {n : ℕ} {x : Item Text} → IsLine im n x → eqb n 65535 ≡ false
   not-none {n} (standsLine k fs h d) = ne-eqb n 65535 (λ q. omega (arith, h .small))

@@ -54,7 +54,7 @@ module _ (im : Image) where
 
   expr-tables : exprTree im ≡ exprTree (tablesOf im)
   unfolding exprTree
-  expr-tables = λ j. descend other (λ i tree. tree-by (form-tables (recordOf im Expressions i) j) tree j)
+  expr-tables = λ j. descend (λ _. other) (λ i tree. tree-by (form-tables (recordOf im Expressions i) j) tree j)
 
   item-by : (form : StatementForm) (item : ℕ → Item ℕ) → itemBy im form item ≡ itemBy (tablesOf im) form item
   item-by (Declaration x n) item = λ i. aStatement (declaration x (expr-tables i n))
@@ -71,7 +71,7 @@ module _ (im : Image) where
 
   item-tables : itemTree im ≡ itemTree (tablesOf im)
   unfolding itemTree
-  item-tables = λ j. descend (aStatement otherStatement) (λ i item. item-by (statementOf im i) item j)
+  item-tables = λ j. descend (λ _. aStatement otherStatement) (λ i item. item-by (statementOf im i) item j)
 
   body-tables : (list : Interval) → mapBody (textOf im) (bodyTree im list) ≡ mapBody (textOf (tablesOf im)) (bodyTree (tablesOf im) list)
   body-tables list = λ i. mapBody (textOf im) (bodyBy im (item-tables i) list)
