@@ -19,6 +19,7 @@ pub mod Transformed
 pub mod Trailing
 pub mod Desugared
 pub mod FinishedImage
+pub mod LimitPassed
 pub mod LoweredFunctions
 pub mod LoweredFunctionsExample
 pub mod LoweredArguments
