@@ -31,8 +31,8 @@ use Rattle.rl_context.specs.declared.Ctx.{Ctx}
 use Rattle.rl_context.specs.Additions.{waitingWith, Waiting, Live}
 use Rattle.rl_context.specs.Does.{State, at, all, Over, Ends, Start, Does}
 use Rattle.rl_context.proofs.Composed.{by-full, ends-full, ends-live, stays-full, does-then}
-use Rattle.rl_context.proofs.More.{AsMany, More, more-flat}
-use Rattle.rl_context.proofs.MoreLower.{more-statement, more-wrap}
+use Rattle.rl_images.specs.Lowering.Adds.{Adds, adds-flat}
+use Rattle.rl_images.specs.Lowering.AddsLower.{adds-statement, adds-wrap}
 use Rattle.rl_context.proofs.Waits.{counted-same}
 use Rattle.rl_guards.specs.Guards.{Gathers, clausesIn}
 use Rattle.rl_transform.specs.Transforms.{walkBelow, Ready, Returns}
@@ -73,7 +73,7 @@ unfolding wrapTrailing
 trailing-long ensures b y =
     by-cond (endsBare (y .image) b) (wrapReturn (number (lastOf (y .image) b) 1) ensures >>= λ seq. give (seq ++ take (length b - 1) b)) (give b) y
     (λ _.
-    after (both (more-wrap (number (lastOf (y .image) b) 1) ensures .more y) (some-wrapped (number (lastOf (y .image) b) 1) ensures y)) (λ seq z h.
+    after (both (adds-wrap (number (lastOf (y .image) b) 1) ensures .more y) (some-wrapped (number (lastOf (y .image) b) 1) ensures y)) (λ seq z h.
     gives (h .0, rw (length-append seq (take (length b - 1) b), length-take-le (length b - 1) b (omega arith)) (omega (arith, h .1)))))
     (λ _. gives (record { sections = refl; lists = omega arith }, omega arith))
 
@@ -120,12 +120,12 @@ module _ (im : Image) (ctx : Ctx) (scratch waiting side : List ℕ) (long : leng
         e : Ends im 0 all [] (m x) ss (at done scratch′ side′)
         e = d .does [] (some (tt, x)) (ends-live v (aside x ws l))
 
-    all-over : (ws : List ℕ) (x : Context) → Over (ws ++ []) x → More m → Gives (λ r z. Over (ws ++ r) z) (andThen (m x) k)
+    all-over : (ws : List ℕ) (x : Context) → Over (ws ++ []) x → Adds m → Gives (λ r z. Over (ws ++ r) z) (andThen (m x) k)
     all-over ws x o more =
         after (more .more x) (λ b y a. weaker (keeps b y) (λ r z v.
         record { sections = v .0 .sections ∙ a .sections ∙ o .sections; more = rw (length-append ws r) (omega (arith, o .more, a .lists, v .0 .lists, length-append ws [])) }))
 
-    pub aside-then : More m → Does im 0 0 all (m >>= k) (at ctx scratch waiting) res t
+    pub aside-then : Adds m → Does im 0 0 all (m >>= k) (at ctx scratch waiting) res t
     aside-then more = record { does = go }
       where
         go : (ws : List ℕ) (o : Option (Unit {0} × Context)) → Start im 0 ws o (at ctx scratch waiting) → Ends im 0 all ws (andThen o (λ _. m >>= k)) res t
@@ -209,7 +209,7 @@ module _ (s p : List ℕ) (c : Counts) (rows : List ℕ) (body ensured : Interva
         subst (λ z. Ends of 0 all ws z ss t) (sym (ap (λ z. cond z (wrapReturn (number (lastOf (y .image) ss) 1) es >>= λ seq. give (seq ++ take (length ss - 1) ss)) (give ss) y) (bare-then x y ws l e ∙ b)))
         (subst (λ z. Ends of 0 all ws (some (z, y)) z t) (whole y m)
         (w .does ws (some (tt, y)) (ends-live f (subst (λ z. Live of 0 y z (waitingWith done (ctx .waiting)) scratch′ waiting) (sym (append-nil ws)) v)))))
-        (more-flat (more-statement es) numbers)
+        (adds-flat (adds-statement es) numbers)
       where
         whole : (y : Context) → Live of 0 y ss done scratch′ side′ → take count side′ ≡ ss
         whole y m = ap (λ n. take n side′) same ∙ m .waits .entries
@@ -228,7 +228,7 @@ module _ (s p : List ℕ) (c : Counts) (rows : List ℕ) (body ensured : Interva
         (λ x y ws l e m f v.
         subst (λ z. Ends of 0 all ws z (seq ++ take most side′) t) (sym (wrapped x y ws l e m))
         (both-done .does ws (some (tt, y)) (ends-live f (subst (λ z. Live of 0 y z (waitingWith done (ctx .waiting)) scratch′ waiting) (sym (append-nil ws)) v))))
-        (more-flat (more-statement es) numbers)
+        (adds-flat (adds-statement es) numbers)
       where
         both-done : Does of 0 0 all (wrapReturn value es >>= λ z. give (z ++ take most side′)) (at (waitingWith done (ctx .waiting)) scratch′ waiting) (seq ++ take most side′) t
         both-done = does-then (λ z. seq ++ z) d′ w (record { keeps = λ ws a x o. gives (record { sections = o .sections; more = rw (length-append ws (a ++ take most side′), length-append a (take most side′)) (omega (arith, o .more, length-append ws a)) }) }) refl (λ z. refl)

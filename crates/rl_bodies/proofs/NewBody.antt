@@ -28,8 +28,9 @@ use Rattle.rl_context.specs.declared.Ctx.{Ctx}
 use Rattle.rl_context.specs.Additions.{none-new, grown, Live}
 use Rattle.rl_context.specs.Does.{State, at, nothing, all, Does, Listed}
 use Rattle.rl_context.proofs.Composed.{Keeps, does-then, does-same, does-list}
-use Rattle.rl_context.proofs.More.{More, more-bind, more-give, more-cond, more-each, more-list, keeps-more, keeps-all}
-use Rattle.rl_context.proofs.MoreLower.{more-clause, more-ensured, more-desugar}
+use Rattle.rl_images.specs.Lowering.Adds.{Adds, adds-bind, adds-give, adds-cond, adds-each, adds-list}
+use Rattle.rl_context.proofs.StaysOver.{keeps-more, keeps-all}
+use Rattle.rl_images.specs.Lowering.AddsLower.{adds-clause, adds-ensured, adds-desugar}
 use Rattle.rl_guards.specs.Guards.{Gathers, clausesIn, ConditionsIn}
 use Rattle.rl_guards.proofs.Conditions.{required-in, ensured-in}
 use Rattle.rl_transform.specs.Transforms.{Ready}
@@ -107,7 +108,7 @@ module _ (n o : Make (List ℕ)) (l : List ℕ) where
   joined : (n >>= λ y. o >>= λ z. give (l ++ y ++ z)) ≡ ((n >>= λ y. o >>= λ z. give (y ++ z)) >>= λ r. give (l ++ r))
   joined = λ i x. first-joined (n x) i
 
-does-three : {im : Image} {s t u v : State} {m n o : Make (List ℕ)} {a b c : List ℕ} → More n → More o → Does im 0 0 all m s a t → Does im 0 0 all n t b u →
+does-three : {im : Image} {s t u v : State} {m n o : Make (List ℕ)} {a b c : List ℕ} → Adds n → Adds o → Does im 0 0 all m s a t → Does im 0 0 all n t b u →
     Does im 0 0 all o u c v → Does im 0 0 all (m >>= λ x. n >>= λ y. o >>= λ z. give (x ++ y ++ z)) s (a ++ (b ++ c)) v
 does-three {im} {s} {t} {u} {v} {m} {n} {o} {a} {b} {c} more-n more-o d e g = does-then (λ r. a ++ r) d two keeps (joined n o a) (λ r. refl)
   where
@@ -117,7 +118,7 @@ does-three {im} {s} {t} {u} {v} {m} {n} {o} {a} {b} {c} more-n more-o d e g = do
     keeps : Keeps all (λ x. n >>= λ y. o >>= λ z. give (x ++ y ++ z)) all
     keeps =
         subst (λ (k : List ℕ → Make (List ℕ)). Keeps all k all) (sym (λ i l. joined n o l i))
-        (keeps-all (more-bind more-n (λ y. more-bind more-o (λ z. more-give (y ++ z)))))
+        (keeps-all (adds-bind more-n (λ y. adds-bind more-o (λ z. adds-give (y ++ z)))))
 
 -- ---- the whole body
 
@@ -168,7 +169,7 @@ module _ (s p : List ℕ) (c : Counts) (f : ℕ) (ctx : Ctx) (fresh : Fresh (ima
 
   keeps-body : Keeps (nothing {A = Unit {0}}) (λ _. newBody of f) nothing
   unfolding newBody
-  keeps-body = keeps-more nothing (λ _. more-bind (more-desugar _ _ _ _) more-list)
+  keeps-body = keeps-more nothing (λ _. adds-bind (adds-desugar _ _ _ _) adds-list)
 
   -- THE LAW
   pub body-done : (g : Function) → ((q : List ℕ) → g ≡ functionAt (imageFound s q c) f) → (t u v w : State) (first : ℕ) (list : Interval) →
@@ -179,7 +180,7 @@ module _ (s p : List ℕ) (c : Counts) (f : ℕ) (ctx : Ctx) (fresh : Fresh (ima
   body-done g e t u v w first list same x y z listed =
       does-same (newBody of f) keeps-body same-body
       (does-list first same
-      (does-three (more-each (more-clause _) (requiresIn of f)) (more-cond (isEmpty (ensuresIn of f)) (more-give (bodyIn of f)) (more-ensured (ensuresIn of f) (bodyIn of f)))
+      (does-three (adds-each (adds-clause _) (requiresIn of f)) (adds-cond (isEmpty (ensuresIn of f)) (adds-give (bodyIn of f)) (adds-ensured (ensuresIn of f) (bodyIn of f)))
       (x .1)
       (subst (λ (h : Function). Does of 0 0 all (each (clauseGuard (ascii "requires violated")) (clausesIn of (h .required))) t (y .0) u) (e p) (y .1))
       (subst (λ (h : Function). Does of 0 0 all (restIn of (h .body) (h .ensured)) u (z .0) v) (e p) (z .1)))

@@ -17,15 +17,16 @@ use Rattle.rl_spec.specs.Contracts.{Param, paramOf}
 use Rattle.rl_spec.specs.Make.{flatMap}
 use Rattle.rl_context.specs.Does.{State, Pushes}
 use Rattle.rl_context.proofs.Composed.{does-then, does-give, does-push}
-use Rattle.rl_context.proofs.More.{More, more-give, keeps-all}
-use Rattle.rl_context.proofs.MoreLower.{more-refinement}
+use Rattle.rl_images.specs.Lowering.Adds.{Adds, adds-give}
+use Rattle.rl_context.proofs.StaysOver.{keeps-all}
+use Rattle.rl_images.specs.Lowering.AddsLower.{adds-refinement}
 use Rattle.rl_copy.proofs.Entries.{does-nil}
 use Rattle.rl_guards.specs.Guards.{Gathers, guardFor, guardIn}
 use Rattle.rl_transform.proofs.Loops.{Gathering, gather-none, gather-more, gather-all}
 use Rattle.rl_bodies.specs.Bodies.{refinedIn, entriesIn, Waits}
 
 waits-more : {im : Image} {ns : List ℕ} {s t u : State} {n : ℕ} → Waits im ns s t → Pushes n t u → Waits im (ns ++ n ∷ []) s u
-waits-more {im} {ns} {t = t} {n = n} w p = does-then (λ c. ns ++ c ∷ []) w (does-push (does-give im 0 n t) p) (keeps-all (more-give (n ∷ []))) refl (λ c. refl)
+waits-more {im} {ns} {t = t} {n = n} w p = does-then (λ c. ns ++ c ∷ []) w (does-push (does-give im 0 n t) p) (keeps-all (adds-give (n ∷ []))) refl (λ c. refl)
 
 -- ---- the entries of a list
 
@@ -89,17 +90,17 @@ abbrev pub Guarded : Image → Interval → State → State → ℕ → Type 0
 Guarded im params start here i = Gathering im (paramOf im) (guardFor im) (params .first) (params .count) start here i
 
 module _ (im : Image) (params : Interval) (start : State) where
-  more-guard : (p : Param ℕ) → More (guardFor im p)
-  more-guard p = more-refinement im (p .name) (p .refinement)
+  adds-guard : (p : Param ℕ) → Adds (guardFor im p)
+  adds-guard p = adds-refinement im (p .name) (p .refinement)
 
   pub guards-none : Guarded im params start start 0
-  guards-none = gather-none im (paramOf im) (guardFor im) more-guard (params .first) (params .count) start
+  guards-none = gather-none im (paramOf im) (guardFor im) adds-guard (params .first) (params .count) start
 
   module _ (of : Image) (function : ℕ) (same : im ≡ of) (e : params ≡ functionAt of function .params)
       (here : State) (i : ℕ) (w : Guarded im params start here i) where
     pub guards-more : (next : State) → i < params .count → Gathers im 0 (guardIn of function i) here next → Guarded im params start next (i + 1)
     guards-more next h d =
-        gather-more im (paramOf im) (guardFor im) more-guard (params .first) (params .count) start here next i w h (paramOf im (params .first + i)) refl
+        gather-more im (paramOf im) (guardFor im) adds-guard (params .first) (params .count) start here next i w h (paramOf im (params .first + i)) refl
         (subst (λ z. Gathers im 0 (guardFor z (paramOf z (params .first + i))) here next) (sym same)
         (subst (λ z. Gathers im 0 (guardFor of (paramOf of (z .first + i))) here next) (sym e) d))
 
@@ -107,4 +108,4 @@ module _ (im : Image) (params : Interval) (start : State) where
     guards-all h =
         subst (λ z. Gathers im 0 (flatMap (guardFor im) (map (paramOf im) (numbersIn z))) start here)
         (e ∙ ap (λ z. functionAt z function .params) (sym same))
-        (gather-all im (paramOf im) (guardFor im) more-guard (params .first) (params .count) start here i w h)
+        (gather-all im (paramOf im) (guardFor im) adds-guard (params .first) (params .count) start here i w h)

@@ -2,7 +2,7 @@
 -- Assumes nothing.
 use Prim.Native.Nat.{ℕ, _+_}
 use mathlib.Core.Path.{_≡_, sym, _∙_}
-use mathlib.Core.Bool.{cond}
+use mathlib.Core.Bool.{cond, true}
 use mathlib.Core.List.{List, [], _∷_, _++_, append-assoc}
 use mathlib.Core.Option.{none, some}
 use lib.Dec.{ltb}
@@ -46,6 +46,7 @@ parts im ctx bs ts ls es ss =
       span = ctx .span;
       isResult = ctx .«is_result»;
       tempCounter = ctx .«temp_counter»;
+      limited = true;
     }
 
 module _ (im : Image) (new : New) (ctx : Ctx) where

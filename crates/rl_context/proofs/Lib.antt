@@ -1,6 +1,6 @@
 pub mod Composed
 pub mod Regions
-pub mod More
+pub mod StaysOver
 pub mod Grown
 pub mod Appends
 pub mod Sizes
@@ -9,7 +9,6 @@ pub mod Limits
 pub mod Waits
 pub mod Listing
 pub mod TextMade
-pub mod MoreLower
 pub mod NodesMade
 pub mod StatementsMade
 pub mod Rows

@@ -17,8 +17,9 @@ use Rattle.rl_encode.specs.Words.{wordFields, wordRecord}
 use Rattle.rl_context.specs.Does.{State, nothing, one, all, Does, Pushes, Listed}
 use Rattle.rl_context.specs.Paths.{resPath}
 use Rattle.rl_context.proofs.Composed.{Keeps, does-bind, does-then, does-give, does-same, does-push, does-each, does-list}
-use Rattle.rl_context.proofs.More.{more-text, more-list, more-bind, more-each, keeps-more, keeps-one}
-use Rattle.rl_context.proofs.MoreLower.{more-expr}
+use Rattle.rl_images.specs.Lowering.Adds.{adds-text, adds-list, adds-bind, adds-each}
+use Rattle.rl_context.proofs.StaysOver.{keeps-more, keeps-one}
+use Rattle.rl_images.specs.Lowering.AddsLower.{adds-expr}
 
 -- ---- computations
 
@@ -55,7 +56,7 @@ pub does-expr : {im : Image} {k : ℕ} {s t : State} {a : ℕ} (kind : ℕ) (fie
     Does im k k nothing (append Expressions (r ∷ [])) s a t → Does im k k nothing (expr kind fields) s a t
 unfolding expr
 does-expr kind fields r e d =
-    does-same (expr kind fields) (keeps-more nothing (λ _. more-expr kind fields))
+    does-same (expr kind fields) (keeps-more nothing (λ _. adds-expr kind fields))
     (λ x ws l.
     ap (λ z. append Expressions (made kind (num (z .span) ∷ fields) ∷ []) x) (l .context) ∙ ap (λ z. append Expressions (z ∷ []) x) (sym e)) d
 
@@ -85,11 +86,11 @@ module _ {im : Image} {k : ℕ} {s t : State} {a : ℕ} where
 module _ {im : Image} {k : ℕ} {s t u : State} {n a : ℕ} (text : List ℕ) (d : Does im k k nothing (newText text) s n t) where
   pub str-does : Does im k k nothing (append Expressions (wordRecord 25 (t .ctx .span ∷ n ∷ []) ∷ [])) t a u → Does im k k nothing (strLit text) s a u
   unfolding strLit wordRecord wordFields fieldsOf fieldsIn schema sortOf
-  str-does e = does-bind d (keeps-more nothing (λ m. more-expr 25 (num m ∷ []))) (does-expr 25 _ _ refl e)
+  str-does e = does-bind d (keeps-more nothing (λ m. adds-expr 25 (num m ∷ []))) (does-expr 25 _ _ refl e)
 
   pub ident-does : Does im k k nothing (append Expressions (wordRecord 30 (t .ctx .span ∷ n ∷ []) ∷ [])) t a u → Does im k k nothing (ident text) s a u
   unfolding ident wordRecord wordFields fieldsOf fieldsIn schema sortOf
-  ident-does e = does-bind d (keeps-more nothing (λ m. more-expr 30 (num m ∷ []))) (does-expr 30 _ _ refl e)
+  ident-does e = does-bind d (keeps-more nothing (λ m. adds-expr 30 (num m ∷ []))) (does-expr 30 _ _ refl e)
 
 -- ---- calls
 
@@ -105,7 +106,7 @@ module _ {im : Image} {k : ℕ} (std res name : List ℕ) {s t u v : State} {a b
   three-texts = does-each newText std (res ∷ name ∷ []) (rest (res ∷ name ∷ [])) d (does-each newText res (name ∷ []) (rest (name ∷ [])) e (does-each newText name [] (rest []) f (does-none v)))
     where
       rest : (l : List (List ℕ)) → Keeps one (λ n. each newText l >>= λ ns. give (n ∷ ns)) all
-      rest l = keeps-one (λ n ns. n ∷ ns) (more-each more-text l) (λ n ns. omega arith)
+      rest l = keeps-one (λ n ns. n ∷ ns) (adds-each adds-text l) (λ n ns. omega arith)
 
 pub path-does : {im : Image} {k : ℕ} {s t u v z : State} {a b c : ℕ} {list : Interval} (name : List ℕ) →
     Does im k k one (newText (115 ∷ 116 ∷ 100 ∷ [])) s a t → Does im k k one (newText (114 ∷ 101 ∷ 115 ∷ [])) t b u → Does im k k one (newText name) u c v →
@@ -125,8 +126,8 @@ pub call-does : {im : Image} {k : ℕ} {s t u z : State} {a : ℕ} (name : List 
 unfolding resCall
 call-does {u = u} name x path args v w d e p q f =
     does-assoc (each newText (ascii "std" ∷ ascii "res" ∷ name ∷ [])) newList (λ p. newList (x ∷ []) >>= λ q. expr 41 (p ∷ q ∷ []))
-    (does-bind d (keeps-more nothing (λ p. more-bind (more-list (x ∷ [])) (λ q. more-expr 41 (p ∷ q ∷ []))))
-    (does-bind e (keeps-more nothing (λ q. more-expr 41 (pair (path .first) (path .count) ∷ q ∷ [])))
+    (does-bind d (keeps-more nothing (λ p. adds-bind (adds-list (x ∷ [])) (λ q. adds-expr 41 (p ∷ q ∷ []))))
+    (does-bind e (keeps-more nothing (λ q. adds-expr 41 (pair (path .first) (path .count) ∷ q ∷ [])))
     (does-expr 41 _ _ (call-record (u .ctx .span) v w path args p q) f)))
 
 module _ {im : Image} {k : ℕ} {s t : State} {a : ℕ} (x : ℕ) where

@@ -8,13 +8,14 @@ use Rattle.rl_spec.specs.declared.Section.the-variants.{Statements}
 use Rattle.rl_spec.specs.declared.Interval.{Interval}
 use Rattle.rl_spec.specs.Schema.{sortOf, schema, fieldsIn, fieldsOf}
 use Rattle.rl_spec.specs.Image.{Field, num, pair, Rec, Image}
-use Rattle.rl_spec.specs.Make.{Make, _>>=_, self, append, made, newText, newList, stmt, newStmt, absent}
+use Rattle.rl_spec.specs.Make.{Make, _>>=_, resultFlag, append, made, newText, newList, stmt, newStmt, absent}
 use Rattle.rl_spec.specs.Lower.{ident, errLit, unwrapCall, violation, onlyIf, declare, returnOf}
 use Rattle.rl_encode.specs.Words.{wordFields, wordRecord}
 use Rattle.rl_context.specs.Does.{State, nothing, Does}
 use Rattle.rl_context.proofs.Composed.{does-bind, does-same}
-use Rattle.rl_context.proofs.More.{More, more-bind, more-self, more-cond, keeps-more}
-use Rattle.rl_context.proofs.MoreLower.{more-new, more-call}
+use Rattle.rl_images.specs.Lowering.Adds.{Adds, adds-bind, adds-flag, adds-cond}
+use Rattle.rl_context.proofs.StaysOver.{keeps-more}
+use Rattle.rl_images.specs.Lowering.AddsLower.{adds-new, adds-call}
 use Rattle.rl_context.proofs.NodesMade.{Word}
 
 -- a record of the function's span
@@ -22,15 +23,15 @@ pub does-stmt : {im : Image} {j k : ℕ} {s t : State} {a : ℕ} (kind : ℕ) (f
     Does im j k nothing (append Statements (r ∷ [])) s a t → Does im j k nothing (newStmt kind fields) s a t
 unfolding stmt
 does-stmt kind fields r e d =
-    does-same (newStmt kind fields) (keeps-more nothing (λ _. more-new kind fields))
+    does-same (newStmt kind fields) (keeps-more nothing (λ _. adds-new kind fields))
     (λ x ws l.
     ap (λ z. append Statements (made kind (num (z .span) ∷ fields) ∷ []) x) (l .context) ∙ ap (λ z. append Statements (z ∷ []) x) (sym e)) d
 
 -- what is made by the result flag
-pub does-by-result : {A : Type 0} {im : Image} {j k : ℕ} {p : A → List ℕ} {s t : State} {a : A} (f : Bool → Make A) → ((b : Bool) → More (f b)) → Does im j k p (f (s .ctx .«is_result»)) s a t →
-    Does im j k p (self >>= λ ctx. f (ctx .isResult)) s a t
+pub does-by-result : {A : Type 0} {im : Image} {j k : ℕ} {p : A → List ℕ} {s t : State} {a : A} (f : Bool → Make A) → ((b : Bool) → Adds (f b)) → Does im j k p (f (s .ctx .«is_result»)) s a t →
+    Does im j k p (resultFlag >>= f) s a t
 does-by-result {p = p} f more d =
-    does-same (self >>= λ ctx. f (ctx .isResult)) (keeps-more p (λ _. more-bind more-self (λ ctx. more (ctx .isResult))))
+    does-same (resultFlag >>= f) (keeps-more p (λ _. adds-bind adds-flag more))
     (λ x ws l. ap (λ z. f (z .isResult) x) (l .context)) d
 
 module _ {im : Image} {j k : ℕ} {s t : State} {a : ℕ} (node : ℕ) where
@@ -46,12 +47,12 @@ pub declare-does : {im : Image} {j k : ℕ} {s t u : State} {n a : ℕ} (name : 
     Does im j k nothing (append Statements (wordRecord 64 (t .ctx .span ∷ n ∷ 0 ∷ value ∷ 0 ∷ []) ∷ [])) t a u → Does im j k nothing (declare name value) s a u
 unfolding declare wordRecord wordFields fieldsOf fieldsIn schema sortOf
 declare-does name value d e =
-    does-bind d (keeps-more nothing (λ m. more-new 64 (num m ∷ num 0 ∷ num value ∷ num 0 ∷ []))) (does-stmt 64 _ _ refl e)
+    does-bind d (keeps-more nothing (λ m. adds-new 64 (num m ∷ num 0 ∷ num value ∷ num 0 ∷ []))) (does-stmt 64 _ _ refl e)
 
 pub return-of-does : {im : Image} {s t u : State} {n a : ℕ} (name : List ℕ) → Does im 0 0 nothing (ident name) s n t → Does im 0 0 nothing (newStmt 66 (num n ∷ [])) t a u →
     Does im 0 0 nothing (returnOf name) s a u
 unfolding returnOf
-return-of-does name d e = does-bind d (keeps-more nothing (λ m. more-new 66 (num m ∷ []))) e
+return-of-does name d e = does-bind d (keeps-more nothing (λ m. adds-new 66 (num m ∷ []))) e
 
 -- ---- a violation
 
@@ -59,12 +60,12 @@ module _ {im : Image} {s t : State} {n : ℕ} (msg : ℕ) (d : Does im 0 0 nothi
   abbrev violated : ℕ → Bool → Make ℕ
   violated err b = cond b (newStmt 66 (num err ∷ [])) (unwrapCall err >>= λ abort. newStmt 65 (num abort ∷ []))
 
-  more-violated : (err : ℕ) (b : Bool) → More (violated err b)
-  more-violated err b = more-cond b (more-new 66 _) (more-bind (more-call _ err) (λ abort. more-new 65 _))
+  more-violated : (err : ℕ) (b : Bool) → Adds (violated err b)
+  more-violated err b = adds-cond b (adds-new 66 _) (adds-bind (adds-call _ err) (λ abort. adds-new 65 _))
 
   by-flag : {u : State} {a : ℕ} → Does im 0 0 nothing (violated n (t .ctx .«is_result»)) t a u → Does im 0 0 nothing (violation msg) s a u
   unfolding violation
-  by-flag e = does-bind d (keeps-more nothing (λ err. more-bind more-self (λ ctx. more-violated err (ctx .isResult)))) (does-by-result (violated n) (more-violated n) e)
+  by-flag e = does-bind d (keeps-more nothing (λ err. adds-bind adds-flag (more-violated err))) (does-by-result (violated n) (more-violated n) e)
 
   pub violation-returns : {u : State} {a : ℕ} → t .ctx .«is_result» ≡ true → Does im 0 0 nothing (newStmt 66 (num n ∷ [])) t a u → Does im 0 0 nothing (violation msg) s a u
   violation-returns {u} {a} e f = by-flag (subst (λ b. Does im 0 0 nothing (violated n b) t a u) (sym e) f)
@@ -72,7 +73,7 @@ module _ {im : Image} {s t : State} {n : ℕ} (msg : ℕ) (d : Does im 0 0 nothi
   pub violation-aborts : {u v : State} {b a : ℕ} → t .ctx .«is_result» ≡ false → Does im 0 0 nothing (unwrapCall n) t b u → Does im 0 0 nothing (newStmt 65 (num b ∷ [])) u a v →
       Does im 0 0 nothing (violation msg) s a v
   violation-aborts {v = v} {a = a} e f g =
-      by-flag (subst (λ b. Does im 0 0 nothing (violated n b) t a v) (sym e) (does-bind f (keeps-more nothing (λ m. more-new 65 (num m ∷ []))) g))
+      by-flag (subst (λ b. Does im 0 0 nothing (violated n b) t a v) (sym e) (does-bind f (keeps-more nothing (λ m. adds-new 65 (num m ∷ []))) g))
 
 -- ---- a conditional
 
@@ -88,6 +89,6 @@ pub only-if-does : {im : Image} {s t u v : State} {b a : ℕ} (condition stm : �
 unfolding onlyIf wordRecord wordFields fieldsOf fieldsIn schema sortOf
 only-if-does {t = t} condition stm body w d e f g =
     does-bind d
-    (keeps-more nothing (λ p. more-bind (more-new 69 (num condition ∷ p ∷ num 0 ∷ [])) (λ branch. more-new 68 (num branch ∷ absent ∷ []))))
-    (does-bind (does-stmt 69 _ _ (branch-record (t .ctx .span) condition w body e) f) (keeps-more nothing (λ branch. more-new 68 (num branch ∷ absent ∷ [])))
+    (keeps-more nothing (λ p. adds-bind (adds-new 69 (num condition ∷ p ∷ num 0 ∷ [])) (λ branch. adds-new 68 (num branch ∷ absent ∷ []))))
+    (does-bind (does-stmt 69 _ _ (branch-record (t .ctx .span) condition w body e) f) (keeps-more nothing (λ branch. adds-new 68 (num branch ∷ absent ∷ [])))
     (does-stmt 68 _ _ refl g))

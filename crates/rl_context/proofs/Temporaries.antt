@@ -12,7 +12,7 @@ use Rattle.rl_context.specs.declared.Ctx.{Ctx}
 use Rattle.rl_context.specs.Additions.{contextOf, Live}
 use Rattle.rl_context.specs.Does.{State, at, nothing, Does}
 use Rattle.rl_context.proofs.Composed.{not-both}
-use Rattle.rl_context.proofs.More.{more-temp}
+use Rattle.rl_images.specs.Lowering.Adds.{adds-temp}
 use Rattle.rl_context.proofs.Appends.{stops-does}
 use Rattle.rl_context.proofs.Making.{makes-does}
 
@@ -35,11 +35,11 @@ numbered ctx n =
 
 module _ (im : Image) (self : Ctx) (s w : List ℕ) where
   pub temp-full : self .full ≡ true → Does im 0 1 nothing takeTemp (at self s w) (self .«temp_counter») (at self s w)
-  temp-full f = stops-does nothing f more-temp (λ x ws v l. not-both f v)
+  temp-full f = stops-does nothing f adds-temp (λ x ws v l. not-both f v)
 
   pub temp-many : (t : State) → t .ctx .full ≡ true → 2048 < self .«temp_counter» → Does im 0 1 nothing takeTemp (at self s w) (self .«temp_counter») t
   temp-many t f h =
-      stops-does nothing f more-temp (λ x ws v l. absurd (omega (arith, l .temps, l .counted .statements, l .counted .few-statements)))
+      stops-does nothing f adds-temp (λ x ws v l. absurd (omega (arith, l .temps, l .counted .statements, l .counted .few-statements)))
 
   pub temp-taken : self .full ≡ false → Does im 0 1 nothing takeTemp (at self s w) (self .«temp_counter») (at (numbered self (self .«temp_counter» + 1)) s w)
   temp-taken f = makes-does f f go

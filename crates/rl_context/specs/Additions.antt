@@ -1,6 +1,7 @@
 -- What lowering has added to an image, and how the code keeps it.
 use Prim.Native.Nat.{ℕ, _+_, _*_, _≤_}
 use mathlib.Core.Path.{_≡_}
+use mathlib.Core.Bool.{true}
 use mathlib.Core.List.{List, [], _∷_, _++_}
 use lib.ListN.{length, take, drop}
 use Rattle.rl_spec.specs.declared.Section.the-variants.{Texts, Lists, Expressions, Statements, Parameters, Clauses, Functions, Calls}
@@ -37,7 +38,7 @@ grown im new =
 
 abbrev pub contextOf : Image → New → Ctx → Context
 contextOf im new ctx =
-    record { image = grown im new; span = ctx .span; isResult = ctx .«is_result»; tempCounter = ctx .«temp_counter» }
+    record { image = grown im new; span = ctx .span; isResult = ctx .«is_result»; tempCounter = ctx .«temp_counter»; limited = true }
 
 -- ---- the scratch slice: places for 16,384 text bytes, 2,048 texts of 5 bytes and 4,096 list entries of 3, of which the image's own stay
 -- empty, then for 4,096 expressions and 2,048 statements of at most 24 bytes, and some more

@@ -16,7 +16,7 @@ use Rattle.rl_spec.specs.Image.{Field, Image, sizeOf, noRecord, recordsOf, reco
 use Rattle.rl_images.specs.Images.FieldFacts.{first-fits, others-fit}
 use Rattle.rl_spec.specs.Found.{recordAs, recordFound, imageFound}
 use Rattle.rl_spec.specs.Ranges.{upFrom}
-use Rattle.rl_spec.specs.Make.{Context, Make, _>>=_, give, fail, self, append, made}
+use Rattle.rl_spec.specs.Make.{Context, Make, _>>=_, give, imageSoFar, append, made}
 use Rattle.rl_spec.specs.Lower.{isLambda, cloneField, cloneFields, cloneRecord, deepCloneExpr}
 use mir.Syntax.{w64}
 use mir.Val.{Fits}
@@ -29,8 +29,9 @@ use Rattle.rl_encode.specs.Words.{wordField, wordFields, wordRecord}
 use Rattle.rl_context.specs.Additions.{Live}
 use Rattle.rl_context.specs.Does.{State, nothing, Does}
 use Rattle.rl_context.proofs.Composed.{not-both, does-then, does-bind, does-give, does-same}
-use Rattle.rl_context.proofs.More.{More, more-bind, more-append, more-give, more-cond, keeps-more}
-use Rattle.rl_context.proofs.MoreLower.{more-fail, more-clone, more-fields}
+use Rattle.rl_images.specs.Lowering.Adds.{Adds, adds-bind, adds-append, adds-give, adds-cond}
+use Rattle.rl_context.proofs.StaysOver.{keeps-more}
+use Rattle.rl_images.specs.Lowering.AddsLower.{adds-clone, adds-fields}
 use Rattle.rl_context.proofs.Appends.{stops-does}
 use Rattle.rl_copy.specs.Copies.{cloneBelow, Fitting, Copies, CopiesField}
 
@@ -44,7 +45,7 @@ old-record {im} id l h =
 
 clone-step : (id : ℕ) (x : Context) → deepCloneExpr id x ≡ cloneRecord (cloneBelow id) id (recordOf (x .image) Expressions id) x
 unfolding deepCloneExpr
-clone-step id x = λ i. descend-is fail (λ n clone. self >>= λ ctx. cloneRecord clone n (recordOf (ctx .image) Expressions n)) id i x
+clone-step id x = λ i. descend-is give (λ n clone. imageSoFar >>= λ im. cloneRecord clone n (recordOf im Expressions n)) id i x
 
 module _ (s p : List ℕ) (c : Counts) (id start kind : ℕ) (h : id < c .expressions) (e : start ≡ getD p id 0) (q : kind ≡ getD s start 0) where
   abbrev im : Image
@@ -63,22 +64,22 @@ module _ (s p : List ℕ) (c : Counts) (id start kind : ℕ) (h : id < c .expres
   -- a Lambda's own id
   pub copies-lambda : (t : State) → isLambda kind ≡ true → Copies im id t id t
   unfolding recordAs
-  copies-lambda t b = does-same (deepCloneExpr id) (keeps-more nothing (λ _. more-clone id)) (λ x ws l. clone-is x ws {t = t} l ∙ ap (λ z. cond z (give id) (cloneFields (cloneBelow id) (fieldsOf kind) (fieldsAt s (fieldsOf kind) (start + 1)) >>= λ fs. append Expressions (made kind fs ∷ [])) x) b) (does-give im 0 id t)
+  copies-lambda t b = does-same (deepCloneExpr id) (keeps-more nothing (λ _. adds-clone id)) (λ x ws l. clone-is x ws {t = t} l ∙ ap (λ z. cond z (give id) (cloneFields (cloneBelow id) (fieldsOf kind) (fieldsAt s (fieldsOf kind) (start + 1)) >>= λ fs. append Expressions (made kind fs ∷ [])) x) b) (does-give im 0 id t)
 
   -- the copied fields, and the new record
   pub copies-record : (fs : List Field) (t u v : State) (index : ℕ) → isLambda kind ≡ false → Does im 0 0 nothing (cloneFields (cloneBelow id) (fieldsOf kind) (fieldsAt s (fieldsOf kind) (start + 1))) t fs u →
       Does im 0 0 nothing (append Expressions (made kind fs ∷ [])) u index v → Copies im id t index v
   unfolding recordAs
   copies-record fs t u v index b d e =
-      does-same (deepCloneExpr id) (keeps-more nothing (λ _. more-clone id)) (λ x ws l. clone-is x ws {t = t} l ∙ ap (λ z. cond z (give id) (cloneFields (cloneBelow id) (fieldsOf kind) (fieldsAt s (fieldsOf kind) (start + 1)) >>= λ fs. append Expressions (made kind fs ∷ [])) x) b)
-      (does-bind d (keeps-more nothing (λ gs. more-append Expressions (made kind gs ∷ []))) e)
+      does-same (deepCloneExpr id) (keeps-more nothing (λ _. adds-clone id)) (λ x ws l. clone-is x ws {t = t} l ∙ ap (λ z. cond z (give id) (cloneFields (cloneBelow id) (fieldsOf kind) (fieldsAt s (fieldsOf kind) (start + 1)) >>= λ fs. append Expressions (made kind fs ∷ [])) x) b)
+      (does-bind d (keeps-more nothing (λ gs. adds-append Expressions tt (made kind gs ∷ []))) e)
 
   pub copies-full : (t u : State) (index : ℕ) → t .ctx .full ≡ true → u .ctx .full ≡ true → Copies im id t index u
-  copies-full t u index f g = stops-does nothing g (more-clone id) (λ x ws v l. not-both f v)
+  copies-full t u index f g = stops-does nothing g (adds-clone id) (λ x ws v l. not-both f v)
 
 -- ---- the fields, one by one
 
-module _ (clone : ℕ → Make ℕ) (more : (j : ℕ) → More (clone j)) where
+module _ (clone : ℕ → Make ℕ) (more : (j : ℕ) → Adds (clone j)) where
   next-field : (s : List ℕ) (rest place : ℕ) → rest < 2 ^ 64 → (rest ≡ 0 → ⊥) →
       cloneFields clone (codes rest) (fieldsAt s (codes rest) place)
       ≡ (cloneField clone (sortOf (rest % 256)) (fieldIn s (sortOf (rest % 256)) place)
@@ -110,8 +111,8 @@ pub record Copying (s p : List ℕ) (c : Counts) (id row at : ℕ) (start here :
   pub follows : (gs : List Field) (t : State) → Does (imageFound s p c) 0 0 nothing (cloneFields (cloneBelow id) (codes rest) (fieldsAt s (codes rest) place)) here gs t →
       Does (imageFound s p c) 0 0 nothing (cloneFields (cloneBelow id) (codes row) (fieldsAt s (codes row) at)) start (done ++ gs) t
 
-pub more-below : (id j : ℕ) → More (cloneBelow id j)
-more-below id j = more-cond (ltb j id) (more-clone j) more-fail
+pub adds-below : (id j : ℕ) → Adds (cloneBelow id j)
+adds-below id j = adds-cond (ltb j id) (adds-clone j) (adds-give j)
 
 module _ (s p : List ℕ) (c : Counts) (id row at : ℕ) (start : State) where
   pub copying-none : (kind : ℕ) (words : List ℕ) → length words ≡ 8 → row < 2 ^ 64 → at ≤ 65536 → id < c .expressions → codes row ≡ fieldsOf kind → (start₀ : ℕ) → at ≡ start₀ + 1 → start₀ ≡ getD p id 0 → kind ≡ getD s start₀ 0 →
@@ -161,9 +162,9 @@ module _ (s p : List ℕ) (c : Counts) (id row at : ℕ) (start : State) where
               (sym (append-assoc (w .done) (wordField (sortOf (rest % 256)) word ∷ []) gs))
               (w .follows (wordField (sortOf (rest % 256)) word ∷ gs) t
               (subst (λ m. Does (imageFound s p c) 0 0 nothing m here (wordField (sortOf (rest % 256)) word ∷ gs) t)
-              (sym (next-field (cloneBelow id) (more-below id) s rest place (w .small) q))
+              (sym (next-field (cloneBelow id) (adds-below id) s rest place (w .small) q))
               (does-then (λ hs. wordField (sortOf (rest % 256)) word ∷ hs) d (subst (λ n. Does (imageFound s p c) 0 0 nothing (cloneFields (cloneBelow id) (codes (rest / 256)) (fieldsAt s (codes (rest / 256)) (place + n))) next gs t) v f)
-              (keeps-more nothing (λ g. more-bind (more-fields (cloneBelow id) (more-below id) (codes (rest / 256)) _) (λ hs. more-give (g ∷ hs)))) refl (λ hs. refl))));
+              (keeps-more nothing (λ g. adds-bind (adds-fields (cloneBelow id) (adds-below id) (codes (rest / 256)) _) (λ hs. adds-give (g ∷ hs)))) refl (λ hs. refl))));
         }
       where
         split : codes rest ≡ rest % 256 ∷ codes (rest / 256)

@@ -2,12 +2,13 @@
 -- Assumes nothing.
 use Prim.Native.Nat.{ℕ, suc, _+_, _-_, _/_, _%_, _≤_, _<_}
 use mathlib.Core.Path.{_≡_, refl, ap, ap₂, sym, _∙_, subst}
-use mathlib.Core.Bool.{Bool, true, false, cond, _||_}
+use mathlib.Core.Bool.{Bool, true, false, cond, _&&_, _||_}
 use mathlib.Core.List.{List, [], _∷_, _++_, map, append-assoc}
 use mathlib.Core.Option.{Option, some}
 use native.Mathlib.Omega.{arith}
 use native.Mathlib.Nat.{add-zero, sub-zero, add-assoc}
-use borrow.Author.Tests.{lt-ltb, le-ltb}
+use lib.Dec.{ltb}
+use borrow.Author.Tests.{ltb-true, lt-ltb, le-ltb}
 use Rattle.rl_spec.specs.declared.Counts.{Counts}
 use Rattle.rl_spec.specs.declared.Interval.{Interval}
 use Rattle.rl_spec.specs.declared.Section.the-variants.{Lists, Expressions}
@@ -19,22 +20,24 @@ use Rattle.rl_spec.specs.Schema.{sortOf, widthOf}
 use Rattle.rl_spec.specs.Image.{Field, num, pair, Image, sizeOf, first, entryOf, isPair, fieldIn, FieldFits, WellFormed}
 use Rattle.rl_spec.specs.Found.{imageFound}
 use Rattle.rl_spec.specs.Ranges.{upFrom}
-use Rattle.rl_spec.specs.Make.{Context, Make, andThen, _>>=_, give, fail, self, newList, entriesOf}
+use Rattle.rl_spec.specs.Make.{Context, Make, andThen, _>>=_, give, imageSoFar, newList, entriesOf}
 use Rattle.rl_spec.specs.Lower.{isNode, cloneEntries, cloneField, deepCloneExpr}
 use Rattle.rl_encode.specs.Words.{wordField}
+use Rattle.rl_images.specs.Images.SchemaSorts.{and-right}
 use Rattle.rl_images.specs.Images.FieldFacts.{list-says}
 use Rattle.rl_images.specs.Lowering.Gives.{gives, after}
 use Rattle.rl_context.specs.declared.Ctx.{Ctx}
 use Rattle.rl_context.specs.Additions.{Live}
 use Rattle.rl_context.specs.Does.{State, at, nothing, one, all, Ends, Start, Does, Pushes, Listed}
 use Rattle.rl_context.proofs.Composed.{Keeps, does-then, does-bind, does-give, does-same, does-push, does-list}
-use Rattle.rl_context.proofs.More.{more-give, keeps-more, keeps-one}
-use Rattle.rl_context.proofs.MoreLower.{more-fail, more-entries, more-field}
+use Rattle.rl_images.specs.Lowering.Adds.{adds-give}
+use Rattle.rl_context.proofs.StaysOver.{keeps-more, keeps-one}
+use Rattle.rl_images.specs.Lowering.AddsLower.{adds-entries, adds-field}
 use Rattle.rl_context.proofs.Appends.{stops-does}
 use Rattle.rl_copy.specs.declared.Plan.{Plan}
 use Rattle.rl_copy.specs.declared.Plan.the-variants as plan
 use Rattle.rl_copy.specs.Copies.{planOf, cloneBelow, Fitting, Copies, CopiesField, CopiesEntry, CopiesEntries}
-use Rattle.rl_copy.proofs.Copying.{more-below, old-entries}
+use Rattle.rl_copy.proofs.Copying.{adds-below, old-entries}
 
 pub two : (s : List ℕ) (at : ℕ) → numAt s at 2 ≡ u16At s at
 unfolding numAt u16At
@@ -43,10 +46,10 @@ two s at = omega arith
 -- ---- the copy of a child
 
 pub clone-below : (id n : ℕ) → n < id → cloneBelow id n ≡ deepCloneExpr n
-clone-below id n h = ap (λ b. cond b (deepCloneExpr n) fail) (lt-ltb n id h)
+clone-below id n h = ap (λ b. cond b (deepCloneExpr n) (give n)) (lt-ltb n id h)
 
-pub clone-above : (id n : ℕ) → id ≤ n → cloneBelow id n ≡ fail
-clone-above id n h = ap (λ b. cond b (deepCloneExpr n) fail) (le-ltb n id h)
+clone-above : (id n : ℕ) → id ≤ n → cloneBelow id n ≡ give n
+clone-above id n h = ap (λ b. cond b (deepCloneExpr n) (give n)) (le-ltb n id h)
 
 -- ---- what a plan says of a sort
 
@@ -55,7 +58,7 @@ Said o plan.Keep = (clone : ℕ → Make ℕ) (f : Field) → cloneField clone o
 Said o plan.Node = (isPair o ≡ false) × ((widthOf o ≡ 2) × ((clone : ℕ → Make ℕ) (f : Field) → cloneField clone o f ≡ (clone (first f) >>= λ n. give (num n))))
 Said o (plan.List l r) =
     (isPair o ≡ true)
-    × (((clone : ℕ → Make ℕ) (f : Field) → cloneField clone o f ≡ (self >>= λ ctx. cloneEntries clone l r (entriesOf (ctx .image) f) >>= newList))
+    × (((clone : ℕ → Make ℕ) (f : Field) → cloneField clone o f ≡ (imageSoFar >>= λ im. cloneEntries clone l r (entriesOf im f) >>= newList))
     × ((im : Image) (i before a n : ℕ) → FieldFits im Expressions i before o (pair a n) → a + n ≤ sizeOf im Lists))
 
 said : (o : Sort) → Said o (planOf o)
@@ -73,8 +76,8 @@ said (Many l r n) = go (isNode l || isNode r) refl
   where
     go : (b : Bool) → isNode l || isNode r ≡ b → Said (Many l r n) (cond b (plan.List l r) plan.Keep)
     go true e =
-        (refl, (λ clone f. ap (λ b. cond b (self >>= λ ctx. cloneEntries clone l r (entriesOf (ctx .image) f) >>= newList) (give f)) e, λ im i before a m h. list-says h .0))
-    go false e = λ clone f. ap (λ b. cond b (self >>= λ ctx. cloneEntries clone l r (entriesOf (ctx .image) f) >>= newList) (give f)) e
+        (refl, (λ clone f. ap (λ b. cond b (imageSoFar >>= λ im. cloneEntries clone l r (entriesOf im f) >>= newList) (give f)) e, λ im i before a m h. list-says h .0))
+    go false e = λ clone f. ap (λ b. cond b (imageSoFar >>= λ im. cloneEntries clone l r (entriesOf im f) >>= newList) (give f)) e
 said (Range o) = λ clone f. refl
 said OperandSort = λ clone f. refl
 said Operand = λ clone f. refl
@@ -95,7 +98,7 @@ module _ (s p : List ℕ) (c : Counts) (id code place : ℕ) (sort : Sort) (q : 
   by-plan = said-by o q (g ∙ ap planOf e)
 
   field-keeps : Keeps (nothing {A = Unit {0}}) (λ _. cloneField (cloneBelow id) o (fieldIn s o place)) (nothing {A = Field})
-  field-keeps = keeps-more nothing (λ _. more-field (cloneBelow id) (more-below id) o (fieldIn s o place))
+  field-keeps = keeps-more nothing (λ _. adds-field (cloneBelow id) (adds-below id) o (fieldIn s o place))
 
   pub field-kept : (scratch w : List ℕ) (ctx ctx′ : Ctx) (word : ℕ) → q ≡ plan.Keep → ctx′ ≡ ctx → wordField o word ≡ fieldIn s o place →
       CopiesField im s id code place (at ctx scratch w) word (at ctx′ scratch w)
@@ -114,19 +117,21 @@ module _ (s p : List ℕ) (c : Counts) (id code place : ℕ) (sort : Sort) (q : 
     field-is : cloneField (cloneBelow id) o (fieldIn s o place) ≡ (cloneBelow id child >>= λ n. give (num n))
     field-is = node-said .1 .1 (cloneBelow id) (fieldIn s o place) ∙ ap (λ n. cloneBelow id n >>= λ m. give (num m)) child-is
 
-    pub field-halted : (t u : State) (word : ℕ) → id ≤ child → u .ctx .full ≡ true → CopiesField im s id code place t word u
-    field-halted t u word h full =
-        stops-does nothing full (more-field (cloneBelow id) (more-below id) o (fieldIn s o place)) (λ x ws v l. ap (λ m. m x) (field-is ∙ ap (λ m. m >>= λ n. give (num n)) (clone-above id child h)))
-
-    copied : (t u : State) (index word : ℕ) → child < id → Copies im child t index u → word ≡ index → CopiesField im s id code place t word u
-    copied t u index word h d w =
+    copied : (t u : State) (index word : ℕ) → Does im 0 0 nothing (cloneBelow id child) t index u → word ≡ index → CopiesField im s id code place t word u
+    copied t u index word d w =
         subst (λ z. Does im 0 0 nothing (cloneField (cloneBelow id) o (fieldIn s o place)) t z u) (ap num (sym w) ∙ sym (ap (λ b. cond b (pair (word % 65536) (word / 65536)) (num word)) (node-said .0)))
-        (subst (λ m. Does im 0 0 nothing m t (num index) u) (sym (field-is ∙ ap (λ m. m >>= λ n. give (num n)) (clone-below id child h)))
-        (does-bind d (keeps-more nothing (λ n. more-give (num n))) (does-give im 0 (num index) u)))
+        (subst (λ m. Does im 0 0 nothing m t (num index) u) (sym field-is) (does-bind d (keeps-more nothing (λ n. adds-give (num n))) (does-give im 0 (num index) u)))
+
+    pub field-shared : (scratch v : List ℕ) (ctx ctx′ : Ctx) (word : ℕ) → id ≤ child → ctx′ ≡ ctx → word ≡ child →
+        CopiesField im s id code place (at ctx scratch v) word (at ctx′ scratch v)
+    field-shared scratch v ctx ctx′ word h c w =
+        subst (λ z. CopiesField im s id code place (at ctx scratch v) word (at z scratch v)) (sym c)
+        (copied (at ctx scratch v) (at ctx scratch v) child word (subst (λ m. Does im 0 0 nothing m (at ctx scratch v) child (at ctx scratch v)) (sym (clone-above id child h)) (does-give im 0 child (at ctx scratch v))) w)
 
     pub field-copied : (t : State) (scratch v : List ℕ) (ctx ctx′ : Ctx) (index word : ℕ) → child < id → Copies im child t index (at ctx scratch v) → ctx′ ≡ ctx → word ≡ index →
         CopiesField im s id code place t word (at ctx′ scratch v)
-    field-copied t scratch v ctx ctx′ index word h d c w = subst (λ z. CopiesField im s id code place t word (at z scratch v)) (sym c) (copied t (at ctx scratch v) index word h d w)
+    field-copied t scratch v ctx ctx′ index word h d c w = subst (λ z. CopiesField im s id code place t word (at z scratch v)) (sym c)
+        (copied t (at ctx scratch v) index word (subst (λ m. Does im 0 0 nothing m t index (at ctx scratch v)) (sym (clone-below id child h)) d) w)
 
   module _ (left right : Target) (k : q ≡ plan.List left right) (a n : ℕ) (f : a ≡ u16At s place) (h : n ≡ u16At s (place + 2)) where
     list-said : Said o (plan.List left right)
@@ -206,7 +211,7 @@ module _ (s p : List ℕ) (c : Counts) (id a n : ℕ) (l r : Target) (start : St
               (w .follows (m ∷ ns) t
               (subst (λ z. Does of 0 0 all (cloneEntries (cloneBelow id) left right (map (entryOf of) z)) here (m ∷ ns) t) (sym (next-entry h))
               (does-then (λ ms. m ∷ ms) d f
-              (keeps-one (λ b ms. b ∷ ms) (more-entries (cloneBelow id) (more-below id) right left (map (entryOf of) (upFrom (a + (i + 1)) (n - (i + 1))))) (λ b ms. omega arith)) refl (λ ms. refl))));
+              (keeps-one (λ b ms. b ∷ ms) (adds-entries (cloneBelow id) (adds-below id) right left (map (entryOf of) (upFrom (a + (i + 1)) (n - (i + 1))))) (λ b ms. omega arith)) refl (λ ms. refl))));
         }
 
     pub entries-more : i < n → (e : ℕ) (next : State) → e ≡ entryOf of (a + i) → CopiesEntry of id left e here next → CopyingEntries s p c id a n l r start next (i + 1) right left
@@ -221,15 +226,21 @@ module _ (s p : List ℕ) (c : Counts) (id a n : ℕ) (l r : Target) (start : St
 
 -- ---- an entry
 
-module _ (of : Image) (id : ℕ) (target : Target) (n : ℕ) (here : State) (b : Bool) (q : b ≡ isNode target) where
-  pub entry-copied : (made : ℕ) (mid next : State) → b ≡ true → n < id → Copies of n here made mid → Pushes made mid next → CopiesEntry of id target n here next
-  entry-copied made mid next t v d o =
-      (made, subst (λ m. Does of 0 0 one m here made next) (sym (ap (λ z. cond z (cloneBelow id n) (give n)) (sym q ∙ t) ∙ clone-below id n v)) (does-push d o))
+pub entry-before : (id : ℕ) (target : Target) (n : ℕ) (b : Bool) → b ≡ isNode target && ltb n id → b ≡ true → n < id
+entry-before id target n b q t = ltb-true n id (and-right (isNode target) (ltb n id) (sym q ∙ t))
+
+module _ (of : Image) (id : ℕ) (target : Target) (n : ℕ) (here : State) (b : Bool) (q : b ≡ isNode target && ltb n id) where
+  entry-is : (a c : Bool) → cond a (cond c (deepCloneExpr n) (give n)) (give n) ≡ cond (a && c) (deepCloneExpr n) (give n)
+  entry-is true c = refl
+  entry-is false c = refl
+
+  copy-is : cond (isNode target) (cloneBelow id n) (give n) ≡ cond b (deepCloneExpr n) (give n)
+  copy-is = entry-is (isNode target) (ltb n id) ∙ ap (λ z. cond z (deepCloneExpr n) (give n)) (sym q)
+
+  pub entry-copied : (made : ℕ) (mid next : State) → b ≡ true → Copies of n here made mid → Pushes made mid next → CopiesEntry of id target n here next
+  entry-copied made mid next t d o =
+      (made, subst (λ m. Does of 0 0 one m here made next) (sym (copy-is ∙ ap (λ z. cond z (deepCloneExpr n) (give n)) t)) (does-push d o))
 
   pub entry-kept : (next : State) → b ≡ false → Pushes n here next → CopiesEntry of id target n here next
-  entry-kept next t o = (n, subst (λ m. Does of 0 0 one m here n next) (sym (ap (λ z. cond z (cloneBelow id n) (give n)) (sym q ∙ t))) (does-push (does-give of 0 n here) o))
-
-  -- a node that is not before the one at hand
-  pub entry-stopped : (next : State) → b ≡ true → id ≤ n → next .ctx .full ≡ true → CopiesEntry of id target n here next
-  entry-stopped next t v full =
-      (0, subst (λ m. Does of 0 0 one m here 0 next) (sym (ap (λ z. cond z (cloneBelow id n) (give n)) (sym q ∙ t) ∙ clone-above id n v)) (stops-does one full more-fail (λ x ws k m. refl)))
+  entry-kept next t o =
+      (n, subst (λ m. Does of 0 0 one m here n next) (sym (copy-is ∙ ap (λ z. cond z (deepCloneExpr n) (give n)) t)) (does-push (does-give of 0 n here) o))

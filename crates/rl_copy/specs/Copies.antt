@@ -11,7 +11,7 @@ use Rattle.rl_spec.specs.Schema.{sortOf}
 use Rattle.rl_spec.specs.Image.{Image, entryOf, fieldIn, FieldFits, WellFormed}
 use Rattle.rl_spec.specs.Tree.{below}
 use Rattle.rl_spec.specs.Ranges.{upFrom}
-use Rattle.rl_spec.specs.Make.{Make, give, fail}
+use Rattle.rl_spec.specs.Make.{Make, give}
 use Rattle.rl_spec.specs.Lower.{isNode, cloneEntries, cloneField, deepCloneExpr}
 use Rattle.rl_encode.specs.Words.{wordField}
 use Rattle.rl_copy.specs.declared.Plan.{Plan}
@@ -33,7 +33,7 @@ planOf Operand = Keep
 
 -- the copy of an expression before the one at hand
 abbrev pub cloneBelow : ℕ → ℕ → Make ℕ
-cloneBelow id = below id fail deepCloneExpr
+cloneBelow id = below id give deepCloneExpr
 
 -- a field of the expression at hand, in a well-formed image
 abbrev pub Fitting : Image → list.List ℕ → ℕ → ℕ → ℕ → Type 0

@@ -17,7 +17,8 @@ use rl_spec::Counts;
 use rl_spec::Sort;
 use rl_spec::Target;
 ghost use mathlib.Core.Path.{_≡_};
-ghost use mathlib.Core.Bool.{true, _||_};
+ghost use mathlib.Core.Bool.{_&&_, _||_};
+ghost use lib.Dec.{ltb};
 ghost use mathlib.Core.List.{List};
 ghost use Prim.Native.Nat.{ℕ, _+_, _/_, _%_, _≤_, _<_};
 ghost use Rattle.rl_spec.specs.declared.Interval.{Interval};
@@ -109,13 +110,14 @@ pub fn word_of(image: &[u8], code: u8, place: usize) -> u64
     number_at(image, place, width_of(sort) as u8)
 }
 
-// A limit would be passed.
-fn halted(ctx: Ctx) -> Copied
-    ensures { λ r. ⌜ r .ctx .full ≡ true ⌝ }
+// A node that is not before the one at hand: no accepted image has one.
+fn shared(ctx: Ctx, node: u16) -> Copied
+    ensures { λ r. ⌜ (r .ctx ≡ ctx) × (r .word ≡ node) ⌝ }
 {
-    let made = ctx.stopped();
-    let ctx = made.ctx;
-    Copied { ctx, word: 0 }
+    Copied {
+        ctx,
+        word: node as u64,
+    }
 }
 
 fn as_it_is(image: &[u8], code: u8, place: usize, ctx: Ctx) -> Copied
@@ -155,11 +157,14 @@ fn pushed(made: Made, waiting: &mut [u16]) -> Ctx
     ctx.push(waiting, made.index)
 }
 
-fn stopped(ctx: Ctx) -> Ctx
-    ensures { λ r. ⌜ r .full ≡ true ⌝ }
+// An entry of the expression `id` is copied where it is a node before it.
+fn is_copied(id: u16, target: Target, n: u16) -> bool
+    ensures { λ r. ⌜ r ≡ isNode target && ltb n id ⌝ }
 {
-    let made = ctx.stopped();
-    made.ctx
+    if is_node(target) {
+        return n < id;
+    }
+    false
 }
 
 pub fn deep_clone_expr(
@@ -235,7 +240,7 @@ fn clone_field(
         Plan::Node => {
             let child = u16_at(image, place);
             if id <= child {
-                return halted(ctx);
+                return shared(ctx, child);
             }
             as_node(deep_clone_expr(image, starts, counts, rows, child, scratch, waiting, ctx))
         }
@@ -318,10 +323,7 @@ fn clone_entry(
 ) -> Ctx
     ensures { λ r. ⌜ (now (rows .entry) ≡ table → id < counts .expressions → CopiesEntry (imageFound (now (image .entry)) (now (starts .entry)) counts) id target n (at ctx (now (scratch .entry)) (now (waiting .entry))) (at r (now (scratch .exit)) (now (waiting .exit)))) ⌝ }
 {
-    if is_node(target) {
-        if id <= n {
-            return stopped(ctx);
-        }
+    if is_copied(id, target, n) {
         return pushed(
             deep_clone_expr(image, starts, counts, rows, n, scratch, waiting, ctx),
             waiting,

@@ -10,11 +10,14 @@ use Rattle.rl_spec.specs.declared.Section.the-variants.{Expressions}
 use Rattle.rl_spec.specs.Schema.{sortOf, schema, fieldsIn, fieldsOf}
 use Rattle.rl_spec.specs.Image.{Field, num, Rec, recordsOf, sizeOf, noRecord, recordOf}
 use Rattle.rl_spec.specs.Tree.{below}
-use Rattle.rl_spec.specs.Make.{Context, Make, andThen, _>>=_, give, fail, self, append, made}
+use Rattle.rl_spec.specs.Make.{Context, Make, andThen, _>>=_, give, imageSoFar, append, made}
 use Rattle.rl_spec.specs.Lower.{expr, cloneFields, cloneRecord, deepCloneExpr}
 use Rattle.rl_laws.specs.Descend.{descend-is, under-earlier}
-use Rattle.rl_images.specs.Lowering.Grows.{Eight, record-kept, size-grows, records-own}
-use Rattle.rl_images.specs.Lowering.GrowsTo.{Later, good-is, append-good, expr-good}
+use Rattle.rl_images.specs.Lowering.Gives.{given-is}
+use Rattle.rl_images.specs.Lowering.Grows.{Eight, record-kept, size-grows, records-own, expr-gives}
+use Rattle.rl_images.specs.Lowering.GrowsTo.{Later}
+use Rattle.rl_images.specs.Lowering.Adds.{adds-later, adds-append}
+use Rattle.rl_images.specs.Lowering.AddsLower.{adds-expr}
 use Rattle.rl_guards.specs.Guards.{Leaf, anInteger, aString, aBool, anIdentifier, copyOf}
 
 -- the expression at an index
@@ -38,18 +41,19 @@ pub record New (x : Context) (kind : ℕ) (fields : List Field) (n : ℕ) (y : C
 
 pub expr-new : (kind : ℕ) (fields : List Field) (x y : Context) (n : ℕ) → Eight (x .image) → expr kind fields x ≡ some (n, y) → New x kind fields n y
 expr-new kind fields x y n e is =
-    let g = good-is (expr-good kind fields x) e is in
+    let g = given-is (expr-gives kind fields x) is in
+    let l : Later x y = given-is (adds-later (adds-expr kind fields) x e) is in
     let r : Rec = made kind (num (x .span) ∷ fields) in
     let old : List Rec = recordsOf (x .image) Expressions in
-    let q : recordsOf (y .image) Expressions ≡ old ++ r ∷ [] = ap (λ c. recordsOf (c .image) Expressions) (g .1 .is) ∙ records-own (x .image) Expressions (old ++ r ∷ []) e in
+    let q : recordsOf (y .image) Expressions ≡ old ++ r ∷ [] = ap (λ c. recordsOf (c .image) Expressions) (g .is) ∙ records-own (x .image) Expressions (old ++ r ∷ []) e in
     record {
-      later = g .0;
+      later = l;
       has =
           record {
-            inside = rw (q, length-append old (r ∷ [])) (omega (arith, g .1 .at));
-            is = rw (q, g .1 .at, g .0 .span) (getD-at-end old r);
+            inside = rw (q, length-append old (r ∷ [])) (omega (arith, g .at));
+            is = rw (q, g .at, l .span) (getD-at-end old r);
           };
-      last = g .1 .at;
+      last = g .at;
     }
   where
     getD-at-end : (l : List Rec) (r : Rec) → getD (l ++ r ∷ []) (length l) noRecord ≡ r
@@ -58,11 +62,11 @@ expr-new kind fields x y n e is =
 
 -- ---- copies
 
-clone-is : (id : ℕ) (x : Context) (r : Rec) → Has x id r → deepCloneExpr id x ≡ cloneRecord (below id fail deepCloneExpr) id r x
+clone-is : (id : ℕ) (x : Context) (r : Rec) → Has x id r → deepCloneExpr id x ≡ cloneRecord (below id give deepCloneExpr) id r x
 unfolding deepCloneExpr
 clone-is id x r h =
-    ap (λ m. m x) (descend-is fail (λ id clone. self >>= λ ctx. cloneRecord clone id (recordOf (ctx .image) Expressions id)) id)
-    ∙ ap (λ z. cloneRecord (below id fail deepCloneExpr) id z x) (h .is)
+    ap (λ m. m x) (descend-is give (λ id clone. imageSoFar >>= λ im. cloneRecord clone id (recordOf im Expressions id)) id)
+    ∙ ap (λ z. cloneRecord (below id give deepCloneExpr) id z x) (h .is)
 
 leaf-record : (clone : ℕ → Make ℕ) (id kind : ℕ) (σ w : ℕ) → Leaf kind → cloneRecord clone id (made kind (num σ ∷ num w ∷ [])) ≡ append Expressions (made kind (num σ ∷ num w ∷ []) ∷ [])
 unfolding cloneFields fieldsOf fieldsIn schema sortOf
@@ -72,7 +76,7 @@ leaf-record clone id kind σ w aBool = refl
 leaf-record clone id kind σ w anIdentifier = refl
 
 leaf-copied : (id kind σ w : ℕ) (x : Context) → Leaf kind → Has x id (made kind (num σ ∷ num w ∷ [])) → deepCloneExpr id x ≡ append Expressions (made kind (num σ ∷ num w ∷ []) ∷ []) x
-leaf-copied id kind σ w x l h = clone-is id x _ h ∙ ap (λ m. m x) (leaf-record (below id fail deepCloneExpr) id kind σ w l)
+leaf-copied id kind σ w x l h = clone-is id x _ h ∙ ap (λ m. m x) (leaf-record (below id give deepCloneExpr) id kind σ w l)
 
 module _ (clone : ℕ → Make ℕ) (id σ tok l r : ℕ) (left right : Rec) where
   -- the right operand's copy, and the rest
@@ -130,8 +134,8 @@ pub comparison-copied : (x : Context) (kind w t tok pred : ℕ) → Eight (x .im
     deepCloneExpr pred x ≡ copyOf (x .span) (made 30 (num (x .span) ∷ num t ∷ [])) tok (made kind (num (x .span) ∷ num w ∷ [])) x
 comparison-copied x kind w t tok pred e leaf c =
     clone-is pred x _ (c .has)
-    ∙ binary-record (below pred fail deepCloneExpr) pred (x .span) tok (c .left) (c .right) _ _ x
-    (ap (λ m. m x) (under-earlier fail deepCloneExpr pred (c .left) (c .left-before)) ∙ leaf-copied (c .left) 30 (x .span) t x anIdentifier (c .left-has))
+    ∙ binary-record (below pred give deepCloneExpr) pred (x .span) tok (c .left) (c .right) _ _ x
+    (ap (λ m. m x) (under-earlier give deepCloneExpr pred (c .left) (c .left-before)) ∙ leaf-copied (c .left) 30 (x .span) t x anIdentifier (c .left-has))
     (λ n y is.
-    ap (λ m. m y) (under-earlier fail deepCloneExpr pred (c .right) (c .right-before))
-    ∙ leaf-copied (c .right) kind (x .span) w y leaf (has-later (good-is (append-good Expressions tt _ x) e is .0) (c .right-has)))
+    ap (λ m. m y) (under-earlier give deepCloneExpr pred (c .right) (c .right-before))
+    ∙ leaf-copied (c .right) kind (x .span) w y leaf (has-later (given-is (adds-later (adds-append Expressions tt _) x e) is) (c .right-has)))

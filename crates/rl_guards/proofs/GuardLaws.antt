@@ -18,26 +18,27 @@ use Rattle.rl_spec.specs.Lower.{expr, strLit, deepCloneExpr, violation, onlyIf,
 use Rattle.rl_schema.specs.Codes.{table}
 use Rattle.rl_context.specs.Does.{State, nothing, Pushes}
 use Rattle.rl_context.proofs.Composed.{does-bind, does-give, does-push, does-each}
-use Rattle.rl_context.proofs.More.{more-bind, more-each, keeps-more, keeps-one}
-use Rattle.rl_context.proofs.MoreLower.{more-expr, more-violation, more-only-if, more-guard, more-clause}
+use Rattle.rl_images.specs.Lowering.Adds.{adds-bind, adds-each}
+use Rattle.rl_context.proofs.StaysOver.{keeps-more, keeps-one}
+use Rattle.rl_images.specs.Lowering.AddsLower.{adds-expr, adds-violation, adds-only-if, adds-guard, adds-clause}
 use Rattle.rl_context.proofs.NodesMade.{does-none}
 use Rattle.rl_guards.specs.Guards.{Makes, Gathers, guardOf, clausesIn, ConditionsIn}
 
 module _ {im : Image} {s t u v : State} {a b c : ℕ} (copy msg : ℕ) where
   pub guarded-does : Makes im (expr 33 (num 5 ∷ num copy ∷ [])) s a t → Makes im (violation msg) t b u → Makes im (onlyIf a b) u c v → Makes im (guardOf copy msg) s c v
   guarded-does d e f =
-      does-bind d (keeps-more nothing (λ neg. more-bind (more-violation msg) (λ stm. more-only-if neg stm)))
-      (does-bind e (keeps-more nothing (λ stm. more-only-if a stm)) f)
+      does-bind d (keeps-more nothing (λ neg. adds-bind (adds-violation msg) (λ stm. adds-only-if neg stm)))
+      (does-bind e (keeps-more nothing (λ stm. adds-only-if a stm)) f)
 
 pub guard-does : {im : Image} {s t u : State} {copy a : ℕ} (pred msg : ℕ) → Makes im (deepCloneExpr pred) s copy t → Makes im (guardOf copy msg) t a u → Makes im (guard pred msg) s a u
 unfolding guard
 guard-does pred msg d e =
     does-bind d
-    (keeps-more nothing (λ copy. more-bind (more-expr 33 (num 5 ∷ num copy ∷ [])) (λ neg. more-bind (more-violation msg) (λ stm. more-only-if neg stm)))) e
+    (keeps-more nothing (λ copy. adds-bind (adds-expr 33 (num 5 ∷ num copy ∷ [])) (λ neg. adds-bind (adds-violation msg) (λ stm. adds-only-if neg stm)))) e
 
 module _ {im : Image} {s u : State} {a : ℕ} (default : List ℕ) (clause : Clause) where
   by-message : {t : State} {m : ℕ} → Makes im (msgExpr clause default) s m t → Makes im (guard (clause .condition) m) t a u → Makes im (clauseGuard default clause) s a u
-  by-message d e = does-bind d (keeps-more nothing (λ m. more-guard (clause .condition) m)) e
+  by-message d e = does-bind d (keeps-more nothing (λ m. adds-guard (clause .condition) m)) e
 
   pub clause-default : {t : State} {m : ℕ} → clause .message ≡ 65535 → Makes im (strLit default) s m t → Makes im (guard (clause .condition) m) t a u →
       Makes im (clauseGuard default clause) s a u
@@ -92,7 +93,7 @@ module _ (im : Image) (default : List ℕ) (clauses : Interval) where
       Gathers im 0 (guards (left (i + 1))) v w → Gathers im 0 (guards (left i)) t w
   one-guard {t} {w = w} {n = n} i h d p r =
       subst (λ l. Gathers im 0 (guards l) t w) (sym (left-some i h))
-      (n ∷ r .0, does-each (clauseGuard default) (clauseAt im (clauses .first + i)) (left (i + 1)) (keeps-one (λ m ms. m ∷ ms) (more-each (more-clause default) (left (i + 1))) (λ m ms. omega arith)) (does-push d p) (r .1))
+      (n ∷ r .0, does-each (clauseGuard default) (clauseAt im (clauses .first + i)) (left (i + 1)) (keeps-one (λ m ms. m ∷ ms) (adds-each (adds-clause default) (left (i + 1))) (λ m ms. omega arith)) (does-push d p) (r .1))
 
   -- what is left leads to the whole
   pub record Guarding (rows : List ℕ) (n : ℕ) (s : State) (i : ℕ) (t : State) : Type 0 where

@@ -30,7 +30,8 @@ use Rattle.rl_text_out.proofs.Joined.{length-with, room-holds}
 use Rattle.rl_laws.specs.Tests.{by-ltb}
 use Rattle.rl_context.specs.Does.{State, nothing, Does}
 use Rattle.rl_context.proofs.Composed.{does-bind, does-give}
-use Rattle.rl_context.proofs.More.{more-give, keeps-more}
+use Rattle.rl_images.specs.Lowering.Adds.{adds-give}
+use Rattle.rl_context.proofs.StaysOver.{keeps-more}
 use Rattle.rl_context.proofs.Rows.{row-integer, row-string, row-bool, row-identifier}
 use Rattle.rl_guards.specs.declared.refinements.Operand.{Operand}
 use Rattle.rl_guards.specs.Guards.{Makes, Leaf, anInteger, aString, aBool, anIdentifier, leafOf, OperandMade}
@@ -45,7 +46,7 @@ module _ {im : Image} (image : Image) (x : operand.RefineOperand) {s t : State} 
       record {
         does =
             subst (λ k. Does {A = ℕ × ℕ} im 0 0 nothing (newText (textOf image z) >>= λ n. give (kind, n)) s (k, r .word) t) (sym (m .0))
-            (does-bind (subst (λ l. Makes im (newText l) s (r .word) t) e (m .1 .1)) (keeps-more nothing (λ n. more-give (kind, n))) (does-give im 0 (kind, r .word) t));
+            (does-bind (subst (λ l. Makes im (newText l) s (r .word) t) e (m .1 .1)) (keeps-more nothing (λ n. adds-give (kind, n))) (does-give im 0 (kind, r .word) t));
         leaf = subst Leaf (sym (m .0)) leaf;
         row = ap codes (m .1 .0) ∙ row ∙ ap fieldsOf (sym (m .0));
       }
@@ -99,20 +100,21 @@ never : {A : Type 0} {Q : A → Context → Type 0} {o : Option (A × Context)} 
 never stops h = refl
 never (gives {a} {c} q) h = absurd (h a c q)
 
-long-refused : (s : List ℕ) → 16384 < length s → (x : Context) → newText s x ≡ none
+long-refused : (s : List ℕ) → 16384 < length s → (x : Context) → x .limited ≡ true → newText s x ≡ none
 unfolding limits
-long-refused s h x = never (text-gives s x) (λ n y g. omega (arith, h, g .bytes))
+long-refused s h x v = never (text-gives s x) (λ n y g. omega (arith, h, g .bytes v))
 
-long-str : (s u : List ℕ) → 16384 < length s → 16384 < length u → strLit s ≡ strLit u
+long-str : (s u : List ℕ) → 16384 < length s → 16384 < length u → (x : Context) → x .limited ≡ true → strLit s x ≡ strLit u x
 unfolding strLit
-long-str s u h k = λ i x. andThen ((long-refused s h x ∙ sym (long-refused u k x)) i) (λ t. expr 25 (num t ∷ []))
+long-str s u h k x v = ap (λ o. andThen o (λ t. expr 25 (num t ∷ []))) (long-refused s h x v ∙ sym (long-refused u k x v))
 
-pub same-str : (room t w text : List ℕ) (n : ℕ) → 16385 ≤ length room → n ≡ afterText room 0 t → w ≡ withText room 0 t → text ≡ take n (drop 0 w) → strLit text ≡ strLit t
+pub same-str : (room t w text : List ℕ) (n : ℕ) → 16385 ≤ length room → n ≡ afterText room 0 t → w ≡ withText room 0 t → text ≡ take n (drop 0 w) →
+    (x : Context) → x .limited ≡ true → strLit text x ≡ strLit t x
 unfolding afterText fitting
-same-str room t w text n h e f q =
+same-str room t w text n h e f q x v =
     by-ltb (length room) (length t)
-    (λ l. long-str text t (rw q (long l)) (omega (arith, h)))
-    (λ l. ap strLit (q ∙ room-holds room t w n l e f))
+    (λ l. long-str text t (rw q (long l)) (omega (arith, h)) x v)
+    (λ l. ap (λ z. strLit z x) (q ∙ room-holds room t w n l e f))
   where
     long : length room < length t → 16384 < length (take n (drop 0 w))
     long l =

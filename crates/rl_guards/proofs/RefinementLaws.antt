@@ -2,8 +2,9 @@
 -- Assumes nothing.
 use Prim.Native.Nat.{ℕ, _+_, _≤_}
 use mathlib.Core.Path.{_≡_, refl, ap, sym, _∙_, subst}
+use mathlib.Core.Bool.{true}
 use mathlib.Core.List.{List, [], _∷_}
-use mathlib.Core.Option.{some, Option·map}
+use mathlib.Core.Option.{Option, some, Option·map}
 use native.Mathlib.Omega.{arith}
 use lib.ListN.{length, take, drop}
 use Rattle.rl_spec.specs.declared.Function.{Function}
@@ -21,11 +22,13 @@ use Rattle.rl_spec.specs.Message.{refinementText, defaultText}
 use Rattle.rl_spec.specs.Make.{Context, Make, andThen, _>>=_, give, append, made, newText}
 use Rattle.rl_spec.specs.Lower.{expr, ident, strLit, guard, tokenOf, operandExpr, refinePredicate, refinementGuard}
 use Rattle.rl_images.specs.Lowering.Grows.{Eight}
-use Rattle.rl_images.specs.Lowering.GrowsTo.{Later, Anything, good-is, text-good, expr-good, only-grows, _▷_}
+use Rattle.rl_images.specs.Lowering.Gives.{Gives, stops, gives, given-is}
+use Rattle.rl_images.specs.Lowering.GrowsTo.{Later}
 use Rattle.rl_context.specs.Does.{State, nothing, all, Does, Pushes}
-use Rattle.rl_context.proofs.Composed.{does-bind, does-push}
-use Rattle.rl_context.proofs.More.{More, more-give, more-bind, more-append, more-text, keeps-more}
-use Rattle.rl_context.proofs.MoreLower.{more-expr, more-str, more-guard, more-violation, more-only-if}
+use Rattle.rl_context.proofs.Composed.{does-bind, does-push, does-same}
+use Rattle.rl_images.specs.Lowering.Adds.{Adds, adds-later, adds-give, adds-bind, adds-append, adds-text}
+use Rattle.rl_context.proofs.StaysOver.{keeps-more}
+use Rattle.rl_images.specs.Lowering.AddsLower.{adds-expr, adds-str, adds-guard, adds-violation, adds-only-if, adds-predicate, adds-refinement}
 use Rattle.rl_context.proofs.NodesMade.{assoc, does-none, does-only, does-expr}
 use Rattle.rl_guards.specs.Guards.{Makes, Gathers, guardOf, Leaf, leafOf, copyOf, refinedBy, refinedAs, guardIn}
 use Rattle.rl_text_out.specs.Put.{withText, afterText}
@@ -33,6 +36,15 @@ use Rattle.rl_guards.proofs.Operands.{same-str}
 use Rattle.rl_guards.proofs.Known.{DoesIf, if-start, if-same, if-bind}
 use Rattle.rl_guards.proofs.Copies.{Has, node-later, expr-new, Comparison, comparison-later, comparison-copied}
 use Rattle.rl_guards.proofs.WrapLaws.{bind-same}
+
+-- what is the same under limits is so behind what keeps them
+limited-bind : {A B : Type 0} (m : Make A) (f g : A → Make B) → Adds m → ((a : A) (y : Context) → y .limited ≡ true → f a y ≡ g a y) →
+    (x : Context) → Eight (x .image) → x .limited ≡ true → (m >>= f) x ≡ (m >>= g) x
+limited-bind {A} m f g h same x e v = go (adds-later h x e)
+  where
+    go : {o : Option (A × Context)} → Gives (λ _ y. Later x y) o → andThen o f ≡ andThen o g
+    go stops = refl
+    go (gives {a = a} {c = y} l) = same a y (l .limited ∙ v)
 
 operand-is : (im : Image) (o : RefineOperand ℕ) → operandExpr im o ≡ (leafOf im o >>= λ p. expr (p .0) (num (p .1) ∷ []))
 unfolding strLit ident
@@ -42,8 +54,7 @@ operand-is im (bool b) = refl
 operand-is im (param p) = sym (assoc (newText (textOf im p)) (λ t. give (30, t)) (λ p. expr (p .0) (num (p .1) ∷ [])))
 
 str-later : (s : List ℕ) (x y : Context) (n : ℕ) → Eight (x .image) → strLit s x ≡ some (n, y) → Later x y
-unfolding strLit
-str-later s x y n e is = good-is {Q = Anything} (text-good s x ▷ λ t c l p. only-grows (expr-good 25 (num t ∷ []) c)) e is .0
+str-later s x y n e is = given-is (adds-later (adds-str s) x e) is
 
 -- the right operand
 abbrev Right : ℕ → ℕ → ℕ → Context → Type 0
@@ -83,23 +94,23 @@ module _ (image : Image) (name : ℕ) (refinement : ParamRefinement ℕ) (text :
       ∙ ap (λ m. m >>= from-right) (operand-is image (refinement .operand))
       ∙ assoc (leafOf image (refinement .operand)) (λ p. expr (p .0) (num (p .1) ∷ [])) from-right
 
-  more-message : (pred msg : ℕ) → More (from-message pred msg)
-  more-message pred msg = more-bind (more-guard pred msg) (λ s. more-give (s ∷ []))
+  more-message : (pred msg : ℕ) → Adds (from-message pred msg)
+  more-message pred msg = adds-bind (adds-guard pred msg) (λ s. adds-give (s ∷ []))
 
-  more-predicate : (pred : ℕ) → More (from-predicate pred)
-  more-predicate pred = more-bind (more-str text) (more-message pred)
+  more-predicate : (pred : ℕ) → Adds (from-predicate pred)
+  more-predicate pred = adds-bind (adds-str text) (more-message pred)
 
-  more-left : (right left : ℕ) → More (from-left right left)
-  more-left right left = more-bind (more-expr 32 _) more-predicate
+  more-left : (right left : ℕ) → Adds (from-left right left)
+  more-left right left = adds-bind (adds-expr 32 _) more-predicate
 
-  more-name : (right t : ℕ) → More (from-name right t)
-  more-name right t = more-bind (more-expr 30 _) (more-left right)
+  more-name : (right t : ℕ) → Adds (from-name right t)
+  more-name right t = adds-bind (adds-expr 30 _) (more-left right)
 
-  more-right : (right : ℕ) → More (from-right right)
-  more-right right = more-bind (more-text _) (more-name right)
+  more-right : (right : ℕ) → Adds (from-right right)
+  more-right right = adds-bind (adds-text _) (more-name right)
 
-  more-leaf : (p : ℕ × ℕ) → More (from-leaf p)
-  more-leaf p = more-bind (more-expr (p .0) _) more-right
+  more-leaf : (p : ℕ × ℕ) → Adds (from-leaf p)
+  more-leaf p = adds-bind (adds-expr (p .0) _) more-right
 
   module _ {im : Image} (kind w : ℕ) (leaf : Leaf kind) where
     -- the copy and the guard
@@ -114,8 +125,8 @@ module _ (image : Image) (name : ℕ) (refinement : ParamRefinement ℕ) (text :
           if-same (from-message pred msg) (keeps-more all (λ _. more-message pred msg)) same
           (does-only (does-push
           (does-bind
-          (does-bind d (keeps-more nothing (λ l′. more-bind (more-append Expressions _) (λ r′. more-append Expressions _))) (does-bind e (keeps-more nothing (λ r′. more-append Expressions _)) f))
-          (keeps-more nothing (λ c. more-bind (more-expr 33 _) (λ neg. more-bind (more-violation msg) (λ s. more-only-if neg s)))) g) p))
+          (does-bind d (keeps-more nothing (λ l′. adds-bind (adds-append Expressions tt _) (λ r′. adds-append Expressions tt _))) (does-bind e (keeps-more nothing (λ r′. adds-append Expressions tt _)) f))
+          (keeps-more nothing (λ c. adds-bind (adds-expr 33 _) (λ neg. adds-bind (adds-violation msg) (λ s. adds-only-if neg s)))) g) p))
         where
           same : (x : Context) → Eight (x .image) → x .span ≡ s₆ .ctx .span → Comparison x kind w t token pred →
               from-message pred msg x ≡ (copyOf (s₆ .ctx .span) (made 30 (num (s₆ .ctx .span) ∷ num t ∷ [])) token (made kind (num (s₆ .ctx .span) ∷ num w ∷ [])) >>= (λ c. guardOf c msg) >>= λ s. give (s ∷ [])) x
@@ -141,7 +152,7 @@ module _ (image : Image) (name : ℕ) (refinement : ParamRefinement ℕ) (text :
           (if-start
           (if-bind {Q = λ x. Unit {0}} d₁ (λ x y e _ is. tt) (keeps-more all more-leaf)
           (if-bind {Q = Right kind w right} (does-expr kind _ _ refl d₂) (λ x y e _ is. expr-new kind _ x y right e is .has) (keeps-more all more-right)
-          (if-bind {Q = Right kind w right} d₃ (λ x y e h is. node-later (good-is (text-good _ x) e is .0) h) (keeps-more all (more-name right))
+          (if-bind {Q = Right kind w right} d₃ (λ x y e h is. node-later (given-is (adds-later (adds-text _) x e) is) h) (keeps-more all (more-name right))
           (if-bind {Q = λ x. Right kind w right x × Has x left (made 30 (num (x .span) ∷ num t ∷ []))} (does-expr 30 _ _ refl d₄)
           (λ x y e h is. let n = expr-new 30 _ x y left e is in (node-later (n .later) h, n .has)) (keeps-more all (more-left right))
           (if-bind {Q = λ x. Comparison x kind w t token pred} (does-expr 32 _ _ refl d₅) compared (keeps-more all more-predicate)
@@ -203,7 +214,22 @@ module _ (image : Image) (f n : ℕ) (function : Function) (p : decl.Param) (e :
       size ≡ afterText room 0 (defaultText image f (Refinement n)) → w ≡ withText room 0 (defaultText image f (Refinement n)) → text ≡ take size (drop 0 w) →
       Gathers im 0 (refinedBy image (p .name) (refinedAs o x) text) s t → Gathers im 0 (guardIn image f n) s t
   refinement-done {im} {s} {t} o x room w text size h k a b c g =
-      subst (λ m. Gathers im 0 m s t)
-      (ap (λ m. refinePredicate image (p .name) (refinedAs o x) >>= λ pred. m >>= λ msg. from-message image (p .name) (refinedAs o x) [] pred msg) (same-str room (defaultText image f (Refinement n)) w text size k a b c ∙ ap strLit (default-is o x h))
-      ∙ ap (λ z. refinementGuard image (p .name) (refinementOf z)) (sym h)
-      ∙ sym guard-is) g
+      (
+        g .0,
+        does-same (guardIn image f n) (keeps-more all (λ _. adds-guard-in))
+        (λ y ws l. ap (λ m. m y) (guard-is ∙ ap (λ z. refinementGuard image (p .name) (refinementOf z)) h) ∙ sym (same-message y (ap (λ z. length (z .image .records)) (l .context)) (ap (λ z. z .limited) (l .context))))
+        (g .1),
+      )
+    where
+      message : List ℕ → ℕ → Make (List ℕ)
+      message said pred = strLit said >>= λ msg. from-message image (p .name) (refinedAs o x) [] pred msg
+
+      adds-guard-in : Adds (guardIn image f n)
+      adds-guard-in = subst Adds (sym guard-is) (adds-refinement image (p .name) (refinementOf (p .refinement)))
+
+      -- the message that has room, and the whole one
+      same-message : (y : Context) → Eight (y .image) → y .limited ≡ true →
+          refinedBy image (p .name) (refinedAs o x) text y ≡ refinementGuard image (p .name) (some (refinedAs o x)) y
+      same-message y e v = limited-bind (refinePredicate image (p .name) (refinedAs o x)) (message text) (message (refinementText (textOf image (p .name)) (some (mapRefinement (textOf image) (refinedAs o x)))))
+          (adds-predicate image (p .name) (refinedAs o x))
+          (λ pred z u. ap (λ q. andThen q (λ msg. from-message image (p .name) (refinedAs o x) [] pred msg)) (same-str room (defaultText image f (Refinement n)) w text size k a b c z u ∙ ap (λ q. strLit q z) (default-is o x h))) y e v

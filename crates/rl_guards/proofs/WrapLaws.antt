@@ -13,8 +13,9 @@ use Rattle.rl_spec.specs.Make.{Make, _>>=_, give, takeTemp, each}
 use Rattle.rl_spec.specs.Lower.{ident, unwrapCall, isErrCall, onlyIf, clauseGuard, declare, returnOf, skipErr, wrapAs, wrapReturn}
 use Rattle.rl_context.specs.Does.{State, nothing, one, all, Does, Pushes}
 use Rattle.rl_context.proofs.Composed.{Keeps, does-bind, does-then, does-give, does-push}
-use Rattle.rl_context.proofs.More.{More, more-give, more-bind, more-self, more-cond, more-each, keeps-more, keeps-one, keeps-all}
-use Rattle.rl_context.proofs.MoreLower.{more-ident, more-call, more-only-if, more-clause, more-declare, more-return, more-skip, more-wrap-as}
+use Rattle.rl_images.specs.Lowering.Adds.{Adds, adds-give, adds-bind, adds-flag, adds-cond, adds-each}
+use Rattle.rl_context.proofs.StaysOver.{keeps-more, keeps-one, keeps-all}
+use Rattle.rl_images.specs.Lowering.AddsLower.{adds-ident, adds-call, adds-only-if, adds-clause, adds-declare, adds-return, adds-skip, adds-wrap-as}
 use Rattle.rl_context.proofs.NodesMade.{assoc, does-none, does-only}
 use Rattle.rl_context.proofs.StatementsMade.{does-by-result}
 use Rattle.rl_guards.specs.Guards.{Makes, Gathers, innerOf}
@@ -24,13 +25,13 @@ use Rattle.rl_guards.specs.Guards.{Makes, Gathers, innerOf}
 pub skip-err-does : {im : Image} {s t u v w z : State} {n check r skip : ℕ} (temp : List ℕ) → Makes im (ident temp) s n t → Makes im (isErrCall n) t check u → Makes im (returnOf temp) u r v →
     Makes im (onlyIf check r) v skip w → Pushes skip w z → Gathers im 0 (skipErr temp) s z
 skip-err-does {check = check} {skip = skip} temp d e f g p =
-    (skip ∷ [], does-bind d (keeps-more all (λ n. more-bind (more-call _ n) from-call)) (does-bind e (keeps-more all from-call) (does-bind f (keeps-more all (from-return check)) (does-only (does-push g p)))))
+    (skip ∷ [], does-bind d (keeps-more all (λ n. adds-bind (adds-call _ n) from-call)) (does-bind e (keeps-more all from-call) (does-bind f (keeps-more all (from-return check)) (does-only (does-push g p)))))
   where
-    from-return : (c r : ℕ) → More (onlyIf c r >>= λ k. give (k ∷ []))
-    from-return c r = more-bind (more-only-if c r) (λ k. more-give _)
+    from-return : (c r : ℕ) → Adds (onlyIf c r >>= λ k. give (k ∷ []))
+    from-return c r = adds-bind (adds-only-if c r) (λ k. adds-give _)
 
-    from-call : (c : ℕ) → More (returnOf temp >>= λ r. onlyIf c r >>= λ k. give (k ∷ []))
-    from-call c = more-bind (more-return temp) (from-return c)
+    from-call : (c : ℕ) → Adds (returnOf temp >>= λ r. onlyIf c r >>= λ k. give (k ∷ []))
+    from-call c = adds-bind (adds-return temp) (from-return c)
 
 module _ {im : Image} {s : State} (temp : List ℕ) (b : Bool) where
   pub skip-some : {t : State} → b ≡ true → Gathers im 0 (skipErr temp) s t → Gathers im 0 (cond b (skipErr temp) (give [])) s t
@@ -41,7 +42,7 @@ module _ {im : Image} {s : State} (temp : List ℕ) (b : Bool) where
 
   module _ {t : State} {n : ℕ} (d : Makes im (ident temp) s n t) where
     inner-then : {u : State} {a : ℕ} → Makes im (cond b (unwrapCall n) (give n)) t a u → Makes im (innerOf temp b) s a u
-    inner-then e = does-bind d (keeps-more nothing (λ m. more-cond b (more-call _ m) (more-give m))) e
+    inner-then e = does-bind d (keeps-more nothing (λ m. adds-cond b (adds-call _ m) (adds-give m))) e
 
     pub inner-unwrapped : {u : State} {a : ℕ} → b ≡ true → Makes im (unwrapCall n) t a u → Makes im (innerOf temp b) s a u
     inner-unwrapped {u} {a} e f = inner-then (subst (λ z. Makes im (cond z (unwrapCall n) (give n)) t a u) (sym e) f)
@@ -106,25 +107,25 @@ module _ (temp : List ℕ) (b : Bool) (value : ℕ) (ensures : List Clause) wher
       (λ i. declare temp value >>= λ dec. skips >>= λ skip. ident temp >>= λ n. cond b (unwrapCall n) (give n) >>= λ v. declare (ascii "ret") v >>= λ ret. guards >>= λ ns. returnOf temp >>= λ s. give (append-assoc (dec ∷ skip) (ret ∷ ns) (s ∷ []) i))
       ∙ bind-same (declare temp value) (λ dec. bind-same skips (λ skip. sym (assoc (ident temp) (λ n. cond b (unwrapCall n) (give n)) (λ v. from-ret v (λ l. dec ∷ (skip ++ l))))))
 
-  more-last : More (from-last same)
-  more-last = more-bind (more-return temp) (λ s. more-give _)
+  more-last : Adds (from-last same)
+  more-last = adds-bind (adds-return temp) (λ s. adds-give _)
 
-  more-guards : More (from-guards same)
-  more-guards = more-bind (more-each (more-clause _) ensures) (λ ns. more-bind (more-return temp) (λ s. more-give _))
+  more-guards : Adds (from-guards same)
+  more-guards = adds-bind (adds-each (adds-clause _) ensures) (λ ns. adds-bind (adds-return temp) (λ s. adds-give _))
 
-  more-ret : (v : ℕ) → More (from-ret v same)
-  more-ret v = more-bind (more-declare _ v) (λ r. more-bind (more-each (more-clause _) ensures) (λ ns. more-bind (more-return temp) (λ s. more-give _)))
+  more-ret : (v : ℕ) → Adds (from-ret v same)
+  more-ret v = adds-bind (adds-declare _ v) (λ r. adds-bind (adds-each (adds-clause _) ensures) (λ ns. adds-bind (adds-return temp) (λ s. adds-give _)))
 
-  more-inner : More (from-inner same)
-  more-inner = more-bind (more-bind (more-ident temp) (λ n. more-cond b (more-call _ n) (more-give n))) more-ret
+  more-inner : Adds (from-inner same)
+  more-inner = adds-bind (adds-bind (adds-ident temp) (λ n. adds-cond b (adds-call _ n) (adds-give n))) more-ret
 
-  more-skips : More (from-skip same)
+  more-skips : Adds (from-skip same)
   more-skips =
-      more-bind (more-cond b (more-skip temp) (more-give []))
-      (λ ns. more-bind (more-bind (more-ident temp) (λ n. more-cond b (more-call _ n) (more-give n))) (λ v. more-bind (more-declare _ v) (λ r. more-bind (more-each (more-clause _) ensures) (λ ms. more-bind (more-return temp) (λ s. more-give _)))))
+      adds-bind (adds-cond b (adds-skip temp) (adds-give []))
+      (λ ns. adds-bind (adds-bind (adds-ident temp) (λ n. adds-cond b (adds-call _ n) (adds-give n))) (λ v. adds-bind (adds-declare _ v) (λ r. adds-bind (adds-each (adds-clause _) ensures) (λ ms. adds-bind (adds-return temp) (λ s. adds-give _)))))
 
   -- one, or some, and then what is left
-  ahead : {im : Image} {j : ℕ} {s t u : State} {n : ℕ} {m : Make ℕ} (rest : (List ℕ → List ℕ) → Make (List ℕ)) → ((g h : List ℕ → List ℕ) → (rest h >>= λ l. give (g l)) ≡ rest (λ l. g (h l))) → More (rest same) →
+  ahead : {im : Image} {j : ℕ} {s t u : State} {n : ℕ} {m : Make ℕ} (rest : (List ℕ → List ℕ) → Make (List ℕ)) → ((g h : List ℕ → List ℕ) → (rest h >>= λ l. give (g l)) ≡ rest (λ l. g (h l))) → Adds (rest same) →
       Does im j 0 one m s n t → Gathers im 0 (rest same) t u → Gathers im j (m >>= λ k. rest (λ l. k ∷ l)) s u
   ahead {n = n} rest then more d r =
       (n ∷ r .0, does-then (λ l. n ∷ l) d (r .1) keeps (sym (then (λ l. n ∷ l) same)) (λ c. refl))
@@ -132,7 +133,7 @@ module _ (temp : List ℕ) (b : Bool) (value : ℕ) (ensures : List Clause) wher
       keeps : Keeps one (λ k. rest (λ l. k ∷ l)) all
       keeps = subst (λ f. Keeps one f all) (λ i k. then (λ l. k ∷ l) same i) (keeps-one (λ k l. k ∷ l) more (λ k l. omega arith))
 
-  some-ahead : {im : Image} {s t u : State} {m : Make (List ℕ)} (rest : (List ℕ → List ℕ) → Make (List ℕ)) → ((g h : List ℕ → List ℕ) → (rest h >>= λ l. give (g l)) ≡ rest (λ l. g (h l))) → More (rest same) →
+  some-ahead : {im : Image} {s t u : State} {m : Make (List ℕ)} (rest : (List ℕ → List ℕ) → Make (List ℕ)) → ((g h : List ℕ → List ℕ) → (rest h >>= λ l. give (g l)) ≡ rest (λ l. g (h l))) → Adds (rest same) →
       Gathers im 0 m s t → Gathers im 0 (rest same) t u → Gathers im 0 (m >>= λ ns. rest (λ l. ns ++ l)) s u
   some-ahead rest then more d r =
       (d .0 ++ r .0, does-then (λ l. d .0 ++ l) (d .1) (r .1) keeps (sym (then (λ l. d .0 ++ l) same)) (λ c. refl))
@@ -167,7 +168,7 @@ pub wrap-return-does : {im : Image} {s t u : State} {n : ℕ} (name : List ℕ) 
 unfolding wrapReturn
 wrap-return-does {im} {t = t} {u} {n} name value ensures e d g = (
   g .0,
-  does-bind d (keeps-more all (λ k. more-bind more-self (λ ctx. more-wrap-as (ascii "__ensure_ret_" ++ decimal k) (ctx .isResult) value ensures)))
-      (does-by-result (λ b. wrapAs (ascii "__ensure_ret_" ++ decimal n) b value ensures) (λ b. more-wrap-as _ b value ensures)
+  does-bind d (keeps-more all (λ k. adds-bind adds-flag (λ isResult. adds-wrap-as (ascii "__ensure_ret_" ++ decimal k) isResult value ensures)))
+      (does-by-result (λ b. wrapAs (ascii "__ensure_ret_" ++ decimal n) b value ensures) (λ b. adds-wrap-as _ b value ensures)
       (subst (λ l. Does im 1 0 all (wrapAs l (t .ctx .«is_result») value ensures) t (g .0) u) e (g .1))),
 )

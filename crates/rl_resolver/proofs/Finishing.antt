@@ -25,7 +25,7 @@ use Rattle.rl_context.specs.declared.Ctx.{Ctx}
 use Rattle.rl_context.specs.Additions.{New, grown, Counted, Kept}
 use Rattle.rl_context.specs.Does.{at, nothing, Over, Ends, Does}
 use Rattle.rl_context.proofs.Composed.{ends-live}
-use Rattle.rl_context.proofs.MoreLower.{more-desugar}
+use Rattle.rl_images.specs.Lowering.AddsLower.{adds-desugar}
 use Rattle.rl_assemble.specs.Pieces.{Source, Given}
 use Rattle.rl_assemble.proofs.Laws.{after-front, with-front}
 use Rattle.rl_resolver.specs.Begun.{begun}
@@ -38,7 +38,7 @@ use Rattle.rl_resolver.proofs.Beginning.{live-begun}
 within-limit : (im : Image) (f : ℕ) (x : Context) → Gives (λ (_ : Field) y. Over [] y → ⊥) (newBody im f x)
 unfolding newBody limits
 within-limit im f x =
-    after (more-desugar _ _ _ _ .more x) (λ ns y _.
+    after (adds-desugar _ _ _ _ .more x) (λ ns y _.
     weaker (list-gives ns y) (λ b z n o.
     let eight : length (y .image .records) ≡ 8 = sym (ap (λ (v : Context). length (v .image .records)) (n .is) ∙ length-set (y .image .records) 1 _) ∙ o .sections in
     let size : sizeOf (z .image) Lists ≡ sizeOf (y .image) Lists + length ns =

@@ -12,7 +12,8 @@ use Rattle.rl_spec.specs.Ranges.{upFrom}
 use Rattle.rl_spec.specs.Make.{Make, each, flatMap}
 use Rattle.rl_context.specs.Does.{State, nothing, all, Does, Pushes}
 use Rattle.rl_context.proofs.Composed.{does-push, does-each, does-flat}
-use Rattle.rl_context.proofs.More.{More, more-each, more-flat, keeps-one, keeps-all}
+use Rattle.rl_images.specs.Lowering.Adds.{Adds, adds-each, adds-flat}
+use Rattle.rl_context.proofs.StaysOver.{keeps-one, keeps-all}
 use Rattle.rl_copy.proofs.Entries.{up-suc, does-nil}
 use Rattle.rl_guards.specs.Guards.{Makes, Gathers}
 
@@ -55,7 +56,7 @@ pub record Gathering {A : Type 0} (im : Image) (g : ℕ → A) (f : A → Make (
   pub done : List ℕ
   pub follows : (ns : List ℕ) (t : State) → Does im 0 0 all (flatMap f (left g a n i)) here ns t → Does im 0 0 all (flatMap f (map g (upFrom a n))) start (done ++ ns) t
 
-module _ {A : Type 0} (im : Image) (g : ℕ → A) (f : A → Make (List ℕ)) (more : (x : A) → More (f x)) (a n : ℕ) (start : State) where
+module _ {A : Type 0} (im : Image) (g : ℕ → A) (f : A → Make (List ℕ)) (more : (x : A) → Adds (f x)) (a n : ℕ) (start : State) where
   pub gather-none : Gathering im g f a n start start 0
   gather-none = record { some = omega arith; done = []; follows = λ ns t d. subst (λ z. Does im 0 0 all (flatMap f z) start ns t) (all-left g a n) d }
 
@@ -68,7 +69,7 @@ module _ {A : Type 0} (im : Image) (g : ℕ → A) (f : A → Make (List ℕ)) (
             subst (λ z. Does im 0 0 all (flatMap f (map g (upFrom a n))) start z t) (sym (append-assoc (w .done) (d .0) ns))
             (w .follows (d .0 ++ ns) t
             (subst (λ z. Does im 0 0 all (flatMap f z) here (d .0 ++ ns) t) (sym (next-left g a n i h))
-            (does-flat f (g (a + i)) (left g a n (i + 1)) (keeps-all (more-flat more (left g a n (i + 1)))) (subst (λ z. Does im 0 0 all (f z) here (d .0) next) q (d .1)) k)));
+            (does-flat f (g (a + i)) (left g a n (i + 1)) (keeps-all (adds-flat more (left g a n (i + 1)))) (subst (λ z. Does im 0 0 all (f z) here (d .0) next) q (d .1)) k)));
       }
 
   pub gather-all : (here : State) (i : ℕ) → Gathering im g f a n start here i → n ≤ i → Gathers im 0 (flatMap f (map g (upFrom a n))) start here
@@ -79,7 +80,7 @@ module _ {A : Type 0} (im : Image) (g : ℕ → A) (f : A → Make (List ℕ)) (
 abbrev pub Flat : Image → (ℕ → Make (List ℕ)) → ℕ → ℕ → State → State → ℕ → Type 0
 Flat im f a n start here i = Gathering im (entryOf im) f a n start here i
 
-module _ (im : Image) (f : ℕ → Make (List ℕ)) (more : (j : ℕ) → More (f j)) (a n : ℕ) (start : State) where
+module _ (im : Image) (f : ℕ → Make (List ℕ)) (more : (j : ℕ) → Adds (f j)) (a n : ℕ) (start : State) where
   pub flat-none : Flat im f a n start start 0
   flat-none = gather-none im (entryOf im) f more a n start
 
@@ -96,7 +97,7 @@ pub record Each (im : Image) (f : ℕ → Make ℕ) (a n : ℕ) (start here : St
   pub done : List ℕ
   pub follows : (ns : List ℕ) (t : State) → Does im 0 0 all (each f (left (entryOf im) a n i)) here ns t → Does im 0 0 all (each f (map (entryOf im) (upFrom a n))) start (done ++ ns) t
 
-module _ (im : Image) (f : ℕ → Make ℕ) (more : (j : ℕ) → More (f j)) (a n : ℕ) (start : State) where
+module _ (im : Image) (f : ℕ → Make ℕ) (more : (j : ℕ) → Adds (f j)) (a n : ℕ) (start : State) where
   pub each-none : Each im f a n start start 0
   each-none = record { some = omega arith; done = []; follows = λ ns t d. subst (λ z. Does im 0 0 all (each f z) start ns t) (all-left (entryOf im) a n) d }
 
@@ -109,7 +110,7 @@ module _ (im : Image) (f : ℕ → Make ℕ) (more : (j : ℕ) → More (f j)) (
             subst (λ z. Does im 0 0 all (each f (map (entryOf im) (upFrom a n))) start z t) (sym (append-assoc (w .done) (m ∷ []) ns))
             (w .follows (m ∷ ns) t
             (subst (λ z. Does im 0 0 all (each f z) here (m ∷ ns) t) (sym (next-left (entryOf im) a n i h))
-            (does-each f (entryOf im (a + i)) (left (entryOf im) a n (i + 1)) (keeps-one (λ b bs. b ∷ bs) (more-each more (left (entryOf im) a n (i + 1))) (λ b bs. omega arith))
+            (does-each f (entryOf im (a + i)) (left (entryOf im) a n (i + 1)) (keeps-one (λ b bs. b ∷ bs) (adds-each more (left (entryOf im) a n (i + 1))) (λ b bs. omega arith))
             (does-push (subst (λ z. Does im 0 0 nothing (f z) here m mid) g d) p) k)));
       }
 

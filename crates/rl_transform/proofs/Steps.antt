@@ -34,8 +34,9 @@ use Rattle.rl_images.specs.Lowering.Gives.{gives}
 use Rattle.rl_context.specs.Additions.{Live}
 use Rattle.rl_context.specs.Does.{State, nothing, one, all, Does, Pushes, Listed}
 use Rattle.rl_context.proofs.Composed.{Keeps, not-both, does-then, does-bind, does-give, does-same, does-push, does-list}
-use Rattle.rl_context.proofs.More.{More, more-bind, more-cond, more-append, keeps-more}
-use Rattle.rl_context.proofs.MoreLower.{more-fail, more-wrap, more-body, more-else, more-arm, more-match, more-statement}
+use Rattle.rl_images.specs.Lowering.Adds.{Adds, adds-bind, adds-cond, adds-append}
+use Rattle.rl_context.proofs.StaysOver.{keeps-more}
+use Rattle.rl_images.specs.Lowering.AddsLower.{adds-wrap, adds-body, adds-else, adds-arm, adds-match, adds-statement}
 use Rattle.rl_context.proofs.Appends.{stops-does}
 use Rattle.rl_copy.proofs.Copying.{old-entries}
 use Rattle.rl_copy.proofs.Entries.{two}
@@ -48,8 +49,8 @@ last-loop k a b d e f g = omega arith
 
 -- ---- the walk
 
-pub more-walk : (ensures : List Clause) (id j : ℕ) → More (walkBelow ensures id j)
-more-walk ensures id j = more-cond (ltb j id) (more-statement ensures j) more-fail
+pub more-walk : (ensures : List Clause) (id j : ℕ) → Adds (walkBelow ensures id j)
+more-walk ensures id j = adds-cond (ltb j id) (adds-statement ensures j) more-fail
 
 module _ (s p : List ℕ) (c : Counts) (ensured : Interval) where
   abbrev im : Image
@@ -81,12 +82,12 @@ module _ (s p : List ℕ) (c : Counts) (ensured : Interval) where
       Gathers im 0 m t u → OneStatement s p c ensured id t u
   by-record id t u m h e d = (
     d .0,
-    does-same (transformStatement es id) (keeps-more all (λ _. more-statement es id))
+    does-same (transformStatement es id) (keeps-more all (λ _. adds-statement es id))
         (λ x ws l. statement-step id x ∙ ap (λ r. transformStatementBy (walkBelow es id) es id r x) (old-statement {t = t} id l h) ∙ ap (λ z. z x) e) (d .1),
   )
 
   pub statement-full : (id : ℕ) (t : State) → t .ctx .full ≡ true → OneStatement s p c ensured id t t
-  statement-full id t f = ([], stops-does all f (more-statement es id) (λ x ws v l. not-both f v))
+  statement-full id t f = ([], stops-does all f (adds-statement es id) (λ x ws v l. not-both f v))
 
   -- one that waits
   one-waits : (m : Make ℕ) (t u v : State) (n : ℕ) → Makes im m t n u → Pushes n u v → Gathers im 0 (m >>= λ k. give (k ∷ [])) t v
@@ -121,7 +122,7 @@ module _ (s p : List ℕ) (c : Counts) (ensured : Interval) where
     pub statement-alone : (t u v : State) (null : ℕ) → kind ≡ 67 → Does im 0 0 nothing (expr 16 []) t null u → Gathers im 0 (wrapReturn null es) u v → OneStatement s p c ensured id t v
     unfolding recordAs fieldsAt fieldsOf fieldsIn schema sortOf
     statement-alone t u v null g d w =
-        says 67 g (expr 16 [] >>= λ n. wrapReturn n es) refl t v (w .0, does-bind d (keeps-more all (λ n. more-wrap n es)) (w .1))
+        says 67 g (expr 16 [] >>= λ n. wrapReturn n es) refl t v (w .0, does-bind d (keeps-more all (λ n. adds-wrap n es)) (w .1))
 
     pub statement-conditional : (t u v : State) (n : ℕ) → kind ≡ 68 → Conditional s p c ensured id t n u → Pushes n u v → OneStatement s p c ensured id t v
     unfolding recordAs fieldsAt fieldsOf fieldsIn schema sortOf
@@ -227,7 +228,7 @@ module _ (s p : List ℕ) (c : Counts) (rows : List ℕ) (ensured : Interval) (r
     unfolding recordAs
     body-done t u v z a n waits word index list l place o f g w d i is j k jf kf m =
         subst (λ r. Makes of (bodyOf (walkBelow clauses limit) r) t index z) (sym here)
-        (does-bind listed (keeps-more nothing (λ b. more-append Statements _)) again)
+        (does-bind listed (keeps-more nothing (λ b. adds-append Statements tt _)) again)
       where
         kept : Holds s start kind
         kept = holds-list l
@@ -241,7 +242,7 @@ module _ (s p : List ℕ) (c : Counts) (rows : List ℕ) (ensured : Interval) (r
         listed : Does of 0 0 nothing (transformList (walkBelow clauses limit) (fieldOf (recordAs s kind start) (listField kind))) t (pair (list .first) (list .count)) v
         listed =
             does-same (transformList (walkBelow clauses limit) (fieldOf (recordAs s kind start) (listField kind)))
-            (keeps-more nothing (λ _. more-body (walkBelow clauses limit) (more-walk clauses limit) (fieldOf (recordAs s kind start) (listField kind))))
+            (keeps-more nothing (λ _. adds-body (walkBelow clauses limit) (more-walk clauses limit) (fieldOf (recordAs s kind start) (listField kind))))
             (λ y ws m.
             ap (λ b. (flatMap (walkBelow clauses limit) (entriesOf (y .image) b) >>= newList) y) field
             ∙ ap (λ b. (flatMap (walkBelow clauses limit) b >>= newList) y) (old-entries y ws t m a n within)) (does-list waits w (d .1) i)
@@ -264,7 +265,7 @@ module _ (s p : List ℕ) (c : Counts) (rows : List ℕ) (ensured : Interval) (r
     branch-by : (u : State) (n : ℕ) (m : Make ℕ) → x < c .statements → (x ≡ 65535 → ⊥) → transformBranchBy walk x (recordOf of Statements x) ≡ m → Makes of m t n u → Otherwise s p c ensured limit x t n u
     unfolding transformBranch
     branch-by u n m h k e d =
-        does-same (transformElse walk x) (keeps-more nothing (λ _. more-else walk (more-walk clauses limit) x))
+        does-same (transformElse walk x) (keeps-more nothing (λ _. adds-else walk (more-walk clauses limit) x))
         (λ y ws l.
         ap (λ b. cond b (give x) (transformBranch walk x) y) (ne-eqb x 65535 k)
         ∙ ap (λ r. transformBranchBy walk x r y) (old-statement s p c ensured {t = t} x l h)
@@ -329,8 +330,8 @@ module _ (s p : List ℕ) (c : Counts) (rows : List ℕ) (ensured : Interval) (r
     conditional-done t u v z a b m n index f g d o r =
         subst (λ y. Makes of (conditional (walkBelow clauses id) y) t index z) (sym is-68)
         (does-bind (subst (λ y. Makes of y t m u) (ap (λ y. cond y (give a) (transformBranch (walkBelow clauses id) a)) (ne-eqb a 65535 (λ y. omega (arith, branch-earlier a f, few-statements, y))) ∙ ap (transformBranch (walkBelow clauses id)) (sym (first-is a f))) d)
-        (keeps-more nothing (λ y. more-bind (more-else (walkBelow clauses id) (more-walk clauses id) (number (recordAs s 68 start) 2)) (λ w. more-append Statements _)))
-        (does-bind (subst (λ y. Makes of (transformElse (walkBelow clauses id) y) u n v) (sym (second-is b g)) o) (keeps-more nothing (λ w. more-append Statements _))
+        (keeps-more nothing (λ y. adds-bind (adds-else (walkBelow clauses id) (more-walk clauses id) (number (recordAs s 68 start) 2)) (λ w. adds-append Statements tt _)))
+        (does-bind (subst (λ y. Makes of (transformElse (walkBelow clauses id) y) u n v) (sym (second-is b g)) o) (keeps-more nothing (λ w. adds-append Statements tt _))
         (subst (λ y. Makes of (append Statements (rebuilt y 1 m 2 n ∷ [])) v index z) is-68 r)))
 
   -- ---- a match, and its arms
@@ -351,7 +352,7 @@ module _ (s p : List ℕ) (c : Counts) (rows : List ℕ) (ensured : Interval) (r
   pub arm-done : (limit x : ℕ) (t u : State) (n : ℕ) → x < c .statements → recordOf of Statements x .kind ≡ 76 → Body s p c ensured limit x t n u → Makes of (transformArm (walkBelow clauses limit) x) t n u
   unfolding transformArm
   arm-done limit x t u n h k d =
-      does-same (transformArm (walkBelow clauses limit) x) (keeps-more nothing (λ _. more-arm (walkBelow clauses limit) (more-walk clauses limit) x))
+      does-same (transformArm (walkBelow clauses limit) x) (keeps-more nothing (λ _. adds-arm (walkBelow clauses limit) (more-walk clauses limit) x))
       (λ y ws l. ap (λ r. transformArmBy (walkBelow clauses limit) r y) (old-statement s p c ensured {t = t} x l h) ∙ ap (λ z. z y) (arm-body limit x h k)) d
 
   pub arm-list : (x : ℕ) → recordOf of Statements x .kind ≡ 76 → listField (recordOf of Statements x .kind) ≡ 0 → ⊥
@@ -395,12 +396,12 @@ module _ (s p : List ℕ) (c : Counts) (rows : List ℕ) (ensured : Interval) (r
       unfolding recordAs fieldsAt fieldsOf fieldsIn schema sortOf stmt
       match-done t u v z waits word index list w d i is r =
           subst (λ y. Makes of (match (walkBelow clauses id) y) t index z) (sym is-75)
-          (does-same (match (walkBelow clauses id) (recordAs s 75 start)) (keeps-more nothing (λ _. more-match (walkBelow clauses id) (more-walk clauses id) (recordAs s 75 start)))
+          (does-same (match (walkBelow clauses id) (recordAs s 75 start)) (keeps-more nothing (λ _. adds-match (walkBelow clauses id) (more-walk clauses id) (recordAs s 75 start)))
           (λ y ws m.
           ap (λ b. (each (transformArm (walkBelow clauses id)) (entriesOf (y .image) b) >>= rest) y) arms-field
           ∙ ap (λ b. (each (transformArm (walkBelow clauses id)) b >>= rest) y) (old-entries y ws t m a n (arms-fit .0))
           ∙ ap (λ b. b y) (then-assoc (each (transformArm (walkBelow clauses id)) (map (entryOf of) (upFrom a n))) newList again))
-          (does-bind (does-list waits w (d .1) i) (keeps-more nothing (λ b. more-append Statements _))
+          (does-bind (does-list waits w (d .1) i) (keeps-more nothing (λ b. adds-append Statements tt _))
           (subst (λ y. Makes of (append Statements (y ∷ [])) v index z)
           (ap (λ y. rebuilt y 2 word 7 0) is-75 ∙ ap (λ y. made 75 (num (number (recordAs s 75 start) 0) ∷ fieldOf (recordAs s 75 start) 1 ∷ y ∷ [])) is) r)))
         where

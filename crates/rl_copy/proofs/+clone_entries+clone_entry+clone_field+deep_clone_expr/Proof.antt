@@ -10,7 +10,7 @@ use Rattle.rl_schema.proofs.Rows.{row-codes}
 use Rattle.rl_arena.proofs.Laws.{width-small}
 use Rattle.rl_context.specs.Does.{at}
 use Rattle.rl_copy.proofs.Copying.{Copying, kind-in, codes-few, small-left, as-made, few-left, place-left, place-fits, j-fits, still-eight, copies-full, copies-lambda, copies-record, not-lambda, copying-none, copying-field, copying-more, copying-all, copying-whole}
-use Rattle.rl_copy.proofs.Entries.{CopyingEntries, entries-none, entries-more, entries-all, entry-stopped, entry-copied, entry-kept, field-halted, field-kept, field-copied, field-listed, list-fits}
+use Rattle.rl_copy.proofs.Entries.{CopyingEntries, entries-none, entries-more, entries-all, entry-before, entry-copied, entry-kept, field-shared, field-kept, field-copied, field-listed, list-fits}
 use borrow.Fn.Kinds.{In}
 use borrow.Fn.PlainCycle.{Measures, is, falls, and}
 use Rattle.rl_copy.proofs.clone_entries.Reads as clone-entries
@@ -36,11 +36,10 @@ use Rattle.rl_context.proofs.Ctx.stopped.Reads as Ctx-stopped-reads
 use Rattle.rl_copy.proofs.as_it_is.Reads as as-it-is-reads
 use Rattle.rl_copy.proofs.as_list.Reads as as-list-reads
 use Rattle.rl_copy.proofs.as_node.Reads as as-node-reads
-use Rattle.rl_copy.proofs.halted.Reads as halted-reads
-use Rattle.rl_copy.proofs.is_node.Reads as is-node-reads
+use Rattle.rl_copy.proofs.shared.Reads as shared-reads
+use Rattle.rl_copy.proofs.is_copied.Reads as is-copied-reads
 use Rattle.rl_copy.proofs.plan_of.Reads as plan-of-reads
 use Rattle.rl_copy.proofs.pushed.Reads as pushed-reads
-use Rattle.rl_copy.proofs.stopped.Reads as stopped-reads
 use Rattle.rl_records.proofs.entry_at.Reads as entry-at-reads
 use Rattle.rl_schema.proofs.row_of.Reads as row-of-reads
 use Rattle.rl_schema.proofs.sort_of.Reads as sort-of-reads
@@ -169,10 +168,8 @@ clone-entries-returns t c = λ r h k. entries-all _ _ _ _ _ _ _ _ _ _ _ _ _ (c .
 
 abbrev clone-entry-calls : ℕ → clone-entry-lts.Claims
 clone-entry-calls t = (
-  is-node-reads.Asked,
-  is-node-reads.Learnt,
-  stopped-reads.Asked,
-  stopped-reads.Learnt,
+  is-copied-reads.Asked,
+  is-copied-reads.Learnt,
   deep-clone-expr-below t,
   deep-clone-expr.Post,
   pushed-reads.Asked,
@@ -181,17 +178,11 @@ clone-entry-calls t = (
   push-reads.Learnt,
 )
 
-clone-entry-is-node-requires : (t : ℕ) → clone-entry-lts.Need-is-node-requires (clone-entry-calls t) (clone-entry-at t) clone-entry.Post
-clone-entry-is-node-requires t c κs = search needs
-
-clone-entry-stopped-requires : (t : ℕ) → clone-entry-lts.Need-stopped-requires (clone-entry-calls t) (clone-entry-at t) clone-entry.Post
-clone-entry-stopped-requires t c κs = search needs
-
-clone-entry-returns : (t : ℕ) → clone-entry-lts.Need-returns (clone-entry-calls t) (clone-entry-at t) clone-entry.Post
-clone-entry-returns t c = λ r h. entry-stopped _ _ (c .before .before .before .before .before .before .before .before .before .args .target) _ _ _ (c .before .before .before .is-node .ensures) _ (c .before .before .if1 .taken) (c .before .if2 .taken) (c .stopped .ensures)
+clone-entry-is-copied-requires : (t : ℕ) → clone-entry-lts.Need-is-copied-requires (clone-entry-calls t) (clone-entry-at t) clone-entry.Post
+clone-entry-is-copied-requires t c κs = search needs
 
 clone-entry-deep-clone-expr-requires : (t : ℕ) → clone-entry-lts.Need-deep-clone-expr-requires (clone-entry-calls t) (clone-entry-at t) clone-entry.Post
-clone-entry-deep-clone-expr-requires t c κs = (omega (arith, c .before .before .before .before .before .before .before .before .before .before .pre .0, c .before .before .if2 .left), tt)
+clone-entry-deep-clone-expr-requires t c κs = (omega (arith, c .before .before .before .before .before .before .before .before .before .pre .0, entry-before (c .before .before .before .before .before .before .before .before .before .args .id) (c .before .before .before .before .before .before .before .before .before .args .target) (c .before .before .before .before .before .before .before .before .before .args .n) _ (c .before .before .before .is-copied .ensures) (c .before .before .if1 .taken)), tt)
 
 clone-entry-pushed-requires : (t : ℕ) → clone-entry-lts.Need-pushed-requires (clone-entry-calls t) (clone-entry-at t) clone-entry.Post
 clone-entry-pushed-requires t c κs = search needs
@@ -202,8 +193,8 @@ clone-entry-same-length t c = search needs
 clone-entry-same-length-2 : (t : ℕ) → clone-entry-lts.Need-same-length-2 (clone-entry-calls t) (clone-entry-at t) clone-entry.Post
 clone-entry-same-length-2 t c = search needs
 
-clone-entry-returns-2 : (t : ℕ) → clone-entry-lts.Need-returns-2 (clone-entry-calls t) (clone-entry-at t) clone-entry.Post
-clone-entry-returns-2 t c = λ r h. entry-copied _ _ (c .before .before .before .before .before .before .before .before .before .before .before .before .before .before .before .before .before .before .before .args .target) _ _ _ (c .before .before .before .before .before .before .before .before .before .before .before .before .before .is-node .ensures) _ _ _ (c .before .before .before .before .before .before .before .before .before .before .before .before .if1 .taken) (c .before .before .before .before .before .before .before .before .before .before .before .if2 .left) (c .before .before .before .before .before .before .before .before .deep-clone-expr .ensures r (omega (arith, c .before .before .before .before .before .before .before .before .before .before .before .if2 .left, h))) (c .before .before .pushed .ensures _)
+clone-entry-returns : (t : ℕ) → clone-entry-lts.Need-returns (clone-entry-calls t) (clone-entry-at t) clone-entry.Post
+clone-entry-returns t c = λ r h. entry-copied _ _ (c .before .before .before .before .before .before .before .before .before .before .before .before .before .before .before .before .before .before .args .target) _ _ _ (c .before .before .before .before .before .before .before .before .before .before .before .before .is-copied .ensures) _ _ _ (c .before .before .before .before .before .before .before .before .before .before .before .if1 .taken) (c .before .before .before .before .before .before .before .before .deep-clone-expr .ensures r (omega (arith, entry-before (c .before .before .before .before .before .before .before .before .before .before .before .before .before .before .before .before .before .before .args .id) (c .before .before .before .before .before .before .before .before .before .before .before .before .before .before .before .before .before .before .args .target) (c .before .before .before .before .before .before .before .before .before .before .before .before .before .before .before .before .before .before .args .n) _ (c .before .before .before .before .before .before .before .before .before .before .before .before .is-copied .ensures) (c .before .before .before .before .before .before .before .before .before .before .before .if1 .taken), h))) (c .before .before .pushed .ensures _)
 
 clone-entry-push-requires : (t : ℕ) → clone-entry-lts.Need-push-requires (clone-entry-calls t) (clone-entry-at t) clone-entry.Post
 clone-entry-push-requires t c κs = search needs
@@ -211,8 +202,8 @@ clone-entry-push-requires t c κs = search needs
 clone-entry-same-length-3 : (t : ℕ) → clone-entry-lts.Need-same-length-3 (clone-entry-calls t) (clone-entry-at t) clone-entry.Post
 clone-entry-same-length-3 t c = search needs
 
-clone-entry-returns-3 : (t : ℕ) → clone-entry-lts.Need-returns-3 (clone-entry-calls t) (clone-entry-at t) clone-entry.Post
-clone-entry-returns-3 t c = λ r h. entry-kept _ _ (c .before .before .before .before .before .before .before .before .before .before .before .args .target) _ _ _ (c .before .before .before .before .before .is-node .ensures) _ (c .before .before .before .before .if1 .left) (c .before .before .push .ensures _)
+clone-entry-returns-2 : (t : ℕ) → clone-entry-lts.Need-returns-2 (clone-entry-calls t) (clone-entry-at t) clone-entry.Post
+clone-entry-returns-2 t c = λ r h. entry-kept _ _ (c .before .before .before .before .before .before .before .before .before .before .before .args .target) _ _ _ (c .before .before .before .before .before .is-copied .ensures) _ (c .before .before .before .before .if1 .left) (c .before .before .push .ensures _)
 
 abbrev clone-field-calls : ℕ → clone-field-lts.Claims
 clone-field-calls t = (
@@ -224,8 +215,8 @@ clone-field-calls t = (
   as-it-is-reads.Learnt,
   u16-at-reads.Asked,
   u16-at-reads.Learnt,
-  halted-reads.Asked,
-  halted-reads.Learnt,
+  shared-reads.Asked,
+  shared-reads.Learnt,
   deep-clone-expr-below t,
   deep-clone-expr.Post,
   as-node-reads.Asked,
@@ -256,11 +247,11 @@ clone-field-enum-told-2 t c = search needs
 clone-field-u16-at-requires : (t : ℕ) → clone-field-lts.Need-u16-at-requires (clone-field-calls t) (clone-field-at t) clone-field.Post
 clone-field-u16-at-requires t c κs = search needs
 
-clone-field-halted-requires : (t : ℕ) → clone-field-lts.Need-halted-requires (clone-field-calls t) (clone-field-at t) clone-field.Post
-clone-field-halted-requires t c κs = search needs
+clone-field-shared-requires : (t : ℕ) → clone-field-lts.Need-shared-requires (clone-field-calls t) (clone-field-at t) clone-field.Post
+clone-field-shared-requires t c κs = search needs
 
 clone-field-returns : (t : ℕ) → clone-field-lts.Need-returns (clone-field-calls t) (clone-field-at t) clone-field.Post
-clone-field-returns t c = λ r h k. field-halted _ _ _ _ _ _ _ _ (c .before .before .before .before .before .before .sort-of .ensures) (c .before .before .before .before .before .plan-of .ensures) _ (c .before .before .before .enum-told2 .given .1) (c .before .before .u16-at .ensures) _ _ _ (c .before .if1 .taken) (c .halted .ensures)
+clone-field-returns t c = λ r h k. field-shared _ _ _ _ _ _ _ _ (c .before .before .before .before .before .before .sort-of .ensures) (c .before .before .before .before .before .plan-of .ensures) _ (c .before .before .before .enum-told2 .given .1) (c .before .before .u16-at .ensures) _ _ _ _ _ (c .before .if1 .taken) (c .shared .ensures .0) (c .shared .ensures .1)
 
 clone-field-deep-clone-expr-requires : (t : ℕ) → clone-field-lts.Need-deep-clone-expr-requires (clone-field-calls t) (clone-field-at t) clone-field.Post
 clone-field-deep-clone-expr-requires t c κs = (omega (arith, c .before .before .before .before .before .before .before .before .before .before .before .before .before .pre .0, c .before .before .if1 .left), tt)
@@ -484,17 +475,15 @@ pub +clone-entries+clone-entry+clone-field+deep-clone-expr-spec : {M : Type 1} �
     (λ t. clone-entry-lts.spec (clone-entry-calls t)
     (clone-entry-at t)
     clone-entry.Post
-    (clone-entry-is-node-requires t)
-    (clone-entry-stopped-requires t)
-    (clone-entry-returns t)
+    (clone-entry-is-copied-requires t)
     (clone-entry-deep-clone-expr-requires t)
     (clone-entry-pushed-requires t)
     (clone-entry-same-length t)
     (clone-entry-same-length-2 t)
-    (clone-entry-returns-2 t)
+    (clone-entry-returns t)
     (clone-entry-push-requires t)
     (clone-entry-same-length-3 t)
-    (clone-entry-returns-3 t))
+    (clone-entry-returns-2 t))
     (λ t. clone-field-lts.spec (clone-field-calls t)
     (clone-field-at t)
     clone-field.Post
@@ -504,7 +493,7 @@ pub +clone-entries+clone-entry+clone-field+deep-clone-expr-spec : {M : Type 1} �
     (clone-field-as-it-is-requires t)
     (clone-field-enum-told-2 t)
     (clone-field-u16-at-requires t)
-    (clone-field-halted-requires t)
+    (clone-field-shared-requires t)
     (clone-field-returns t)
     (clone-field-deep-clone-expr-requires t)
     (clone-field-as-node-requires t)

@@ -7,7 +7,7 @@ use borrow.Author.Needs.{needs}
 use Rattle.rl_spec.specs.Found.{imageFound}
 use Rattle.rl_spec.specs.Lower.{transformArm}
 use Rattle.rl_context.specs.Does.{at}
-use Rattle.rl_context.proofs.MoreLower.{more-arm}
+use Rattle.rl_images.specs.Lowering.AddsLower.{adds-arm}
 use Rattle.rl_copy.proofs.Copying.{kind-in}
 use Rattle.rl_guards.specs.Guards.{clausesIn}
 use Rattle.rl_transform.specs.Transforms.{walkBelow, Ready, ArmsIn}
@@ -336,7 +336,7 @@ transform-arms-μ-loop image starts counts rows ensured limit first count scratc
     count - i
 
 transform-arms-loop-holds : (t : ℕ) → transform-arms-lts.Need-loop-holds (transform-arms-calls t) (transform-arms-at t) transform-arms.Post transform-arms-Inv-loop transform-arms-μ-loop
-transform-arms-loop-holds t c = (omega arith, (refl, (refl, (search needs, λ r h k. each-none _ _ (more-arm _ (more-walk _ _)) _ _ _))))
+transform-arms-loop-holds t c = (omega arith, (refl, (refl, (search needs, λ r h k. each-none _ _ (adds-arm _ (more-walk _ _)) _ _ _))))
 
 transform-arms-cast-entry-at : (t : ℕ) → transform-arms-lts.Need-cast-entry-at (transform-arms-calls t) (transform-arms-at t) transform-arms.Post transform-arms-Inv-loop transform-arms-μ-loop
 transform-arms-cast-entry-at t c = search needs
@@ -369,7 +369,7 @@ transform-arms-loop-again t c = (
       (
         c .before .before .before .before .before .before .before .before .before .before .before .before .before .loop .inv .1 .1 .1 .0,
         λ r h k.
-            each-more _ _ (more-arm _ (more-walk _ _)) _ _ _ _ _ _ _ (c .before .before .before .before .before .before .before .before .before .before .before .before .before .loop .inv .1 .1 .1 .1 r h k) (c .before .before .before .before .before .before .before .before .before .before .before .before .loop-test .taken) _ _ (c .before .before .before .before .before .before .before .before .before .before .before .entry-at .ensures _) (arm-made _ _ _ _ _ r _ _ _ _ _ _ _ _ k (c .before .before .before .before .before .before .before .before .before .before .before .before .loop-test .taken) (c .before .before .before .before .before .before .before .before .before .before .before .entry-at .ensures _) (c .before .before .before .before .before .before .before .before .transform-body .ensures r h)) (c .before .before .pushed .ensures _),
+            each-more _ _ (adds-arm _ (more-walk _ _)) _ _ _ _ _ _ _ (c .before .before .before .before .before .before .before .before .before .before .before .before .before .loop .inv .1 .1 .1 .1 r h k) (c .before .before .before .before .before .before .before .before .before .before .before .before .loop-test .taken) _ _ (c .before .before .before .before .before .before .before .before .before .before .before .entry-at .ensures _) (arm-made _ _ _ _ _ r _ _ _ _ _ _ _ _ k (c .before .before .before .before .before .before .before .before .before .before .before .before .loop-test .taken) (c .before .before .before .before .before .before .before .before .before .before .before .entry-at .ensures _) (c .before .before .before .before .before .before .before .before .transform-body .ensures r h)) (c .before .before .pushed .ensures _),
       ),
     ),
   ),
@@ -382,7 +382,7 @@ transform-arms-same-length-2 : (t : ℕ) → transform-arms-lts.Need-same-length
 transform-arms-same-length-2 t c = search needs
 
 transform-arms-returns : (t : ℕ) → transform-arms-lts.Need-returns (transform-arms-calls t) (transform-arms-at t) transform-arms.Post transform-arms-Inv-loop transform-arms-μ-loop
-transform-arms-returns t c = λ r h k. each-all _ _ (more-arm _ (more-walk _ _)) _ _ _ _ _ (c .before .loop .inv .1 .1 .1 .1 r h k) (c .loop-test .left)
+transform-arms-returns t c = λ r h k. each-all _ _ (adds-arm _ (more-walk _ _)) _ _ _ _ _ (c .before .loop .inv .1 .1 .1 .1 r h k) (c .loop-test .left)
 
 transform-below-stopped-requires : (t : ℕ) → transform-below-lts.Need-stopped-requires (transform-below-calls t) (transform-below-at t) transform-below.Post
 transform-below-stopped-requires t c κs = search needs
