@@ -21,7 +21,7 @@ use Rattle.rl_spec.specs.Image.{Field, num, pair, Image, recordsOf, sizeOf, noR
 use Rattle.rl_spec.specs.Found.{recordAs, imageFound}
 use Rattle.rl_spec.specs.Tree.{number}
 use Rattle.rl_spec.specs.Ranges.{upFrom}
-use Rattle.rl_spec.specs.Make.{Context, Make, andThen, _>>=_, give, fail, self, append, made, newList, stmt, each, flatMap, entriesOf}
+use Rattle.rl_spec.specs.Make.{Context, Make, andThen, _>>=_, give, imageSoFar, append, made, newList, stmt, each, flatMap, entriesOf}
 use Rattle.rl_spec.specs.Lower.{expr, wrapReturn, transformList, transformBranchBy, transformBranch, transformElse, transformArmBy, transformArm, conditional, match, only, transformStatementBy, transformStatement}
 use mir.Val.{Fits}
 use mir.Syntax.{w16, w64}
@@ -34,7 +34,7 @@ use Rattle.rl_images.specs.Lowering.Gives.{gives}
 use Rattle.rl_context.specs.Additions.{Live}
 use Rattle.rl_context.specs.Does.{State, nothing, one, all, Does, Pushes, Listed}
 use Rattle.rl_context.proofs.Composed.{Keeps, not-both, does-then, does-bind, does-give, does-same, does-push, does-list}
-use Rattle.rl_images.specs.Lowering.Adds.{Adds, adds-bind, adds-cond, adds-append}
+use Rattle.rl_images.specs.Lowering.Adds.{Adds, adds-give, adds-bind, adds-cond, adds-append}
 use Rattle.rl_context.proofs.StaysOver.{keeps-more}
 use Rattle.rl_images.specs.Lowering.AddsLower.{adds-wrap, adds-body, adds-else, adds-arm, adds-match, adds-statement}
 use Rattle.rl_context.proofs.Appends.{stops-does}
@@ -49,8 +49,8 @@ last-loop k a b d e f g = omega arith
 
 -- ---- the walk
 
-pub more-walk : (ensures : List Clause) (id j : ℕ) → Adds (walkBelow ensures id j)
-more-walk ensures id j = adds-cond (ltb j id) (adds-statement ensures j) more-fail
+pub adds-walk : (ensures : List Clause) (id j : ℕ) → Adds (walkBelow ensures id j)
+adds-walk ensures id j = adds-cond (ltb j id) (adds-statement ensures j) (adds-give (j ∷ []))
 
 module _ (s p : List ℕ) (c : Counts) (ensured : Interval) where
   abbrev im : Image
@@ -59,12 +59,23 @@ module _ (s p : List ℕ) (c : Counts) (ensured : Interval) where
   abbrev es : List Clause
   es = clausesIn im ensured
 
-  pub below-stopped : (limit x : ℕ) (t u : State) → limit ≤ x → u .ctx .full ≡ true → Below s p c ensured limit x t u
-  below-stopped limit x t u h f =
-      ([], subst (λ m. Does im 0 0 all m t [] u) (sym (ap (λ b. cond b (transformStatement es x) fail) (le-ltb x limit h))) (stops-does all f more-fail (λ y ws v l. refl)))
+  -- one that waits
+  one-waits : (m : Make ℕ) (t u v : State) (n : ℕ) → Makes im m t n u → Pushes n u v → Gathers im 0 (m >>= λ k. give (k ∷ [])) t v
+  one-waits m t u v n d q = (
+    n ∷ [],
+    does-then (λ (_ : Unit {0}). n ∷ []) (does-push d q) (does-give im 0 tt v) keeps-single refl (λ _. refl),
+  )
+    where
+      keeps-single : Keeps one (λ k. give (k ∷ [])) all
+      keeps-single = record { keeps = λ ws a x o. gives o }
+
+  pub below-untouched : (limit x : ℕ) (t u : State) → limit ≤ x → Pushes x t u → Below s p c ensured limit x t u
+  below-untouched limit x t u h d =
+      subst (λ m. Gathers im 0 m t u) (sym (ap (λ b. cond b (transformStatement es x) (give (x ∷ []))) (le-ltb x limit h)))
+      (one-waits (give x) t t u x (does-give im 0 x t) d)
 
   pub below-done : (limit x : ℕ) (t u : State) → x < limit → OneStatement s p c ensured x t u → Below s p c ensured limit x t u
-  below-done limit x t u h d = (d .0, subst (λ m. Does im 0 0 all m t (d .0) u) (sym (ap (λ b. cond b (transformStatement es x) fail) (lt-ltb x limit h))) (d .1))
+  below-done limit x t u h d = (d .0, subst (λ m. Does im 0 0 all m t (d .0) u) (sym (ap (λ b. cond b (transformStatement es x) (give (x ∷ []))) (lt-ltb x limit h))) (d .1))
 
   -- ---- the record at hand
 
@@ -75,7 +86,7 @@ module _ (s p : List ℕ) (c : Counts) (ensured : Interval) where
 
   statement-step : (id : ℕ) (x : Context) → transformStatement es id x ≡ transformStatementBy (walkBelow es id) es id (recordOf (x .image) Statements id) x
   unfolding transformStatement
-  statement-step id x = λ i. descend-is fail (λ n w. self >>= λ ctx. transformStatementBy w es n (recordOf (ctx .image) Statements n)) id i x
+  statement-step id x = λ i. descend-is (λ n. give (n ∷ [])) (λ n w. imageSoFar >>= λ im. transformStatementBy w es n (recordOf im Statements n)) id i x
 
   -- by a computation that the record at hand says
   by-record : (id : ℕ) (t u : State) (m : Make (List ℕ)) → id < c .statements → transformStatementBy (walkBelow es id) es id (recordOf im Statements id) ≡ m →
@@ -88,16 +99,6 @@ module _ (s p : List ℕ) (c : Counts) (ensured : Interval) where
 
   pub statement-full : (id : ℕ) (t : State) → t .ctx .full ≡ true → OneStatement s p c ensured id t t
   statement-full id t f = ([], stops-does all f (adds-statement es id) (λ x ws v l. not-both f v))
-
-  -- one that waits
-  one-waits : (m : Make ℕ) (t u v : State) (n : ℕ) → Makes im m t n u → Pushes n u v → Gathers im 0 (m >>= λ k. give (k ∷ [])) t v
-  one-waits m t u v n d q = (
-    n ∷ [],
-    does-then (λ (_ : Unit {0}). n ∷ []) (does-push d q) (does-give im 0 tt v) keeps-single refl (λ _. refl),
-  )
-    where
-      keeps-single : Keeps one (λ k. give (k ∷ [])) all
-      keeps-single = record { keeps = λ ws a x o. gives o }
 
   -- ---- by the kind: the record is `recordAs s kind start`
 
@@ -242,7 +243,7 @@ module _ (s p : List ℕ) (c : Counts) (rows : List ℕ) (ensured : Interval) (r
         listed : Does of 0 0 nothing (transformList (walkBelow clauses limit) (fieldOf (recordAs s kind start) (listField kind))) t (pair (list .first) (list .count)) v
         listed =
             does-same (transformList (walkBelow clauses limit) (fieldOf (recordAs s kind start) (listField kind)))
-            (keeps-more nothing (λ _. adds-body (walkBelow clauses limit) (more-walk clauses limit) (fieldOf (recordAs s kind start) (listField kind))))
+            (keeps-more nothing (λ _. adds-body (walkBelow clauses limit) (adds-walk clauses limit) (fieldOf (recordAs s kind start) (listField kind))))
             (λ y ws m.
             ap (λ b. (flatMap (walkBelow clauses limit) (entriesOf (y .image) b) >>= newList) y) field
             ∙ ap (λ b. (flatMap (walkBelow clauses limit) b >>= newList) y) (old-entries y ws t m a n within)) (does-list waits w (d .1) i)
@@ -265,7 +266,7 @@ module _ (s p : List ℕ) (c : Counts) (rows : List ℕ) (ensured : Interval) (r
     branch-by : (u : State) (n : ℕ) (m : Make ℕ) → x < c .statements → (x ≡ 65535 → ⊥) → transformBranchBy walk x (recordOf of Statements x) ≡ m → Makes of m t n u → Otherwise s p c ensured limit x t n u
     unfolding transformBranch
     branch-by u n m h k e d =
-        does-same (transformElse walk x) (keeps-more nothing (λ _. adds-else walk (more-walk clauses limit) x))
+        does-same (transformElse walk x) (keeps-more nothing (λ _. adds-else walk (adds-walk clauses limit) x))
         (λ y ws l.
         ap (λ b. cond b (give x) (transformBranch walk x) y) (ne-eqb x 65535 k)
         ∙ ap (λ r. transformBranchBy walk x r y) (old-statement s p c ensured {t = t} x l h)
@@ -330,7 +331,7 @@ module _ (s p : List ℕ) (c : Counts) (rows : List ℕ) (ensured : Interval) (r
     conditional-done t u v z a b m n index f g d o r =
         subst (λ y. Makes of (conditional (walkBelow clauses id) y) t index z) (sym is-68)
         (does-bind (subst (λ y. Makes of y t m u) (ap (λ y. cond y (give a) (transformBranch (walkBelow clauses id) a)) (ne-eqb a 65535 (λ y. omega (arith, branch-earlier a f, few-statements, y))) ∙ ap (transformBranch (walkBelow clauses id)) (sym (first-is a f))) d)
-        (keeps-more nothing (λ y. adds-bind (adds-else (walkBelow clauses id) (more-walk clauses id) (number (recordAs s 68 start) 2)) (λ w. adds-append Statements tt _)))
+        (keeps-more nothing (λ y. adds-bind (adds-else (walkBelow clauses id) (adds-walk clauses id) (number (recordAs s 68 start) 2)) (λ w. adds-append Statements tt _)))
         (does-bind (subst (λ y. Makes of (transformElse (walkBelow clauses id) y) u n v) (sym (second-is b g)) o) (keeps-more nothing (λ w. adds-append Statements tt _))
         (subst (λ y. Makes of (append Statements (rebuilt y 1 m 2 n ∷ [])) v index z) is-68 r)))
 
@@ -352,7 +353,7 @@ module _ (s p : List ℕ) (c : Counts) (rows : List ℕ) (ensured : Interval) (r
   pub arm-done : (limit x : ℕ) (t u : State) (n : ℕ) → x < c .statements → recordOf of Statements x .kind ≡ 76 → Body s p c ensured limit x t n u → Makes of (transformArm (walkBelow clauses limit) x) t n u
   unfolding transformArm
   arm-done limit x t u n h k d =
-      does-same (transformArm (walkBelow clauses limit) x) (keeps-more nothing (λ _. adds-arm (walkBelow clauses limit) (more-walk clauses limit) x))
+      does-same (transformArm (walkBelow clauses limit) x) (keeps-more nothing (λ _. adds-arm (walkBelow clauses limit) (adds-walk clauses limit) x))
       (λ y ws l. ap (λ r. transformArmBy (walkBelow clauses limit) r y) (old-statement s p c ensured {t = t} x l h) ∙ ap (λ z. z y) (arm-body limit x h k)) d
 
   pub arm-list : (x : ℕ) → recordOf of Statements x .kind ≡ 76 → listField (recordOf of Statements x .kind) ≡ 0 → ⊥
@@ -396,7 +397,7 @@ module _ (s p : List ℕ) (c : Counts) (rows : List ℕ) (ensured : Interval) (r
       unfolding recordAs fieldsAt fieldsOf fieldsIn schema sortOf stmt
       match-done t u v z waits word index list w d i is r =
           subst (λ y. Makes of (match (walkBelow clauses id) y) t index z) (sym is-75)
-          (does-same (match (walkBelow clauses id) (recordAs s 75 start)) (keeps-more nothing (λ _. adds-match (walkBelow clauses id) (more-walk clauses id) (recordAs s 75 start)))
+          (does-same (match (walkBelow clauses id) (recordAs s 75 start)) (keeps-more nothing (λ _. adds-match (walkBelow clauses id) (adds-walk clauses id) (recordAs s 75 start)))
           (λ y ws m.
           ap (λ b. (each (transformArm (walkBelow clauses id)) (entriesOf (y .image) b) >>= rest) y) arms-field
           ∙ ap (λ b. (each (transformArm (walkBelow clauses id)) b >>= rest) y) (old-entries y ws t m a n (arms-fit .0))

@@ -13,7 +13,7 @@ use Rattle.rl_spec.specs.Schema.{sortOf, fieldsOf}
 use Rattle.rl_spec.specs.Image.{Field, num, Rec, Image, recordOf, fieldOf, entryOf, WellFormed}
 use Rattle.rl_spec.specs.Tree.{below}
 use Rattle.rl_spec.specs.Ranges.{upFrom}
-use Rattle.rl_spec.specs.Make.{Make, _>>=_, fail, append, made, each, flatMap}
+use Rattle.rl_spec.specs.Make.{Make, _>>=_, give, append, made, each, flatMap}
 use Rattle.rl_spec.specs.Lower.{transformList, transformElse, transformArm, conditional, match, transformStatement}
 use Rattle.rl_encode.specs.Words.{wordField}
 use Rattle.rl_spec.specs.Found.{imageFound}
@@ -23,7 +23,7 @@ use Rattle.rl_guards.specs.Guards.{Makes, Gathers, clausesIn, ConditionsIn}
 
 -- the transform of a statement before the one at hand
 abbrev pub walkBelow : List Clause → ℕ → ℕ → Make (List ℕ)
-walkBelow ensures id = below id fail (transformStatement ensures)
+walkBelow ensures id = below id (λ s. give (s ∷ [])) (transformStatement ensures)
 
 -- a field of a kind, from a word
 abbrev pub fieldOfWord : ℕ → ℕ → ℕ → Field

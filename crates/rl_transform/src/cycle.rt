@@ -17,21 +17,12 @@ use rl_records::entry_at;
 use rl_spec::Counts;
 use rl_spec::Interval;
 ghost use mathlib.Core.Path.{_≡_};
-ghost use mathlib.Core.Bool.{true};
 ghost use Prim.Native.Nat.{_≤_, _<_};
 ghost use Rattle.rl_spec.specs.declared.Section.the-variants.{Statements};
 ghost use Rattle.rl_spec.specs.Image.{recordOf};
 ghost use Rattle.rl_spec.specs.Found.{imageFound};
 ghost use Rattle.rl_context.specs.Does.{at};
 ghost use Rattle.rl_transform.specs.Transforms.{listField, Ready, ArmsIn, Returns, Below, OneStatement, Conditional, Otherwise, Match, Arms, Body};
-
-// A limit would be passed.
-fn stopped(ctx: Ctx) -> Ctx
-    ensures { λ r. ⌜ r .full ≡ true ⌝ }
-{
-    let made = ctx.stopped();
-    made.ctx
-}
 
 // The statements from the first on, each by what stands for it; they wait then.
 pub fn transform_returns(
@@ -70,7 +61,7 @@ pub fn transform_returns(
     next
 }
 
-// A statement before the one at hand.
+// A statement before the one at hand; no accepted image has another.
 fn transform_below(
     image: &[u8],
     starts: &[u16],
@@ -86,7 +77,7 @@ fn transform_below(
     ensures { λ r. ⌜ (Ready (now (image .entry)) (now (starts .entry)) counts (now (rows .entry)) ensured → limit ≤ counts .statements → Below (now (image .entry)) (now (starts .entry)) counts ensured limit s (at ctx (now (scratch .entry)) (now (waiting .entry))) (at r (now (scratch .exit)) (now (waiting .exit)))) ⌝ }
 {
     if limit <= s {
-        return stopped(ctx);
+        return ctx.push(waiting, s);
     }
     transform_statement(
         image,

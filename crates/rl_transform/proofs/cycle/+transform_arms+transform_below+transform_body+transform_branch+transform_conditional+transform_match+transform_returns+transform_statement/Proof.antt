@@ -12,7 +12,7 @@ use Rattle.rl_copy.proofs.Copying.{kind-in}
 use Rattle.rl_guards.specs.Guards.{clausesIn}
 use Rattle.rl_transform.specs.Transforms.{walkBelow, Ready, ArmsIn}
 use Rattle.rl_transform.proofs.Loops.{Flat, flat-none, flat-more, flat-all, Each, each-none, each-more, each-all}
-use Rattle.rl_transform.proofs.Steps.{more-walk, below-stopped, below-done, statement-full, statement-return, statement-alone, statement-conditional, statement-match, statement-loop, statement-kept, field-low, flag-low, place-fits, next-fits, body-done, branch-none, branch-body, branch-list, branch-kept, branch-earlier, else-earlier, conditional-done, arm-made, arms-in, match-done, kind-here, loop-list}
+use Rattle.rl_transform.proofs.Steps.{adds-walk, below-untouched, below-done, statement-full, statement-return, statement-alone, statement-conditional, statement-match, statement-loop, statement-kept, field-low, flag-low, place-fits, next-fits, body-done, branch-none, branch-body, branch-list, branch-kept, branch-earlier, else-earlier, conditional-done, arm-made, arms-in, match-done, kind-here, loop-list}
 use borrow.Fn.Kinds.{In}
 use borrow.Fn.PlainCycle.{Measures, is, falls, and}
 use Rattle.rl_transform.proofs.cycle.transform_arms.Reads as transform-arms
@@ -48,7 +48,6 @@ use Rattle.rl_context.proofs.Ctx.null.Reads as null-reads
 use Rattle.rl_context.proofs.Ctx.push.Reads as push-reads
 use Rattle.rl_guards.proofs.wrap_return.Reads as wrap-return-reads
 use Rattle.rl_records.proofs.entry_at.Reads as entry-at-reads
-use Rattle.rl_transform.proofs.cycle.stopped.Reads as stopped-reads
 use Rattle.rl_transform.proofs.rebuild.flag_field.Reads as flag-field-reads
 use Rattle.rl_transform.proofs.rebuild.list_field.Reads as list-field-reads
 use Rattle.rl_transform.proofs.rebuild.list_place.Reads as list-place-reads
@@ -227,8 +226,8 @@ transform-arms-calls t = (
 
 abbrev transform-below-calls : ℕ → transform-below-lts.Claims
 transform-below-calls t = (
-  stopped-reads.Asked,
-  stopped-reads.Learnt,
+  push-reads.Asked,
+  push-reads.Learnt,
   transform-statement-below t,
   transform-statement.Post,
 )
@@ -336,7 +335,7 @@ transform-arms-μ-loop image starts counts rows ensured limit first count scratc
     count - i
 
 transform-arms-loop-holds : (t : ℕ) → transform-arms-lts.Need-loop-holds (transform-arms-calls t) (transform-arms-at t) transform-arms.Post transform-arms-Inv-loop transform-arms-μ-loop
-transform-arms-loop-holds t c = (omega arith, (refl, (refl, (search needs, λ r h k. each-none _ _ (adds-arm _ (more-walk _ _)) _ _ _))))
+transform-arms-loop-holds t c = (omega arith, (refl, (refl, (search needs, λ r h k. each-none _ _ (adds-arm _ (adds-walk _ _)) _ _ _))))
 
 transform-arms-cast-entry-at : (t : ℕ) → transform-arms-lts.Need-cast-entry-at (transform-arms-calls t) (transform-arms-at t) transform-arms.Post transform-arms-Inv-loop transform-arms-μ-loop
 transform-arms-cast-entry-at t c = search needs
@@ -369,7 +368,7 @@ transform-arms-loop-again t c = (
       (
         c .before .before .before .before .before .before .before .before .before .before .before .before .before .loop .inv .1 .1 .1 .0,
         λ r h k.
-            each-more _ _ (adds-arm _ (more-walk _ _)) _ _ _ _ _ _ _ (c .before .before .before .before .before .before .before .before .before .before .before .before .before .loop .inv .1 .1 .1 .1 r h k) (c .before .before .before .before .before .before .before .before .before .before .before .before .loop-test .taken) _ _ (c .before .before .before .before .before .before .before .before .before .before .before .entry-at .ensures _) (arm-made _ _ _ _ _ r _ _ _ _ _ _ _ _ k (c .before .before .before .before .before .before .before .before .before .before .before .before .loop-test .taken) (c .before .before .before .before .before .before .before .before .before .before .before .entry-at .ensures _) (c .before .before .before .before .before .before .before .before .transform-body .ensures r h)) (c .before .before .pushed .ensures _),
+            each-more _ _ (adds-arm _ (adds-walk _ _)) _ _ _ _ _ _ _ (c .before .before .before .before .before .before .before .before .before .before .before .before .before .loop .inv .1 .1 .1 .1 r h k) (c .before .before .before .before .before .before .before .before .before .before .before .before .loop-test .taken) _ _ (c .before .before .before .before .before .before .before .before .before .before .before .entry-at .ensures _) (arm-made _ _ _ _ _ r _ _ _ _ _ _ _ _ k (c .before .before .before .before .before .before .before .before .before .before .before .before .loop-test .taken) (c .before .before .before .before .before .before .before .before .before .before .before .entry-at .ensures _) (c .before .before .before .before .before .before .before .before .transform-body .ensures r h)) (c .before .before .pushed .ensures _),
       ),
     ),
   ),
@@ -382,13 +381,13 @@ transform-arms-same-length-2 : (t : ℕ) → transform-arms-lts.Need-same-length
 transform-arms-same-length-2 t c = search needs
 
 transform-arms-returns : (t : ℕ) → transform-arms-lts.Need-returns (transform-arms-calls t) (transform-arms-at t) transform-arms.Post transform-arms-Inv-loop transform-arms-μ-loop
-transform-arms-returns t c = λ r h k. each-all _ _ (adds-arm _ (more-walk _ _)) _ _ _ _ _ (c .before .loop .inv .1 .1 .1 .1 r h k) (c .loop-test .left)
+transform-arms-returns t c = λ r h k. each-all _ _ (adds-arm _ (adds-walk _ _)) _ _ _ _ _ (c .before .loop .inv .1 .1 .1 .1 r h k) (c .loop-test .left)
 
-transform-below-stopped-requires : (t : ℕ) → transform-below-lts.Need-stopped-requires (transform-below-calls t) (transform-below-at t) transform-below.Post
-transform-below-stopped-requires t c κs = search needs
+transform-below-push-requires : (t : ℕ) → transform-below-lts.Need-push-requires (transform-below-calls t) (transform-below-at t) transform-below.Post
+transform-below-push-requires t c κs = search needs
 
 transform-below-returns : (t : ℕ) → transform-below-lts.Need-returns (transform-below-calls t) (transform-below-at t) transform-below.Post
-transform-below-returns t c = λ r h. below-stopped _ _ _ _ _ _ _ _ (c .before .if1 .taken) (c .stopped .ensures)
+transform-below-returns t c = λ r h. below-untouched _ _ _ _ _ _ _ _ (c .before .before .before .before .if1 .taken) (c .before .before .push .ensures _)
 
 transform-below-transform-statement-requires :
     (t : ℕ) → transform-below-lts.Need-transform-statement-requires (transform-below-calls t) (transform-below-at t) transform-below.Post
@@ -399,6 +398,9 @@ transform-below-same-length t c = search needs
 
 transform-below-same-length-2 : (t : ℕ) → transform-below-lts.Need-same-length-2 (transform-below-calls t) (transform-below-at t) transform-below.Post
 transform-below-same-length-2 t c = search needs
+
+transform-below-same-length-3 : (t : ℕ) → transform-below-lts.Need-same-length-3 (transform-below-calls t) (transform-below-at t) transform-below.Post
+transform-below-same-length-3 t c = search needs
 
 transform-below-returns-2 : (t : ℕ) → transform-below-lts.Need-returns-2 (transform-below-calls t) (transform-below-at t) transform-below.Post
 transform-below-returns-2 t c = λ r h. below-done _ _ _ _ _ _ _ _ (c .before .before .before .before .before .before .before .if1 .left) (c .before .before .before .before .transform-statement .ensures r (omega (arith, (c .before .before .before .before .before .before .before .if1 .left), h)))
@@ -580,7 +582,7 @@ transform-returns-loop-holds : (t : ℕ) → transform-returns-lts.Need-loop-hol
     transform-returns.Post
     transform-returns-Inv-loop
     transform-returns-μ-loop
-transform-returns-loop-holds t c = (omega arith, (refl, (refl, λ r h. flat-none _ _ (more-walk _ _) _ _ _)))
+transform-returns-loop-holds t c = (omega arith, (refl, (refl, λ r h. flat-none _ _ (adds-walk _ _) _ _ _)))
 
 transform-returns-cast-entry-at : (t : ℕ) → transform-returns-lts.Need-cast-entry-at (transform-returns-calls t) (transform-returns-at t)
     transform-returns.Post
@@ -630,7 +632,7 @@ transform-returns-loop-again t c = (
     (
       search needs,
       λ r h.
-          flat-more _ _ (more-walk _ _) _ _ _ _ _ _ (c .before .before .before .before .before .before .before .before .before .loop .inv .1 .1 .1 r h) (c .before .before .before .before .before .before .before .before .loop-test .taken) _ (c .before .before .before .before .before .before .before .entry-at .ensures _) (c .before .before .before .before .transform-below .ensures r h),
+          flat-more _ _ (adds-walk _ _) _ _ _ _ _ _ (c .before .before .before .before .before .before .before .before .before .loop .inv .1 .1 .1 r h) (c .before .before .before .before .before .before .before .before .loop-test .taken) _ (c .before .before .before .before .before .before .before .entry-at .ensures _) (c .before .before .before .before .transform-below .ensures r h),
     ),
   ),
 )
@@ -651,7 +653,7 @@ transform-returns-returns : (t : ℕ) → transform-returns-lts.Need-returns (tr
     transform-returns.Post
     transform-returns-Inv-loop
     transform-returns-μ-loop
-transform-returns-returns t c = λ r h. flat-all _ _ (more-walk _ _) _ _ _ _ _ (c .before .loop .inv .1 .1 .1 r h) (c .loop-test .left)
+transform-returns-returns t c = λ r h. flat-all _ _ (adds-walk _ _) _ _ _ _ _ (c .before .loop .inv .1 .1 .1 r h) (c .loop-test .left)
 
 transform-statement-returns : (t : ℕ) → transform-statement-lts.Need-returns (transform-statement-calls t) (transform-statement-at t) transform-statement.Post
 transform-statement-returns t c = λ r h. statement-full _ _ _ _ _ _ (c .if1 .taken)
@@ -799,11 +801,12 @@ pub +transform-arms+transform-below+transform-body+transform-branch+transform-co
     (λ t. transform-below-lts.spec (transform-below-calls t)
     (transform-below-at t)
     transform-below.Post
-    (transform-below-stopped-requires t)
+    (transform-below-push-requires t)
+    (transform-below-same-length t)
     (transform-below-returns t)
     (transform-below-transform-statement-requires t)
-    (transform-below-same-length t)
     (transform-below-same-length-2 t)
+    (transform-below-same-length-3 t)
     (transform-below-returns-2 t))
     (λ t. transform-body-lts.spec (transform-body-calls t)
     (transform-body-at t)
