@@ -14,14 +14,14 @@ use borrow.Author.Tests.{lt-ltb}
 use Rattle.rl_spec.specs.declared.Counts.{Counts}
 use Rattle.rl_spec.specs.declared.Clause.{Clause}
 use Rattle.rl_spec.specs.declared.Interval.{Interval}
-use Rattle.rl_spec.specs.declared.Section.the-variants.{Statements}
+use Rattle.rl_spec.specs.declared.Section.the-variants.{Lists, Statements}
 use Rattle.rl_spec.specs.Image.{Image, recordsOf, sizeOf, noRecord, entryOf}
 use Rattle.rl_spec.specs.Found.{imageFound}
 use Rattle.rl_spec.specs.Tree.{ascii, number}
 use Rattle.rl_spec.specs.Message.{decimal}
 use Rattle.rl_spec.specs.Ranges.{upFrom}
 use Rattle.rl_spec.specs.Contracts.{isEmpty}
-use Rattle.rl_spec.specs.Make.{Context, Make, andThen, _>>=_, give, fail, counted, each, flatMap}
+use Rattle.rl_spec.specs.Make.{Context, Make, andThen, _>>=_, give, counted, each, flatMap}
 use Rattle.rl_spec.specs.Lower.{ident, unwrapCall, clauseGuard, declare, returnOf, skipErr, wrapAs, wrapReturn, transformStatement, lastOf, wrapTrailing, ensuredBody}
 use Rattle.rl_laws.specs.Tests.{by-eqb}
 use Rattle.rl_laws.specs.Found.{size-found}
@@ -31,7 +31,9 @@ use Rattle.rl_context.specs.declared.Ctx.{Ctx}
 use Rattle.rl_context.specs.Additions.{waitingWith, Waiting, Live}
 use Rattle.rl_context.specs.Does.{State, at, all, Over, Ends, Start, Does}
 use Rattle.rl_context.proofs.Composed.{by-full, ends-full, ends-live, stays-full, does-then}
-use Rattle.rl_images.specs.Lowering.Adds.{Adds, adds-flat}
+use Rattle.rl_images.specs.Lowering.Grows.{Eight, size-grows}
+use Rattle.rl_images.specs.Lowering.GrowsTo.{Later, now, eight-later}
+use Rattle.rl_images.specs.Lowering.Adds.{Adds, adds-later, adds-flat}
 use Rattle.rl_images.specs.Lowering.AddsLower.{adds-statement, adds-wrap}
 use Rattle.rl_context.proofs.Waits.{counted-same}
 use Rattle.rl_guards.specs.Guards.{Gathers, clausesIn}
@@ -68,14 +70,14 @@ some-wrapped : (value : ℕ) (ensures : List Clause) (x : Context) → Gives (λ
 unfolding wrapReturn
 some-wrapped value ensures x = some-as (ascii "__ensure_ret_" ++ decimal (x .tempCounter)) (x .isResult) value ensures (counted x)
 
-trailing-long : (ensures : List Clause) (b : List ℕ) (y : Context) → Gives (λ r z. AsMany y z × (length b ≤ length r)) (wrapTrailing ensures b y)
+trailing-long : (ensures : List Clause) (b : List ℕ) (y : Context) → Eight (y .image) → Gives (λ r z. Later y z × (length b ≤ length r)) (wrapTrailing ensures b y)
 unfolding wrapTrailing
-trailing-long ensures b y =
+trailing-long ensures b y e =
     by-cond (endsBare (y .image) b) (wrapReturn (number (lastOf (y .image) b) 1) ensures >>= λ seq. give (seq ++ take (length b - 1) b)) (give b) y
     (λ _.
-    after (both (adds-wrap (number (lastOf (y .image) b) 1) ensures .more y) (some-wrapped (number (lastOf (y .image) b) 1) ensures y)) (λ seq z h.
+    after (both (adds-later (adds-wrap (number (lastOf (y .image) b) 1) ensures) y e) (some-wrapped (number (lastOf (y .image) b) 1) ensures y)) (λ seq z h.
     gives (h .0, rw (length-append seq (take (length b - 1) b), length-take-le (length b - 1) b (omega arith)) (omega (arith, h .1)))))
-    (λ _. gives (record { sections = refl; lists = omega arith }, omega arith))
+    (λ _. gives (now, omega arith))
 
 -- ---- aside
 
@@ -85,7 +87,7 @@ none-waits ctx side h = record { size = h; count = refl; few = omega arith; entr
 
 module _ (im : Image) (ctx : Ctx) (scratch waiting side : List ℕ) (long : length side ≡ 4096) (done : Ctx) (scratch′ side′ : List ℕ) (m : Make (List ℕ)) (ss : List ℕ)
     (d : Does im 0 0 all m (at (waitingWith ctx 0) scratch side) ss (at done scratch′ side′)) (k : List ℕ → Make (List ℕ))
-    (keeps : (b : List ℕ) (y : Context) → Gives (λ r z. AsMany y z × (length b ≤ length r)) (k b y)) (res : List ℕ) (t : State)
+    (keeps : (b : List ℕ) (y : Context) → Eight (y .image) → Gives (λ r z. Later y z × (length b ≤ length r)) (k b y)) (res : List ℕ) (t : State)
     (full : done .full ≡ true → t .ctx .full ≡ true) where
   aside : (x : Context) (ws : List ℕ) → Live im 0 x ws ctx scratch waiting → Live im 0 x [] (waitingWith ctx 0) scratch side
   aside x ws l =
@@ -107,8 +109,8 @@ module _ (im : Image) (ctx : Ctx) (scratch waiting side : List ℕ) (long : leng
       Live im 0 y ws (waitingWith done (ctx .waiting)) scratch′ waiting → Ends im 0 all ws (k ss y) res t) where
     over-later : (ws : List ℕ) {o : Option (List ℕ × Context)} → Gives (λ b y. Over ([] ++ b) y) o → Gives (λ r z. Over (ws ++ r) z) (andThen o k)
     over-later ws h =
-        after h (λ b y o. weaker (keeps b y) (λ r z v.
-        record { sections = v .0 .sections ∙ o .sections; more = rw (length-append ws r) (omega (arith, o .more, v .0 .lists, v .1)) }))
+        after h (λ b y o. weaker (keeps b y (o .sections)) (λ r z v.
+        record { sections = v .0 .image .sections ∙ o .sections; more = rw (length-append ws r) (omega (arith, o .more, size-grows (v .0 .image) Lists, v .1)) }))
 
     from : (ws : List ℕ) (x : Context) → ctx .full ≡ false → Live im 0 x ws ctx scratch waiting → Ends im 0 all ws (andThen (m x) k) res t
     from ws x v l =
@@ -122,8 +124,11 @@ module _ (im : Image) (ctx : Ctx) (scratch waiting side : List ℕ) (long : leng
 
     all-over : (ws : List ℕ) (x : Context) → Over (ws ++ []) x → Adds m → Gives (λ r z. Over (ws ++ r) z) (andThen (m x) k)
     all-over ws x o more =
-        after (more .more x) (λ b y a. weaker (keeps b y) (λ r z v.
-        record { sections = v .0 .sections ∙ a .sections ∙ o .sections; more = rw (length-append ws r) (omega (arith, o .more, a .lists, v .0 .lists, length-append ws [])) }))
+        after (adds-later more x (o .sections)) (λ b y a. weaker (keeps b y (eight-later a (o .sections))) (λ r z v.
+        record {
+          sections = v .0 .image .sections ∙ a .image .sections ∙ o .sections;
+          more = rw (length-append ws r) (omega (arith, o .more, size-grows (a .image) Lists, size-grows (v .0 .image) Lists, length-append ws []));
+        }))
 
     pub aside-then : Adds m → Does im 0 0 all (m >>= k) (at ctx scratch waiting) res t
     aside-then more = record { does = go }
@@ -155,7 +160,7 @@ module _ (s p : List ℕ) (c : Counts) (rows : List ℕ) (body ensured : Interva
   unfolding upFrom flatMap
   walk-same zero a h = refl
   walk-same (suc n) a h =
-      λ i x. andThen (ap (λ b. cond b (transformStatement es (entryOf of a)) fail) (lt-ltb (entryOf of a) (c .statements) (subst (λ z. entryOf of z < c .statements) (add-zero a) (h 0 (omega arith)))) i x)
+      λ i x. andThen (ap (λ b. cond b (transformStatement es (entryOf of a)) (give (entryOf of a ∷ []))) (lt-ltb (entryOf of a) (c .statements) (subst (λ z. entryOf of z < c .statements) (add-zero a) (h 0 (omega arith)))) i x)
       (λ bs. walk-same n (a + 1) (λ j l. subst (λ z. entryOf of z < c .statements) (next a j) (h (suc j) (omega arith))) i >>= λ cs. give (bs ++ cs))
     where
       next : (a b : ℕ) → a + suc b ≡ a + 1 + b
@@ -185,7 +190,7 @@ module _ (s p : List ℕ) (c : Counts) (rows : List ℕ) (body ensured : Interva
         empty-bare im z = no-numbers of im (body .first) (body .count) z
 
     lasts : (y : Context) (ss : List ℕ) → flatMap (transformStatement es) numbers x ≡ some (ss, y) → Last (x .image) numbers ss (y .image)
-    lasts y ss e = given-is (last-bare es x numbers (ap (λ z. length (z .image .records)) (l .context)) in-range) e
+    lasts y ss e = given-is (last-bare es x numbers (record { sections = ap (λ z. length (z .image .records)) (l .context); limits = ap (λ z. z .limited) (l .context) }) in-range) e
 
   module _ (ss : List ℕ) (d : Does of 0 0 all (flatMap (walkBelow es (c .statements)) numbers) (at (waitingWith ctx 0) scratch side) ss (at done scratch′ side′)) where
     through : Does of 0 0 all (flatMap (transformStatement es) numbers) (at (waitingWith ctx 0) scratch side) ss (at done scratch′ side′)

@@ -213,13 +213,12 @@ module _ (image : Image) (f n : ℕ) (function : Function) (p : decl.Param) (e :
   pub refinement-done : {im : Image} {s t : State} (o : op.RefineOp) (x : operand.RefineOperand) (room w text : List ℕ) (size : ℕ) → p .refinement ≡ Refined o x → 16385 ≤ length room →
       size ≡ afterText room 0 (defaultText image f (Refinement n)) → w ≡ withText room 0 (defaultText image f (Refinement n)) → text ≡ take size (drop 0 w) →
       Gathers im 0 (refinedBy image (p .name) (refinedAs o x) text) s t → Gathers im 0 (guardIn image f n) s t
-  refinement-done {im} {s} {t} o x room w text size h k a b c g =
-      (
-        g .0,
-        does-same (guardIn image f n) (keeps-more all (λ _. adds-guard-in))
+  refinement-done {im} {s} {t} o x room w text size h k a b c g = (
+    g .0,
+    does-same (guardIn image f n) (keeps-more all (λ _. adds-guard-in))
         (λ y ws l. ap (λ m. m y) (guard-is ∙ ap (λ z. refinementGuard image (p .name) (refinementOf z)) h) ∙ sym (same-message y (ap (λ z. length (z .image .records)) (l .context)) (ap (λ z. z .limited) (l .context))))
         (g .1),
-      )
+  )
     where
       message : List ℕ → ℕ → Make (List ℕ)
       message said pred = strLit said >>= λ msg. from-message image (p .name) (refinedAs o x) [] pred msg

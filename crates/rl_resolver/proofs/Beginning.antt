@@ -2,6 +2,7 @@
 -- Assumes nothing.
 use Prim.Native.Nat.{ℕ, _≤_}
 use mathlib.Core.Path.{_≡_, refl, ap, sym, subst}
+use mathlib.Core.Bool.{true}
 use mathlib.Core.List.{List, []}
 use native.Mathlib.Omega.{arith}
 use lib.ListN.{length, replicate, length-replicate}
@@ -70,7 +71,7 @@ module _ (s p : List ℕ) (c : Counts) (f : ℕ) (src : Source (imageFound s p c
   live-begun =
       record {
         new = none-new;
-        context = ap (λ x. record { image = x; span = functionAt im f .span; isResult = functionAt im f .result; tempCounter = 0 }) (grown-none s p c);
+        context = ap (λ x. record { image = x; span = functionAt im f .span; isResult = functionAt im f .result; tempCounter = 0; limited = true }) (grown-none s p c);
         image = src .well-formed;
         counted = subst (λ (x : Counts). Counted im none-new (begun x (functionAt im f))) (sym (src .counts-are)) (counted-none im (src .well-formed) f);
         kept = kept-none im (src .well-formed);

@@ -17,14 +17,15 @@ use Rattle.rl_spec.specs.Image.{Field, num, pair, Image, recordsOf, sizeOf, enc
 use Rattle.rl_spec.specs.Found.{imageFound}
 use Rattle.rl_spec.specs.Records.{functionAt}
 use Rattle.rl_spec.specs.Make.{Context, made}
-use Rattle.rl_spec.specs.Lower.{hasContracts, newBody, start, withBody, fitting, finished, lowered}
-use Rattle.rl_images.specs.Lowering.Grows.{listRecords, list-gives, records-own}
+use Rattle.rl_spec.specs.Lower.{hasContracts, newBody, start, withBody, fitting, finished, loweredBy, lowered}
+use Rattle.rl_images.specs.Lowering.Grows.{Eight, eight-sections, listRecords, list-gives, records-own}
 use Rattle.rl_images.specs.Lowering.Gives.{Gives, stops, gives, after, weaker, given-is}
 use Rattle.rl_text_out.specs.Put.{withText, afterText}
 use Rattle.rl_context.specs.declared.Ctx.{Ctx}
 use Rattle.rl_context.specs.Additions.{New, grown, Counted, Kept}
 use Rattle.rl_context.specs.Does.{at, nothing, Over, Ends, Does}
 use Rattle.rl_context.proofs.Composed.{ends-live}
+use Rattle.rl_images.specs.Lowering.Adds.{adds-later}
 use Rattle.rl_images.specs.Lowering.AddsLower.{adds-desugar}
 use Rattle.rl_assemble.specs.Pieces.{Source, Given}
 use Rattle.rl_assemble.proofs.Laws.{after-front, with-front}
@@ -35,15 +36,15 @@ use Rattle.rl_resolver.proofs.Beginning.{live-begun}
 -- ---- a limit was passed
 
 -- the list entries of a finished body are within their limit
-within-limit : (im : Image) (f : ℕ) (x : Context) → Gives (λ (_ : Field) y. Over [] y → ⊥) (newBody im f x)
+within-limit : (im : Image) (f : ℕ) → Eight im → Gives (λ (_ : Field) y. Over [] y → ⊥) (newBody im f (start im f))
 unfolding newBody limits
-within-limit im f x =
-    after (adds-desugar _ _ _ _ .more x) (λ ns y _.
+within-limit im f e =
+    after (adds-later (adds-desugar _ _ _ _) (start im f) e) (λ ns y l.
     weaker (list-gives ns y) (λ b z n o.
     let eight : length (y .image .records) ≡ 8 = sym (ap (λ (v : Context). length (v .image .records)) (n .is) ∙ length-set (y .image .records) 1 _) ∙ o .sections in
     let size : sizeOf (z .image) Lists ≡ sizeOf (y .image) Lists + length ns =
     rw (n .is, records-own (y .image) Lists (recordsOf (y .image) Lists ++ listRecords ns) eight, length-append (recordsOf (y .image) Lists) (listRecords ns), length-map ns (λ m. made 3 (num m ∷ []))) refl in
-    omega (arith, size, n .within, o .more)))
+    omega (arith, size, n .within (l .limited), o .more)))
 
 none-of : {A : Type 0} {P : A → Context → Type 0} {o : Option (A × Context)} → Gives P o → ((a : A) (x : Context) → o ≡ some (a, x) → P a x → ⊥) →
     o ≡ none
@@ -61,7 +62,7 @@ written-by im out n end true e p q = record { number = p; bytes = q; few = omega
 written-by im out n end false e p q =
     record { number = p; bytes = q; few = omega (arith, p, ltb-false 65535 (length (encode im)) e) }
 
-written-given : (im : Image) (out : List ℕ) (n : ℕ) (end : List ℕ) → Given im out n end → Written (fitting im) out n end
+written-given : (im : Image) (out : List ℕ) (n : ℕ) (end : List ℕ) → Given im out n end → Written (fitting true im) out n end
 unfolding fitting
 written-given im out n end g = written-by im out n end (ltb 65535 (length (encode im))) refl (g .number) (g .bytes)
 
@@ -73,7 +74,7 @@ module _ (s p : List ℕ) (c : Counts) (f : ℕ) (src : Source (imageFound s p c
   im = imageFound s p c
 
   abbrev Finishes : ℕ → List ℕ → Type 0
-  Finishes n end = Written (finished f (newBody im f (start im f))) out n end
+  Finishes n end = Written (finished true f (newBody im f (start im f))) out n end
 
   module _ (ctx₀ : Ctx) (is : (q : List ℕ) → ctx₀ ≡ begun c (functionAt (imageFound s q c) f)) (list : Interval) (ctx : Ctx) (scratch waiting : List ℕ)
       (does : Does im 0 0 nothing (newBody im f) (at ctx₀ (replicate 186496 0) (replicate 4096 0)) (pair (list .first) (list .count)) (at ctx scratch waiting)) where
@@ -85,8 +86,8 @@ module _ (s p : List ℕ) (c : Counts) (f : ℕ) (src : Source (imageFound s p c
 
     pub body-full : ctx .full ≡ true → Finishes 0 out
     body-full e =
-        subst (λ o. Written (finished f o) out 0 out)
-        (sym (none-of (ends .full e) (λ a x q o. given-is (within-limit im f (start im f)) q o)))
+        subst (λ o. Written (finished true f o) out 0 out)
+        (sym (none-of (ends .full e) (λ a x q o. given-is (within-limit im f (eight-sections im (src .well-formed))) q o)))
         (written-none out)
 
     functions-are : f < sizeOf im Functions
@@ -100,19 +101,19 @@ module _ (s p : List ℕ) (c : Counts) (f : ℕ) (src : Source (imageFound s p c
         let v = ends .live e in
         let w = v .live in
         let g = given im (w .new) src (w .counted) (w .kept) functions-are room in
-        subst (λ o. Written (finished f o) out n end) (sym (v .is))
-        (subst (λ (x : Context). Written (fitting (withBody (x .image) f (pair (list .first) (list .count)))) out n end) (sym (w .context))
+        subst (λ o. Written (finished true f o) out n end) (sym (v .is))
+        (subst (λ (x : Context). Written (fitting true (withBody (x .image) f (pair (list .first) (list .count)))) out n end) (sym (w .context))
         (written-given (withBody (grown im (w .new)) f (pair (list .first) (list .count))) out n end g))
 
   -- ---- the lowered image
 
   module _ (b : Bool) (e : (q : List ℕ) → b ≡ hasContracts (imageFound s q c) f) where
     pub lowered-body : b ≡ true → (n : ℕ) (end : List ℕ) → Finishes n end → Written (lowered im f) out n end
-    unfolding lowered
+    unfolding loweredBy
     lowered-body t n end w = rw (← e p, t) w
 
     pub lowered-same : b ≡ false → (n : ℕ) (end : List ℕ) → n ≡ afterText out 0 s → end ≡ withText out 0 s → Written (lowered im f) out n end
-    unfolding lowered
+    unfolding loweredBy
     lowered-same t n end h g =
         let few : length s ≤ 65535 = omega (arith, ap length (src .bytes), src .well-formed .size) in
         let number : n ≡ length s = h ∙ after-front out s (omega arith) in

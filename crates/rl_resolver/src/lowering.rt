@@ -15,6 +15,7 @@ use rl_spec::Cause;
 use rl_spec::Counts;
 use rl_spec::LowerAnswer;
 use rl_text_out::put_text;
+ghost use mathlib.Core.Bool.{true};
 ghost use mathlib.Core.Path.{_≡_};
 ghost use mathlib.Core.List.{List};
 ghost use Prim.Native.Nat.{ℕ, _<_, _≤_};
@@ -77,7 +78,7 @@ fn put_finished(
     requires { ⌜ Source (imageFound (now image) (now starts) counts) (now image) (now starts) counts ⌝ }
     requires { ⌜ function < counts .functions ⌝ }
     requires { ⌜ 65535 ≤ length (now out) ⌝ }
-    ensures { λ r. ⌜ Written (finished function (newBody (imageFound (now (image .entry)) (now (starts .entry)) counts) function (start (imageFound (now (image .entry)) (now (starts .entry)) counts) function))) (now (out .entry)) r (now (out .exit)) ⌝ }
+    ensures { λ r. ⌜ Written (finished true function (newBody (imageFound (now (image .entry)) (now (starts .entry)) counts) function (start (imageFound (now (image .entry)) (now (starts .entry)) counts) function))) (now (out .entry)) r (now (out .exit)) ⌝ }
 {
     let mut scratch = [0u8; 186496];
     let mut waiting = [0u16; 4096];

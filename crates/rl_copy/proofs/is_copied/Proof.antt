@@ -20,6 +20,5 @@ returns c = ap (λ b. b && ltb (c .before .before .args .n) (c .before .before .
 returns-2 : tie.Need-returns-2
 returns-2 c = search needs
 
-
 pub is-copied-spec : {M : Type 1} → statement M
 is-copied-spec = tie.close (tie.spec is-node-requires returns returns-2)
