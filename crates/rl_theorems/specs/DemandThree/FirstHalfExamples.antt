@@ -32,7 +32,7 @@ use Rattle.rl_spec.specs.Lower.{lowered}
 use Rattle.rl_spec.specs.Lowerer.{made, orLimit, lowerOf}
 use Rattle.rl_spec.specs.Runner.{outcomeIn, allHave, given, valuesOf, ranIn, runOf}
 use Rattle.rl_theorems.specs.Reading.EncodedAnswers.{lowered-encoded, bytes-by, well-formed-by}
-use Rattle.rl_theorems.specs.Lowering.LowerFrame.{Clean, begins, CleanChecks}
+use Rattle.rl_theorems.specs.Lowering.LowerFrame.{begins, CleanChecks}
 use Rattle.rl_theorems.specs.Lowering.LowerBodies.{Ensured}
 use Rattle.rl_theorems.specs.Lowering.LoweredRuns.{Premises}
 use Rattle.rl_examples.specs.MarkedImages.{made as a, bool, identifier, parameter, clause, function, build}
@@ -185,7 +185,7 @@ unfolding answering CleanChecks
 echo-premises = record { ensures = tt; last = tt }
 
 ret-premises : Premises (contractFunction (imageOf (encode (promising "ret"))) 0)
-unfolding answering CleanChecks Clean begins
+unfolding answering CleanChecks begins
 ret-premises = record { ensures = (refl, tt, tt); last = tt }
 
 -- on the text "x"
@@ -243,5 +243,5 @@ unfolding answering
 looking-last = tt
 
 trailing-ensures : CleanChecks (trailing .ensures)
-unfolding answering CleanChecks Clean begins
+unfolding answering CleanChecks begins
 trailing-ensures = (refl, tt, tt)

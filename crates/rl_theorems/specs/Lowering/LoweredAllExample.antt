@@ -16,7 +16,7 @@ use Rattle.rl_spec.specs.Lower.{lowered}
 use Rattle.rl_examples.specs.MarkedImages.{bool, identifier, clause, function, build}
 use Rattle.rl_examples.specs.LowerExamples.{lowering, decoding, running}
 use Rattle.rl_theorems.specs.Reading.EncodedAnswers.{well-formed-by}
-use Rattle.rl_theorems.specs.Lowering.LowerFrame.{Clean, begins, CleanChecks}
+use Rattle.rl_theorems.specs.Lowering.LowerFrame.{begins, CleanChecks}
 use Rattle.rl_theorems.specs.Lowering.LoweredRuns.{Premises}
 use Rattle.rl_theorems.specs.Lowering.LoweredAll.{LoweredInOrder, none-yet, and-then, all-lowered}
 
@@ -71,7 +71,7 @@ unfolding lowering running CleanChecks
 premises-first = record { ensures = tt; last = tt }
 
 premises-second : Premises (contractFunction original 1)
-unfolding lowering running CleanChecks Clean begins
+unfolding lowering running CleanChecks begins
 premises-second = record { ensures = (refl, tt, tt); last = tt }
 
 -- so each runs as it was read before the first lowering
