@@ -5,6 +5,9 @@
 pub mod LowerAnswers
 pub mod LowerAnswersExamples
 pub mod LoweredBytes
+pub mod OverRecords
+pub mod DepthTests
+pub mod KeptRuns
 pub mod FirstHalf
 pub mod FirstHalfExamples
 pub mod Folds
@@ -12,6 +15,10 @@ pub mod FoldsChecks
 pub mod FoldsEntry
 pub mod FoldsNames
 pub mod FoldsCalls
+pub mod Reports
 pub mod SecondHalf
 pub mod SecondHalfExamples
 pub mod Marked
+pub mod Demand
+pub mod OneAfterAnother
+pub mod OneAfterAnotherExample

@@ -175,7 +175,7 @@ reads im args = readingIn (imageOf (encode im)) 0 (valuesOf (given args)) 1000
 abbrev yes : Outcome
 yes = Returned (Bare (Const (Truth true)))
 
-answering : Unit {0}
+unfoldable pub answering : Unit {0}
 unfolding decoding lowering running runOf ranIn allHave readingIn plainFunction
 answering = tt
 
@@ -189,10 +189,10 @@ unfolding answering CleanChecks begins
 ret-premises = record { ensures = (refl, tt, tt); last = tt }
 
 -- on the text "x"
-pub echo-example : (o : Outcome) × (n : ℕ) × (runs echo-lowered (text 2) ≡ Ran o n) × ((outcomeIn echo-lowered o, n) ≡ reads echo (text 2))
+pub echo-example : (o : Outcome) × (n : ℕ) × (runs echo-lowered (text 2) ≡ Ran o n) × ((outcomeIn (imageOf (encode echo-lowered)) o, n) ≡ reads echo (text 2))
 unfolding answering
 echo-example =
-    first-half (encode echo) 8192 0 65535 echo-lowered (bytes-by (encode echo) refl) echo-made (text 2) 1000 refl echo-premises
+    first-half (encode echo) 8192 0 65535 echo-lowered (bytes-by (encode echo) refl) echo-made 8192 (text 2) 1000 refl echo-premises
     (Returned (Bare (Const (Str 2)))) 2 refl
 
 pub echo-ends : (runs echo-lowered (text 2) ≡ Ran (Returned (Bare (Const (Str 2)))) 5)
@@ -202,11 +202,11 @@ echo-ends = (refl, refl)
 
 -- marked case 14's image
 pub ret-example : (o : Outcome) × (n : ℕ) × (runs (promising-lowered "ret") nothing ≡ Ran o n)
-    × ((outcomeIn (promising-lowered "ret") o, n) ≡ reads (promising "ret") nothing)
+    × ((outcomeIn (imageOf (encode (promising-lowered "ret"))) o, n) ≡ reads (promising "ret") nothing)
 unfolding answering
 ret-example =
-    first-half (encode (promising "ret")) 8192 0 65535 (promising-lowered "ret") (bytes-by (encode (promising "ret")) refl) ret-made nothing
-    1000 refl ret-premises yes 2 refl
+    first-half (encode (promising "ret")) 8192 0 65535 (promising-lowered "ret") (bytes-by (encode (promising "ret")) refl) ret-made 8192
+    nothing 1000 refl ret-premises yes 2 refl
 
 pub ret-ends : (runs (promising-lowered "ret") nothing ≡ Ran yes 9)
     × (reads (promising "ret") nothing ≡ (returned (folds (value.bool true)), 9))

@@ -64,7 +64,7 @@ sortIn x c = sortOf (getD (fieldsOf (x .kind)) c 0)
 module _ (im : Image) (H : ℕ → Type 0)
     (one : (i c : ℕ) → H i → sortIn (recordOf im Expressions i) c ≡ One Expression → H (number (recordOf im Expressions i) c))
     (entry : (i c : ℕ) → H i → sortIn (recordOf im Expressions i) c ≡ Many Expression Expression 1 → 0 < second (fieldOf (recordOf im Expressions i) c) →
-      H (entryOf im (number (recordOf im Expressions i) c + 0)))
+    H (entryOf im (number (recordOf im Expressions i) c + 0)))
     (look store : ℕ → Type 0) (looks : (i : ℕ) → H i → recordOf im Expressions i .kind ≡ 30 → look (number (recordOf im Expressions i) 1))
     (stores : (i : ℕ) → H i → recordOf im Expressions i .kind ≡ 39 → store (number (recordOf im Expressions i) 1)) where
   module _ (i : ℕ) (h : H i) (earlier : (n : ℕ) → n < i → H n → NamesIn look store (exprTree im n)) where
