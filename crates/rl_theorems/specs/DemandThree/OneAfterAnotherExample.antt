@@ -33,7 +33,7 @@ use Rattle.rl_examples.specs.LowerExamples.{lowering}
 use Rattle.rl_theorems.specs.Reading.EncodedAnswers.{lowered-encoded, bytes-by, well-formed-by}
 use Rattle.rl_theorems.specs.DemandThree.Marked.{decoding, measuring}
 use Rattle.rl_theorems.specs.DemandThree.LoweredBytes.{made-written}
-use Rattle.rl_theorems.specs.DemandThree.FirstHalfExamples.{answering}
+use Rattle.rl_theorems.specs.DemandThree.FirstHalfImages.{answering}
 use Rattle.rl_theorems.specs.Lowering.LowerFrame.{begins}
 use Rattle.rl_theorems.specs.Lowering.LoweredInTurn.{Among, NoneTwice}
 use Rattle.rl_theorems.specs.DemandThree.DepthTests.{passes, throughout, not-true, begins-not}
