@@ -1,11 +1,12 @@
--- A call whose second value is free never passes its callee's entry checks. And for each premise of the second half of demand 3, a call
--- that lacks it, meets the others, is reported, and passes; by computation.
+-- What stands at any depth in an expression; a call whose second value is free, which never passes its callee's entry checks; and for
+-- each premise of the second half of demand 3 a call that lacks it, meets the others, is reported, and passes. By computation.
 -- Assumes nothing.
 use Prim.Native.Nat.{ℕ, zero, suc, _<_}
 use mathlib.Core.Path.{_≡_, refl, ap}
 use mathlib.Core.Bool.{true}
 use mathlib.Core.List.{List, [], _∷_}
 use native.Mathlib.Omega.{arith}
+use lib.Dec.{lit<}
 use lib.IntN.{pos}
 use lib.ListN.{getD}
 use Rattle.rl_spec.specs.Image.{Image, num, pair, encode, imageOf}
@@ -18,11 +19,11 @@ use Rattle.rl_spec.specs.Functions.{refinementChecks, contractFunction}
 use Rattle.rl_spec.specs.Run.{nothing, Value, plain, named, folds, find, update, eval}
 use Rattle.rl_spec.specs.Reading.{checks}
 use Rattle.rl_images.specs.Images.SchemaSorts.{all, all-at}
-use Rattle.rl_examples.specs.MarkedImages.{made, integer, identifier, binary, parameter, refined, clause, function, call, build, named-behind, flow}
+use Rattle.rl_examples.specs.MarkedImages.{made, integer, identifier, binary, grouping, parameter, refined, clause, function, call, build, named-behind, flow}
 use Rattle.rl_theorems.specs.DemandThree.Folds.{none≢some}
 use Rattle.rl_theorems.specs.DemandThree.DepthTests.{passes, throughout, isNot, FoldsTo, folds-to}
 use Rattle.rl_theorems.specs.DemandThree.Marked.{decoding, folding, proving}
-use Rattle.rl_theorems.specs.DemandThree.Demand.{argument, parameterName, NoIdentifier, DistinctNames, NoAssignment, ValuesFor, PassesEntry, Reported, proved, second-half, none-in, no-identifier, distinct-names, no-assignment}
+use Rattle.rl_theorems.specs.DemandThree.Demand.{one, entry, StandsIn, itself, deeper, NoneIn, argument, parameterName, NoIdentifier, DistinctNames, NoAssignment, ValuesFor, PassesEntry, Reported, proved, second-half, none-in, no-identifier, distinct-names, no-assignment}
 
 abbrev int : ℕ → Value Text
 int n = folds (value.int (pos n))
@@ -51,6 +52,33 @@ values-by : (im : Image) (call : ℕ) (v w : Value Text) → FoldsTo im (argumen
 values-by im call v w p q zero l = p
 values-by im call v w p q (suc zero) l = q
 values-by im call v w p q (suc (suc j)) l = absurd (omega (arith, l))
+
+-- ---- what stands at any depth: of a list of fields the values and not the names, of a method call not the method
+
+abbrev nested : Image
+nested =
+    build
+    record {
+      texts = "S" ∷ "x" ∷ [];
+      lists = 0 ∷ 1 ∷ 0 ∷ [];
+      -- x, 1, S { S: 1 }, S { x: x }, (1).S(), and the fourth in a Grouping
+      expressions =
+          identifier 1 ∷ integer (pos 1) ∷ made 52 (num 2 ∷ num 0 ∷ pair 0 2 ∷ []) ∷ made 52 (num 2 ∷ num 0 ∷ pair 1 2 ∷ [])
+          ∷ made 43 (num 2 ∷ num 1 ∷ pair 0 1 ∷ pair 3 0 ∷ []) ∷ grouping 3 ∷ [];
+      statements = [];
+      parameters = [];
+      clauses = [];
+      functions = [];
+      calls = [];
+    }
+
+pub names-apart : NoneIn (of nested) 30 2 × NoneIn (of nested) 30 4
+unfolding decoding folding passes throughout
+names-apart = (none-in (of nested) 30 2 refl, none-in (of nested) 30 4 refl)
+
+pub value-inside : StandsIn (of nested) 0 5
+unfolding decoding
+value-inside = deeper (one 1 refl) (deeper (entry 2 1 refl refl (lit< tt)) itself)
 
 -- ---- f(1), parameters a > 5 and b: the value of b is free
 
