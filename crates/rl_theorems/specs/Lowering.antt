@@ -2,7 +2,7 @@
 -- LowerBodies), so a lowered function runs as it is read, whatever its temporaries are called (LoweredTo, LoweredRuns).
 -- From records to trees: what is made stands for what is meant (MadeTrees; Copied, Guarded, Wrapped, Transformed, Trailing, Desugared),
 -- so the function of the lowered image (FinishedImage) is the lowered function (LoweredFunctions), its arguments are still arguments
--- (LoweredArguments), the other functions are as they were (LoweredOthers), and all may be lowered in order (LoweredAll).
+-- (LoweredArguments), the other functions are as they were (LoweredOthers), and any may be lowered one after another (LoweredInTurn).
 pub mod LowerTrees
 pub mod LowerGuard
 pub mod LowerFrame
@@ -24,5 +24,4 @@ pub mod LoweredFunctions
 pub mod LoweredFunctionsExample
 pub mod LoweredArguments
 pub mod LoweredOthers
-pub mod LoweredAll
-pub mod LoweredAllExample
+pub mod LoweredInTurn

@@ -20,10 +20,8 @@ use Rattle.rl_spec.specs.declared.Cause.the-variants.{BytesEnd, BadText, BadRef
 use Rattle.rl_spec.specs.declared.Answer.the-variants.{Accepted, Refused}
 use Rattle.rl_spec.specs.declared.Section.{Section}
 use Rattle.rl_spec.specs.declared.FoldAnswer.the-variants.{Found}
-use Rattle.rl_spec.specs.declared.ProveAnswer.the-variants.{Proved}
 use Rattle.rl_spec.specs.declared.Arguments.{Arguments}
-use Rattle.rl_spec.specs.declared.Outcome.{Outcome as Ending}
-use Rattle.rl_spec.specs.declared.RunAnswer.the-variants as run
+use Rattle.rl_spec.specs.declared.LowerAnswer.the-variants.{Lowered}
 use Rattle.rl_spec.specs.declared.Section.the-variants.{Expressions, Statements, Functions, Calls}
 use Rattle.rl_spec.specs.declared.Sort.the-variants.{Part}
 use Rattle.rl_spec.specs.declared.Step.the-variants.{Next, Stop}
@@ -41,10 +39,10 @@ use Rattle.rl_spec.specs.Prove.{proveCall, callEntries, allEntries, fitting, sl
 use Rattle.rl_spec.specs.Statement.{Stmt, Body}
 use Rattle.rl_spec.specs.Contracts.{FnContracts, calleeOf, argumentsOf}
 use Rattle.rl_spec.specs.Mapped.{mapValue, mapExpr, mapStmt, mapBody, mapContracts}
-use Rattle.rl_spec.specs.Functions.{plainFunction, contractFunction, readingIn}
+use Rattle.rl_spec.specs.Functions.{plainFunction, contractFunction}
 use Rattle.rl_spec.specs.Lower.{lowered}
-use Rattle.rl_spec.specs.Lowerer.{made, refused, tooTall, orLimit, lowerOf, lowerOut}
-use Rattle.rl_spec.specs.Runner.{outcomeIn, allHave, given, valuesOf, runOf}
+use Rattle.rl_spec.specs.Lowerer.{made, refused, tooTall, orLimit, lowerOf, lowerAnswer, lowerOut}
+use Rattle.rl_spec.specs.Runner.{allHave, given}
 use Rattle.rl_spec.specs.Run.{Value, Env, got, used, tick, _>>_, eval}
 use Rattle.rl_spec.specs.Reading.{Check, Function, Mode, repeat, loopTurn, whileTurn, checks, stmt, body, top, runFunction, entering, reading}
 use Rattle.rl_images.specs.Reading.Utf8 as Utf8
@@ -78,15 +76,15 @@ use Rattle.rl_images.specs.Images.Heights as Heights
 use Rattle.rl_theorems.specs.Lowering.LowerTrees as LowerTrees
 use Rattle.rl_theorems.specs.Lowering.LoweredRuns as LoweredRuns
 use Rattle.rl_theorems.specs.Lowering.LoweredOthers as LoweredOthers
-use Rattle.rl_theorems.specs.Lowering.LoweredAll as LoweredAll
+use Rattle.rl_theorems.specs.Lowering.LoweredInTurn as LoweredInTurn
 use Rattle.rl_images.specs.Lowering.Grows.{eight-sections}
 use Rattle.rl_images.specs.Lowering.Followed as Followed
 use Rattle.rl_theorems.specs.Images.FunctionReady.{Under}
 use Rattle.rl_theorems.specs.Images.LoweredWellFormed as LoweredWellFormed
 use Rattle.rl_theorems.specs.DemandThree.LowerAnswers as LowerAnswers
 use Rattle.rl_theorems.specs.DemandThree.LoweredBytes as LoweredBytes
-use Rattle.rl_theorems.specs.DemandThree.FirstHalf as FirstHalf
-use Rattle.rl_theorems.specs.DemandThree.SecondHalf as SecondHalf
+use Rattle.rl_theorems.specs.DemandThree.Demand as Demand
+use Rattle.rl_theorems.specs.DemandThree.OneAfterAnother as OneAfterAnother
 use Rattle.rl_theorems.specs.DemandThree.Marked as Marked
 use Rattle.rl_laws.specs.Heights.{exprHeight}
 
@@ -359,15 +357,19 @@ plain-runs = LoweredFunctions.plain-runs
 pub others-same : (im im′ : Image) (f : ℕ) → WellFormed im → lowered im f ≡ some im′ → (g : ℕ) → g < sizeOf im Functions → (g ≡ f → ⊥) → contractFunction im′ g ≡ contractFunction im g
 others-same = LoweredOthers.others-same
 
--- ---- all functions lowered in order, the first n of them in `LoweredInOrder im n im′`, none of the images being too tall: each runs as it
--- was read before the first lowering, under its premises then (LoweredAll; LoweredAllExample has two functions that meet them)
+-- ---- functions lowered one after another, in any order and none twice, each in the image that came of the one before, none of the images
+-- being too tall: each runs in the last image as it is read in the first, under its premises there, and every other one is as it was
+-- (LoweredInTurn; from bytes below, with an example)
 
-pub all-lowered : (im im′ : Image) → WellFormed im → LoweredAll.LoweredInOrder im (sizeOf im Functions) im′ → (f : ℕ) → f < sizeOf im Functions → LoweredRuns.Premises (contractFunction im f) → (vs : List (Value (List ℕ))) (budget : ℕ) → runFunction (λ t. t) (contractFunction im′ f) vs budget ≡ reading (λ t. t) (ascii "ret") (contractFunction im f) vs budget
-all-lowered im im′ wf o = LoweredAll.all-lowered im wf o
+module _ (im last : Image) (fs : List ℕ) (wf : WellFormed im) (in-turn : LoweredInTurn.LoweredInTurn im fs last) where
+  pub each-lowered : LoweredInTurn.NoneTwice fs → (f : ℕ) → LoweredInTurn.Among f fs → LoweredRuns.Premises (contractFunction im f) → (vs : List (Value (List ℕ))) (budget : ℕ) → runFunction (λ t. t) (contractFunction last f) vs budget ≡ reading (λ t. t) (ascii "ret") (contractFunction im f) vs budget
+  each-lowered = LoweredInTurn.each-reads wf in-turn
 
--- ---- a call that has a report never passes its callee's entry checks (FoldsCalls; SecondHalfExamples has two such calls). `Asked`: the callee's
--- parameter names are distinct, no identifier stands in the arguments and no assignment in its conditions, and a parameter whose argument
--- folds has that value
+  pub others-kept : (g : ℕ) → g < sizeOf im Functions → (LoweredInTurn.Among g fs → ⊥) → contractFunction last g ≡ contractFunction im g
+  others-kept = LoweredInTurn.others-kept wf in-turn
+
+-- ---- a call that has a report never passes its callee's entry checks (FoldsCalls). `Asked`: the callee's parameter names are distinct, no
+-- identifier stands in the arguments and no assignment in its conditions, and a parameter whose argument folds has that value
 
 pub reported-never-enters : (im : Image) (call f : ℕ) (vs : List (Value (List ℕ))) → calleeOf im call ≡ some f → FoldsCalls.Asked im f (argumentsOf im call) vs → FoldsEntry.NonEmpty (violationsOf im call) → (budget : ℕ) (env : Env (List ℕ)) (left : ℕ) → entering (λ t. t) (contractFunction im f) vs [] budget ≡ got tt env left → ⊥
 reported-never-enters im = FoldsCalls.reported-never-enters im
@@ -393,25 +395,25 @@ module _ (s : List ℕ) (k f room : ℕ) (im′ : Image) (bytes : AllBytes s) (e
   pub made-written : take (length (encode im′)) (lowerOut room (lowerOf s k f room)) ≡ encode im′
   made-written = LoweredBytes.made-written s k f room im′ bytes e
 
-  -- FIRST HALF, on values whose texts are the original's (FirstHalf; FirstHalfExamples)
-  module _ (args : Arguments) (budget : ℕ) (texts : allHave (countsOf s) (given args) ≡ true) where
-    -- where the runner refuses the original's run, it refuses the lowered body's by the same number
-    pub first-half-refused : (q : Cause) (p : ℕ) → runOf s k f args budget ≡ run.Refused q p → runOf (encode im′) k f args budget ≡ run.Refused q p
-    first-half-refused = FirstHalf.first-half-refused s k f room im′ bytes e args budget texts
+-- THE TWO HALVES, as Demand has them beside what their premises say and closed instances (FirstHalf and FoldsCalls have them under weaker
+-- premises, said of trees; FirstHalfExamples and SecondHalfExamples show that each premise is needed)
+pub first-half : (s : List ℕ) (k f room n : ℕ) → AllBytes s → lowerAnswer (lowerOf s k f room) ≡ Lowered n → Demand.NoReservedText (imageOf s) → Demand.NoBareLast (imageOf s) f → (k′ : ℕ) (args : Arguments) (budget : ℕ) → allHave (countsOf s) (given args) ≡ true → Demand.RunsAsRead s (take n (lowerOut room (lowerOf s k f room))) k′ f args budget
+first-half = Demand.first-half
 
-    -- otherwise the lowered body's run and the original's contract reading end alike, where no name in what is ensured begins with
-    -- `__ensure_ret_` and, where something is ensured, a bare last expression is the only statement
-    pub first-half : LoweredRuns.Premises (contractFunction (imageOf s) f) → (o : Ending) (n : ℕ) → runOf s k f args budget ≡ run.Ran o n → (o′ : Ending) × (n′ : ℕ) × (runOf (encode im′) k f args budget ≡ run.Ran o′ n′) × ((outcomeIn im′ o′, n′) ≡ readingIn (imageOf s) f (valuesOf (given args)) budget)
-    first-half = FirstHalf.first-half s k f room im′ bytes e args budget texts
+pub reported-callee : (s : List ℕ) (call : ℕ) → Demand.Reported s call → (f : ℕ) × (calleeOf (imageOf s) call ≡ some f)
+reported-callee = Demand.reported-callee
 
--- SECOND HALF (SecondHalf; SecondHalfExamples): a call that is reported has a callee, and whatever the budget is and the values that no
--- argument folds to are, it never passes the callee's entry checks. `Asked` as above
-module _ (s : List ℕ) (k call room n : ℕ) (some-reports : n ≡ 0 → ⊥) (e : proveOf s k call room ≡ Proved n) where
-  pub reported-callee : (f : ℕ) × (calleeOf (imageOf s) call ≡ some f)
-  reported-callee = SecondHalf.reported-callee s k call room n some-reports e
+pub second-half : (s : List ℕ) (call f : ℕ) → Demand.Reported s call → calleeOf (imageOf s) call ≡ some f → Demand.NoIdentifier (imageOf s) call → Demand.DistinctNames (imageOf s) f → Demand.NoAssignment (imageOf s) f → (vs : List (Value (List ℕ))) → Demand.ValuesFor (imageOf s) call f vs → (budget : ℕ) → Demand.PassesEntry (imageOf s) f vs budget → ⊥
+second-half = Demand.second-half
 
-  pub second-half : (f : ℕ) → calleeOf (imageOf s) call ≡ some f → (vs : List (Value (List ℕ))) → FoldsCalls.Asked (imageOf s) f (argumentsOf (imageOf s) call) vs → (budget : ℕ) (env : Env (List ℕ)) (left : ℕ) → entering (λ t. t) (contractFunction (imageOf s) f) vs [] budget ≡ got tt env left → ⊥
-  second-half = SecondHalf.second-half s k call room n some-reports e
+-- functions lowered one after another, each in the bytes that came of the one before (OneAfterAnother, which has the premises;
+-- OneAfterAnotherExample)
+module _ (s last : List ℕ) (fs : List ℕ) (bytes : AllBytes s) (in-turn : OneAfterAnother.LowersInTurn s fs last) (f k : ℕ) (args : Arguments) (budget : ℕ) (texts : allHave (countsOf s) (given args) ≡ true) where
+  pub in-turn-lowered : LoweredInTurn.NoneTwice fs → LoweredInTurn.Among f fs → OneAfterAnother.NoReservedEnsures (imageOf s) f → Demand.NoBareLast (imageOf s) f → Demand.RunsAsRead s last k f args budget
+  in-turn-lowered = OneAfterAnother.lowered-runs s last fs bytes in-turn f k args budget texts
+
+  pub in-turn-others : (LoweredInTurn.Among f fs → ⊥) → OneAfterAnother.RunsAsBefore s last k f args budget
+  in-turn-others = OneAfterAnother.others-run s last fs bytes in-turn f k args budget texts
 
 -- ---- the marked cases, and the printer's example (Marked has both lists, MarkedImages the images)
 

@@ -11,6 +11,7 @@ use Rattle.rl_spec.specs.Fold.{Binding, unaryValue, binaryValue, constEval}
 use Rattle.rl_spec.specs.Tree.{Expr, null, literal, identifier, unary, binary, grouping, assign, okLiteral, errLiteral, isErr, resultUnwrap, other}
 use Rattle.rl_spec.specs.Run.{nothing, folded, Value, plain, ok, err, Env, Outcome, stopped, returned, Result, got, ended, Run, andThen, _>>=_, _>>_, give, halt, orFault, tick, charge, truth, plainOf, errOf, unwrapped, operand, find, look, unaryOn, binaryOn, eval}
 use Rattle.rl_spec.specs.Reading.{Check, unless, violated, check, checks}
+use Rattle.rl_theorems.specs.Trees.NamesIn.{NamesIn}
 use Rattle.rl_theorems.specs.DemandThree.Folds.{Gives, given, dry, Agrees, folds-run}
 
 -- ---- runs that are over, and runs that keep the bindings
@@ -96,18 +97,7 @@ unwrappeds (err p) = halts _
 
 -- no assignment at any depth
 abbrev pub NoAssign : {T : Type 0} → Expr T → Type 0
-NoAssign null = Unit {0}
-NoAssign (literal v) = Unit {0}
-NoAssign (identifier x) = Unit {0}
-NoAssign (unary op e) = NoAssign e
-NoAssign (binary l op r) = NoAssign l × NoAssign r
-NoAssign (grouping e) = NoAssign e
-NoAssign (assign x e) = ⊥
-NoAssign (okLiteral e) = NoAssign e
-NoAssign (errLiteral e) = NoAssign e
-NoAssign (isErr e) = NoAssign e
-NoAssign (resultUnwrap e) = NoAssign e
-NoAssign other = Unit {0}
+NoAssign e = NamesIn (λ x. Unit {0}) (λ x. ⊥) e
 
 module _ {T : Type 0} (bytes : T → List ℕ) where
   looks : (x : T) → Still (look bytes x)
@@ -131,7 +121,7 @@ module _ {T : Type 0} (bytes : T → List ℕ) where
   evals-still (unary op e) h = then ticks (λ _. then (evals-still e h) (λ v. unaryOns op (operand v)))
   evals-still (binary l op r) h = then ticks (λ _. then (evals-still l (h .0)) (λ v. then (evals-still r (h .1)) (λ w. binaryOns op (operand v) (operand w))))
   evals-still (grouping e) h = then ticks (λ _. evals-still e h)
-  evals-still (assign x e) h = absurd h
+  evals-still (assign x e) h = absurd (h .0)
   evals-still (okLiteral e) h = then ticks (λ _. then (evals-still e h) (λ v. then (plainOfs v) (λ p. gives _)))
   evals-still (errLiteral e) h = then ticks (λ _. then (evals-still e h) (λ v. then (plainOfs v) (λ p. gives _)))
   evals-still (isErr e) h = then ticks (λ _. then (evals-still e h) (λ v. then (errOfs v) (λ b. gives _)))

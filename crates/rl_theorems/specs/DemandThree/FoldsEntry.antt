@@ -9,14 +9,15 @@ use Rattle.rl_spec.specs.declared.Violation.the-variants.{Refinement, Requires}
 use Rattle.rl_spec.specs.Values as value
 use Rattle.rl_spec.specs.Values.{ConstVal, RefineOp, gt, ge, lt, le, eq, ne, compareValues}
 use Rattle.rl_spec.specs.Fold.{Binding, boolean, binaryValue, binaryFolded, lookup, constEval}
-use Rattle.rl_spec.specs.Tree.{Expr, null, literal, identifier, unary, binary, grouping, assign, okLiteral, errLiteral, isErr, resultUnwrap, other}
+use Rattle.rl_spec.specs.Tree.{Expr}
 use Rattle.rl_spec.specs.Contracts.{RefineOperand, integer, str, bool, param, ParamRefinement, Param, ContractClause}
 use Rattle.rl_spec.specs.Prove.{isNo, isFalse, report, refineBound, refutes, failsAt, failedRefinements, failedRequires}
-use Rattle.rl_spec.specs.Mapped.{Text, mapExpr, mapOperand, mapRefinement, mapParam, mapClause}
+use Rattle.rl_spec.specs.Mapped.{Text, mapOperand, mapRefinement, mapParam, mapClause}
 use Rattle.rl_spec.specs.Functions.{operatorOf, operandNode, refinementCheck, checkFirst, refinementChecks, clauseCheck}
 use Rattle.rl_spec.specs.Reading.{Check}
 use Rattle.rl_theorems.specs.Runs.Texts.{same, mapMaybe}
 use Rattle.rl_theorems.specs.Runs.FoldsTexts.{mapNames, lookup-same, binary-folds, const-same}
+use Rattle.rl_theorems.specs.Trees.NamesIn.{names-mapped}
 use Rattle.rl_theorems.specs.DemandThree.FoldsChecks.{NoAssign, Fails, here, there}
 
 -- ---- reports
@@ -77,25 +78,13 @@ module _ {T : Type 0} (bytes : T → List ℕ) where
   Paired names (p ∷ ps) (a ∷ args) =
       ((u : ConstVal T) → constEval bytes names a ≡ some u → lookup bytes names (p .name) ≡ some u) × Paired names ps args
 
+abbrev pub AllOf : {A : Type 0} → (A → Type 0) → List A → Type 0
+AllOf P [] = Unit {0}
+AllOf P (a ∷ l) = P a × AllOf P l
+
 -- no assignment in any condition
 abbrev pub Clean : {T : Type 0} → List (ContractClause T) → Type 0
-Clean [] = Unit {0}
-Clean (c ∷ cs) = NoAssign (c .condition) × Clean cs
-
-pub mapped-clean : {A B : Type 0} (f : A → B) (e : Expr A) → NoAssign e → NoAssign (mapExpr f e)
-unfolding mapExpr
-mapped-clean f null h = tt
-mapped-clean f (literal v) h = tt
-mapped-clean f (identifier x) h = tt
-mapped-clean f (unary op e) h = mapped-clean f e h
-mapped-clean f (binary l op r) h = (mapped-clean f l (h .0), mapped-clean f r (h .1))
-mapped-clean f (grouping e) h = mapped-clean f e h
-mapped-clean f (assign x e) h = absurd h
-mapped-clean f (okLiteral e) h = mapped-clean f e h
-mapped-clean f (errLiteral e) h = mapped-clean f e h
-mapped-clean f (isErr e) h = mapped-clean f e h
-mapped-clean f (resultUnwrap e) h = mapped-clean f e h
-mapped-clean f other h = tt
+Clean cs = AllOf (λ c. NoAssign (c .condition)) cs
 
 -- f gives the bytes of a text
 module _ (f : ℕ → Text) (names : List (Binding ℕ)) where
@@ -150,7 +139,7 @@ module _ (f : ℕ → Text) (names : List (Binding ℕ)) where
   requires-fail d n (c ∷ cs) h z =
       reported (isFalse (constEval f names (c .condition))) (Requires n) (failedRequires f names (n + 1) cs)
       (λ e. here (const-same f f same (λ t. refl) names (c .condition) ∙ ap (mapMaybe f) (false-value (constEval f names (c .condition)) e)))
-      (λ y. there (mapped-clean f (c .condition) (h .0)) (requires-fail d (n + 1) cs (h .1) y)) z
+      (λ y. there (names-mapped f _ _ (c .condition) (h .0)) (requires-fail d (n + 1) cs (h .1) y)) z
 
   -- ---- both
 

@@ -17,29 +17,18 @@ use Rattle.rl_spec.specs.Mapped.{mapConst, Text}
 use Rattle.rl_spec.specs.Run.{Value, named, Env, Outcome, fault, Result, got, ended, Run, andThen, folds, find}
 use Rattle.rl_spec.specs.Reading.{bindAll}
 use Rattle.rl_theorems.specs.Runs.Texts.{same, mapMaybe}
+use Rattle.rl_theorems.specs.Trees.NamesIn.{NamesIn}
 use Rattle.rl_theorems.specs.Lowering.LowerFrame.{same-refl, same-eq}
 use Rattle.rl_theorems.specs.DemandThree.Folds.{Agrees, none≢some}
 use Rattle.rl_theorems.specs.Runs.FoldsTexts.{mapNames, lookup-same}
-use Rattle.rl_theorems.specs.DemandThree.FoldsEntry.{Paired}
+use Rattle.rl_theorems.specs.DemandThree.FoldsEntry.{AllOf, Paired}
 
 -- no identifier at any depth
 abbrev pub NoNames : {T : Type 0} → Expr T → Type 0
-NoNames null = Unit {0}
-NoNames (literal v) = Unit {0}
-NoNames (identifier x) = ⊥
-NoNames (unary op e) = NoNames e
-NoNames (binary l op r) = NoNames l × NoNames r
-NoNames (grouping e) = NoNames e
-NoNames (assign x e) = NoNames e
-NoNames (okLiteral e) = NoNames e
-NoNames (errLiteral e) = NoNames e
-NoNames (isErr e) = NoNames e
-NoNames (resultUnwrap e) = NoNames e
-NoNames other = Unit {0}
+NoNames e = NamesIn (λ x. ⊥) (λ x. Unit {0}) e
 
 abbrev pub AllNoNames : {T : Type 0} → List (Expr T) → Type 0
-AllNoNames [] = Unit {0}
-AllNoNames (a ∷ args) = NoNames a × AllNoNames args
+AllNoNames args = AllOf NoNames args
 
 -- without identifiers the names do not matter
 pub const-closed : {T : Type 0} (bytes : T → List ℕ) (names names′ : List (Binding T)) (e : Expr T) → NoNames e → constEval bytes names e ≡ constEval bytes names′ e

@@ -1,64 +1,84 @@
--- The calls open(0) and open(5000) of the printer's example never pass their callee's entry checks: what SecondHalf asks can be met. And
--- for each thing that it asks, a call that lacks it, has the rest, is reported, and passes; by computation.
+-- What stands at any depth in an expression; a call whose second value is free, which never passes its callee's entry checks; and for
+-- each premise of the second half of demand 3 a call that lacks it, meets the others, is reported, and passes. By computation.
 -- Assumes nothing.
-use Prim.Native.Nat.{ℕ}
+use Prim.Native.Nat.{ℕ, zero, suc, _<_}
 use mathlib.Core.Path.{_≡_, refl, ap}
+use mathlib.Core.Bool.{true}
 use mathlib.Core.List.{List, [], _∷_}
-use mathlib.Core.Option.{Option, none, some}
 use native.Mathlib.Omega.{arith}
+use lib.Dec.{lit<}
 use lib.IntN.{pos}
-use Rattle.rl_spec.specs.declared.ProveAnswer.the-variants.{Proved}
-use Rattle.rl_spec.specs.Image.{Image, num, pair, textOf, encode, imageOf}
+use lib.ListN.{getD}
+use Rattle.rl_spec.specs.Image.{Image, num, pair, encode, imageOf}
 use Rattle.rl_spec.specs.Values as value
-use Rattle.rl_spec.specs.Values.{ConstVal}
 use Rattle.rl_spec.specs.Tree.{ascii}
-use Rattle.rl_spec.specs.Contracts.{contractsOf, argumentsOf}
+use Rattle.rl_spec.specs.Records.{functionAt, callAt}
 use Rattle.rl_spec.specs.Prove.{proveOf}
-use Rattle.rl_spec.specs.Mapped.{mapConst, mapExpr, Text}
+use Rattle.rl_spec.specs.Mapped.{mapExpr, Text}
 use Rattle.rl_spec.specs.Functions.{refinementChecks, contractFunction}
-use Rattle.rl_spec.specs.Run.{nothing, Value, plain, named, Env, Result, got, folds, find, update, eval}
-use Rattle.rl_spec.specs.Reading.{checks, entering}
+use Rattle.rl_spec.specs.Run.{nothing, Value, plain, named, folds, find, update, eval}
+use Rattle.rl_spec.specs.Reading.{checks}
+use Rattle.rl_images.specs.Images.SchemaSorts.{all, all-at}
+use Rattle.rl_examples.specs.MarkedImages.{made, integer, identifier, binary, grouping, parameter, refined, clause, function, call, build, named-behind, flow}
 use Rattle.rl_theorems.specs.DemandThree.Folds.{none≢some}
-use Rattle.rl_theorems.specs.DemandThree.FoldsEntry.{Clean}
-use Rattle.rl_theorems.specs.DemandThree.FoldsNames.{AllNoNames, Distinct, Values}
-use Rattle.rl_theorems.specs.DemandThree.FoldsCalls.{Asked}
-use Rattle.rl_examples.specs.MarkedImages.{made, integer, identifier, binary, parameter, refined, clause, function, call, build, named-behind, flow}
+use Rattle.rl_theorems.specs.DemandThree.DepthTests.{passes, throughout, isNot, FoldsTo, folds-to}
 use Rattle.rl_theorems.specs.DemandThree.Marked.{decoding, folding, proving}
-use Rattle.rl_theorems.specs.DemandThree.SecondHalf.{second-half}
+use Rattle.rl_theorems.specs.DemandThree.Demand.{one, entry, StandsIn, itself, deeper, NoneIn, argument, parameterName, NoIdentifier, DistinctNames, NoAssignment, ValuesFor, PassesEntry, Reported, proved, second-half, none-in, no-identifier, distinct-names, no-assignment}
 
 abbrev int : ℕ → Value Text
 int n = folds (value.int (pos n))
 
--- one report, with the shortest slices
-abbrev Reported : Image → ℕ → Type 0
-Reported im call = proveOf (encode im) 8192 call 4 ≡ Proved 1
+-- what the bytes of an image stand for
+abbrev of : Image → Image
+of im = imageOf (encode im)
 
--- function 0 with these values
-abbrev entry : Image → List (Value Text) → ℕ → Result Text (Unit {0})
-entry im vs budget = entering (λ t. t) (contractFunction im 0) vs [] budget
+-- ---- the premises by search, of calls with up to two arguments
 
--- ---- the printer's example
+arguments-by : (im : Image) (call : ℕ) → all (λ j. throughout im (isNot 30) (argument im call j)) 0 (callAt im call .args .count) ≡ true →
+    NoIdentifier im call
+arguments-by im call h j l =
+    none-in im 30 (argument im call j)
+    (all-at (λ j. throughout im (isNot 30) (argument im call j)) (callAt im call .args .count) 0 j h (omega arith) (omega (arith, l)))
 
-abbrev valued : Image → Option (ConstVal ℕ) → Value Text
-valued im none = plain nothing
-valued im (some w) = folds (mapConst (textOf im) w)
+-- two parameters
+names-by : (im : Image) (f : ℕ) → functionAt im f .params .count ≡ 2 → (parameterName im f 0 ≡ parameterName im f 1 → ⊥) → DistinctNames im f
+names-by im f n h i j l m e =
+    let a : i ≡ 0 = omega (arith, n, m) in
+    let b : j ≡ 1 = omega (arith, n, m) in
+    h (rw (a, b) at e)
 
-asked-0 : Asked (imageOf (encode flow)) 0 (argumentsOf (imageOf (encode flow)) 0) (int 0 ∷ [])
-unfolding decoding folding proving
-asked-0 = record { distinct = (tt, tt); closed = (tt, tt); clean = ((tt, tt), tt); values = (λ w e. ap (valued flow) e, tt) }
+values-by : (im : Image) (call : ℕ) (v w : Value Text) → FoldsTo im (argument im call 0) v → FoldsTo im (argument im call 1) w →
+    (j : ℕ) → j < 2 → FoldsTo im (argument im call j) (getD (v ∷ w ∷ []) j (plain nothing))
+values-by im call v w p q zero l = p
+values-by im call v w p q (suc zero) l = q
+values-by im call v w p q (suc (suc j)) l = absurd (omega (arith, l))
 
-asked-5000 : Asked (imageOf (encode flow)) 0 (argumentsOf (imageOf (encode flow)) 1) (int 5000 ∷ [])
-unfolding decoding folding proving
-asked-5000 = record { distinct = (tt, tt); closed = (tt, tt); clean = ((tt, tt), tt); values = (λ w e. ap (valued flow) e, tt) }
+-- ---- what stands at any depth: of a list of fields the values and not the names, of a method call not the method
 
--- a refinement, and a requires
-pub open-0 : (budget : ℕ) (env : Env Text) (left : ℕ) → entry (imageOf (encode flow)) (int 0 ∷ []) budget ≡ got tt env left → ⊥
-unfolding decoding folding proving proveOf
-open-0 = second-half (encode flow) 8192 0 4 1 (λ e. omega arith) refl 0 refl (int 0 ∷ []) asked-0
+abbrev nested : Image
+nested =
+    build
+    record {
+      texts = "S" ∷ "x" ∷ [];
+      lists = 0 ∷ 1 ∷ 0 ∷ [];
+      -- x, 1, S { S: 1 }, S { x: x }, (1).S(), and the fourth in a Grouping
+      expressions =
+          identifier 1 ∷ integer (pos 1) ∷ made 52 (num 2 ∷ num 0 ∷ pair 0 2 ∷ []) ∷ made 52 (num 2 ∷ num 0 ∷ pair 1 2 ∷ [])
+          ∷ made 43 (num 2 ∷ num 1 ∷ pair 0 1 ∷ pair 3 0 ∷ []) ∷ grouping 3 ∷ [];
+      statements = [];
+      parameters = [];
+      clauses = [];
+      functions = [];
+      calls = [];
+    }
 
-pub open-5000 : (budget : ℕ) (env : Env Text) (left : ℕ) → entry (imageOf (encode flow)) (int 5000 ∷ []) budget ≡ got tt env left → ⊥
-unfolding decoding folding proving proveOf
-open-5000 = second-half (encode flow) 8192 1 4 1 (λ e. omega arith) refl 0 refl (int 5000 ∷ []) asked-5000
+pub names-apart : NoneIn (of nested) 30 2 × NoneIn (of nested) 30 4
+unfolding decoding folding passes throughout
+names-apart = (none-in (of nested) 30 2 refl, none-in (of nested) 30 4 refl)
+
+pub value-inside : StandsIn (of nested) 0 5
+unfolding decoding
+value-inside = deeper (one 1 refl) (deeper (entry 2 1 refl refl (lit< tt)) itself)
 
 -- ---- f(1), parameters a > 5 and b: the value of b is free
 
@@ -76,20 +96,26 @@ short =
       calls = call 0 10 (pair 0 1) ∷ [];
     }
 
-asked-short : (v : Value Text) → Asked (imageOf (encode short)) 0 (argumentsOf (imageOf (encode short)) 0) (int 1 ∷ v ∷ [])
+short-values : (v : Value Text) → ValuesFor (of short) 0 0 (int 1 ∷ v ∷ [])
 unfolding decoding folding proving
-asked-short v = record { distinct = ((refl, tt), (tt, tt)); closed = (tt, tt); clean = tt; values = (λ w e. ap (valued short) e, tt) }
+short-values v =
+    record { many = refl; folded = λ j l m. let z : j ≡ 0 = omega (arith, m) in rw z (folds-to (of short) 0 (value.int (pos 1)) refl) }
 
-pub short-never : (v : Value Text) (budget : ℕ) (env : Env Text) (left : ℕ) →
-    entry (imageOf (encode short)) (int 1 ∷ v ∷ []) budget ≡ got tt env left → ⊥
-unfolding decoding folding proving proveOf
-short-never v = second-half (encode short) 8192 0 4 1 (λ e. omega arith) refl 0 refl (int 1 ∷ v ∷ []) (asked-short v)
+pub short-never : (v : Value Text) (budget : ℕ) → PassesEntry (of short) 0 (int 1 ∷ v ∷ []) budget → ⊥
+unfolding decoding folding proving proveOf passes throughout
+short-never v =
+    second-half (encode short) 0 0 (proved 8192 4 1 refl (λ e. omega arith)) refl (arguments-by (of short) 0 refl)
+    (names-by (of short) 0 refl (λ e. omega (arith, ap (λ t. getD t 0 0) e))) (λ j l. absurd (omega (arith, l))) (int 1 ∷ v ∷ []) (short-values v)
 
 -- ---- NEEDED
 
 checking : Unit {0}
-unfolding decoding folding proving proveOf mapExpr refinementChecks contractFunction find update eval checks
+unfolding decoding folding proving proveOf mapExpr refinementChecks contractFunction find update eval checks passes throughout
 checking = tt
+
+-- one report, with the shortest slices; and the entry checks are passed
+abbrev ReportedAndPasses : Image → List (Value Text) → ℕ → Type 0
+ReportedAndPasses im vs budget = Reported (encode im) 0 × PassesEntry (of im) 0 vs budget
 
 -- the parameters' names differ: f(1, 10), parameters a > 5 and a. The check finds the second
 abbrev twice : Image
@@ -106,26 +132,38 @@ twice =
       calls = call 0 10 (pair 0 2) ∷ [];
     }
 
-pub distinct-needed : Reported twice 0
-    × (entry twice (int 1 ∷ int 10 ∷ []) 5 ≡ got tt (named (ascii "a") (int 10) ∷ named (ascii "a") (int 1) ∷ []) 0)
+pub distinct-needed : ReportedAndPasses twice (int 1 ∷ int 10 ∷ []) 5
 unfolding checking
-distinct-needed = (refl, refl)
+distinct-needed = (proved 8192 4 1 refl (λ e. omega arith), (named (ascii "a") (int 10) ∷ named (ascii "a") (int 1) ∷ [], 0, refl))
 
-twice-rest : AllNoNames (argumentsOf twice 0) × Clean (contractsOf twice 0 .requires)
-    × Values (textOf twice) (contractsOf twice 0 .params) (argumentsOf twice 0) (int 1 ∷ int 10 ∷ [])
+twice-rest : NoIdentifier (of twice) 0 × NoAssignment (of twice) 0 × ValuesFor (of twice) 0 0 (int 1 ∷ int 10 ∷ [])
 unfolding checking
-twice-rest = ((tt, (tt, tt)), tt, (λ w e. ap (valued twice) e, (λ w e. ap (valued twice) e, tt)))
+twice-rest = (
+  arguments-by (of twice) 0 refl,
+  λ j l. absurd (omega (arith, l)),
+  record {
+    many = refl;
+    folded = λ j l m.
+        values-by (of twice) 0 _ _ (folds-to (of twice) 0 (value.int (pos 1)) refl) (folds-to (of twice) 1 (value.int (pos 10)) refl) j l;
+  },
+)
 
 -- no identifier in the arguments: marked case 13. The value of the first is free
-pub closed-needed : Reported named-behind 0
-    × (entry named-behind (int 10 ∷ int 5 ∷ []) 5 ≡ got tt (named (ascii "y") (int 5) ∷ named (ascii "x") (int 10) ∷ []) 0)
+pub closed-needed : ReportedAndPasses named-behind (int 10 ∷ int 5 ∷ []) 5
 unfolding checking
-closed-needed = (refl, refl)
+closed-needed = (proved 8192 4 1 refl (λ e. omega arith), (named (ascii "y") (int 5) ∷ named (ascii "x") (int 10) ∷ [], 0, refl))
 
-behind-rest : Distinct (textOf named-behind) (contractsOf named-behind 0 .params) × Clean (contractsOf named-behind 0 .requires)
-    × Values (textOf named-behind) (contractsOf named-behind 0 .params) (argumentsOf named-behind 0) (int 10 ∷ int 5 ∷ [])
+behind-rest : DistinctNames (of named-behind) 0 × NoAssignment (of named-behind) 0 × ValuesFor (of named-behind) 0 0 (int 10 ∷ int 5 ∷ [])
 unfolding checking
-behind-rest = (((refl, tt), (tt, tt)), tt, (λ w e. absurd (none≢some e), (λ w e. ap (valued named-behind) e, tt)))
+behind-rest = (
+  names-by (of named-behind) 0 refl (λ e. omega (arith, ap (λ t. getD t 0 0) e)),
+  λ j l. absurd (omega (arith, l)),
+  record {
+    many = refl;
+    folded = λ j l m.
+        values-by (of named-behind) 0 _ _ (λ w e. absurd (none≢some e)) (folds-to (of named-behind) 1 (value.int (pos 5)) refl) j l;
+  },
+)
 
 -- no assignment in the conditions: f(1), parameter p, requires (p = 10) > 5 and p > 5
 abbrev assigning : Image
@@ -144,20 +182,26 @@ assigning =
       calls = call 0 10 (pair 0 1) ∷ [];
     }
 
-pub clean-needed : Reported assigning 0 × (entry assigning (int 1 ∷ []) 11 ≡ got tt (named (ascii "p") (int 10) ∷ []) 0)
+pub clean-needed : ReportedAndPasses assigning (int 1 ∷ []) 11
 unfolding checking
-clean-needed = (refl, refl)
+clean-needed = (proved 8192 4 1 refl (λ e. omega arith), (named (ascii "p") (int 10) ∷ [], 0, refl))
 
-assigning-rest : Distinct (textOf assigning) (contractsOf assigning 0 .params) × AllNoNames (argumentsOf assigning 0)
-    × Values (textOf assigning) (contractsOf assigning 0 .params) (argumentsOf assigning 0) (int 1 ∷ [])
+assigning-rest : NoIdentifier (of assigning) 0 × DistinctNames (of assigning) 0 × ValuesFor (of assigning) 0 0 (int 1 ∷ [])
 unfolding checking
-assigning-rest = ((tt, tt), (tt, tt), (λ w e. ap (valued assigning) e, tt))
+assigning-rest = (
+  arguments-by (of assigning) 0 refl,
+  λ i j l m. absurd (omega (arith, m)),
+  record {
+    many = refl;
+    folded = λ j l m. let z : j ≡ 0 = omega (arith, l) in rw z (folds-to (of assigning) 0 (value.int (pos 1)) refl);
+  },
+)
 
 -- the value that the argument folds to: open(0), with 7
-pub values-needed : Reported flow 0 × (entry flow (int 7 ∷ []) 10 ≡ got tt (named (ascii "flow") (int 7) ∷ []) 0)
+pub values-needed : ReportedAndPasses flow (int 7 ∷ []) 10
 unfolding checking
-values-needed = (refl, refl)
+values-needed = (proved 8192 4 1 refl (λ e. omega arith), (named (ascii "flow") (int 7) ∷ [], 0, refl))
 
-flow-rest : Distinct (textOf flow) (contractsOf flow 0 .params) × AllNoNames (argumentsOf flow 0) × Clean (contractsOf flow 0 .requires)
+flow-rest : NoIdentifier (of flow) 0 × DistinctNames (of flow) 0 × NoAssignment (of flow) 0
 unfolding checking
-flow-rest = ((tt, tt), (tt, tt), ((tt, tt), tt))
+flow-rest = (no-identifier 0 refl refl, distinct-names, no-assignment)

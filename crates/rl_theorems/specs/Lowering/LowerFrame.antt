@@ -13,6 +13,7 @@ use Rattle.rl_spec.specs.Tree.{Expr, null, literal, identifier, unary, binary, 
 use Rattle.rl_spec.specs.Mapped.{Text}
 use Rattle.rl_spec.specs.Run.{nothing, folded, Value, plain, ok, err, named, hidden, Env, Outcome, Result, got, ended, Run, andThen, _>>=_, give, halt, orFault, tick, charge, truth, plainOf, errOf, unwrapped, operand, find, behind, update, look, store, unaryOn, binaryOn, eval}
 use Rattle.rl_spec.specs.Reading.{Check, unless, violated, check, checks}
+use Rattle.rl_theorems.specs.Trees.NamesIn.{NamesIn}
 use Rattle.rl_theorems.specs.Lowering.LowerTrees.{reserved}
 use Rattle.rl_theorems.specs.Lowering.LowerGuard.{own}
 
@@ -69,19 +70,8 @@ apart′ t x q p = differs (sameText x t) (λ e. true≢false (sym q ∙ ap (beg
 
 -- ---- the premise: no name is reserved, whether it is looked up or assigned
 
-unfoldable pub Clean : Expr Text → Type 0
-Clean null = Unit {0}
-Clean (literal l) = Unit {0}
-Clean (identifier x) = Free x
-Clean (unary op e) = Clean e
-Clean (binary a op b) = Clean a × Clean b
-Clean (grouping e) = Clean e
-Clean (assign x e) = Free x × Clean e
-Clean (okLiteral e) = Clean e
-Clean (errLiteral e) = Clean e
-Clean (isErr e) = Clean e
-Clean (resultUnwrap e) = Clean e
-Clean other = Unit {0}
+abbrev pub Clean : Expr Text → Type 0
+Clean e = NamesIn Free Free e
 
 unfoldable pub CleanChecks : List (Check Text) → Type 0
 CleanChecks [] = Unit {0}
@@ -215,7 +205,7 @@ module _ (t : Text) (v : Value Text) (isReserved : begins reserved t ≡ true) w
   blind-binaryOn op (some w) (some z) = blind-then (blind-orFault 4 (binaryValue own op w z)) (λ y. blind-give _)
 
   blind-eval : (e : Expr Text) → Clean e → Blind (eval own e)
-  unfolding eval Clean
+  unfolding eval
   blind-eval null c = blind-then blind-tick (λ _. blind-give _)
   blind-eval (literal l) c = blind-then blind-tick (λ _. blind-then (blind-orFault 4 l) (λ p. blind-give _))
   blind-eval (identifier x) c = blind-then blind-tick (λ _. blind-look x c)

@@ -1,8 +1,8 @@
--- Arguments of a function of the original are arguments of the lowered one: their texts are there and have the same bytes, and the
--- parameters are as many.
+-- Arguments of a function are arguments of it in an image that keeps the texts and the functions' parameters, as one made by lowering
+-- does: their texts are there and have the same bytes, and the parameters are as many.
 -- Assumes nothing.
-use Prim.Native.Nat.{ℕ, _<_}
-use mathlib.Core.Path.{_≡_, refl, ap, ap₂, _∙_}
+use Prim.Native.Nat.{ℕ, _≤_, _<_}
+use mathlib.Core.Path.{_≡_, refl, ap, ap₂, sym, _∙_, subst}
 use mathlib.Core.Bool.{Bool, true, _&&_}
 use mathlib.Core.List.{List, [], _∷_, map}
 use native.Mathlib.Omega.{arith}
@@ -10,6 +10,7 @@ use lib.Dec.{ltb}
 use lib.ListN.{getD, set, length-set}
 use lib.Seq.{getD-set-same, getD-set-other}
 use borrow.Author.Tests.{ltb-true, lt-ltb}
+use Rattle.rl_laws.specs.Tests.{by-eqb}
 use Rattle.rl_spec.specs.declared.Argument.{Argument}
 use Rattle.rl_spec.specs.declared.ConstVal.{ConstVal}
 use Rattle.rl_spec.specs.declared.ConstVal.the-variants.{Int, Float, Str, Bool as Truth}
@@ -19,7 +20,7 @@ use Rattle.rl_spec.specs.declared.Plain.the-variants.{Null, Const}
 use Rattle.rl_spec.specs.declared.Section.the-variants.{Texts, Functions}
 use Rattle.rl_spec.specs.declared.Value.{Value}
 use Rattle.rl_spec.specs.declared.Value.the-variants.{Plain as Bare, Ok, Err}
-use Rattle.rl_spec.specs.Image.{Field, Rec, Image, noField, noRecord, recordsOf, sizeOf, recordOf, textOf, WellFormed}
+use Rattle.rl_spec.specs.Image.{Rec, Image, noField, noRecord, recordsOf, sizeOf, recordOf, textOf, WellFormed}
 use Rattle.rl_spec.specs.Values as value
 use Rattle.rl_spec.specs.Folded.{constOf}
 use Rattle.rl_spec.specs.Records.{functionAt}
@@ -32,14 +33,61 @@ use Rattle.rl_theorems.specs.Trees.DenotingExpressions.{text-says}
 use Rattle.rl_images.specs.Lowering.Followed.{Followed}
 use Rattle.rl_images.specs.Images.SchemaSorts.{and-left, and-right}
 
--- ---- its texts are the lowered image's
+-- the texts are there as they were, and the functions with their parameters
+pub record Keeps (im im′ : Image) : Type 0 where
+  pub more : sizeOf im Texts ≤ sizeOf im′ Texts
+  pub texts : (t : ℕ) → t < sizeOf im Texts → textOf im′ t ≡ textOf im t
+  pub functions : sizeOf im′ Functions ≡ sizeOf im Functions
+  pub params : (f : ℕ) → f < sizeOf im Functions → functionAt im′ f .params ≡ functionAt im f .params
 
-module _ (im im′ : Image) (f : ℕ) (wf : WellFormed im) (to : Followed im f im′) (c c′ : Counts) (here : sizeOf im Texts ≡ c .texts)
-    (there : sizeOf im′ Texts ≡ c′ .texts) where
+pub keeps-all : (im : Image) → Keeps im im
+keeps-all im = record { more = omega arith; texts = λ t l. refl; functions = refl; params = λ f l. refl }
+
+pub keeps-then : {a b c : Image} → Keeps a b → Keeps b c → Keeps a c
+keeps-then p q =
+    record {
+      more = omega (arith, p .more, q .more);
+      texts = λ t l. q .texts t (omega (arith, p .more)) ∙ p .texts t l;
+      functions = q .functions ∙ p .functions;
+      params = λ f l. q .params f (omega (arith, p .functions)) ∙ p .params f l;
+    }
+
+-- ---- lowering keeps them
+
+module _ (im im′ : Image) (f : ℕ) (wf : WellFormed im) (to : Followed im f im′) where
+  abbrev changed : Rec
+  changed = bodied (recordOf im Functions f) (to .functions .0)
+
+  record-of : (g : ℕ) → recordOf im′ Functions g ≡ getD (set (recordsOf im Functions) f changed) g noRecord
+  record-of g = ap (λ (rs : List Rec). getD rs g noRecord) (to .functions .1)
+
+  own-params : f < sizeOf im Functions → functionAt im′ f .params ≡ functionAt im f .params
+  unfolding functionAt
+  own-params l =
+      let r : Rec = recordOf im Functions f in
+      let d : recordOf im′ Functions f ≡ changed = record-of f ∙ getD-set-same (recordsOf im Functions) f changed noRecord l in
+      let p : getD (set (r .fields) 4 (to .functions .0)) 2 noField ≡ getD (r .fields) 2 noField =
+      getD-set-other (r .fields) 4 2 (to .functions .0) noField (λ e. omega arith) in
+      rw (d, p) refl
+
+  other-params : (g : ℕ) → (g ≡ f → ⊥) → functionAt im′ g .params ≡ functionAt im g .params
+  unfolding functionAt
+  other-params g n = rw (record-of g, getD-set-other (recordsOf im Functions) f g changed noRecord n) refl
+
+  pub followed-keeps : Keeps im im′
+  followed-keeps =
+      record {
+        more = longer-length (to .texts);
+        texts = λ t l. text-stays im im′ (to .bytes) (to .texts) t l (text-says im wf t l .part);
+        functions = rw (to .functions .1) (length-set (recordsOf im Functions) f changed);
+        params = λ g l. by-eqb g f (λ e. subst (λ h. functionAt im′ h .params ≡ functionAt im h .params) (sym e) (own-params (omega (arith, e)))) (other-params g);
+      }
+
+-- ---- the arguments' texts
+
+module _ (im im′ : Image) (to : Keeps im im′) (c c′ : Counts) (here : sizeOf im Texts ≡ c .texts) (there : sizeOf im′ Texts ≡ c′ .texts) where
   text-same : (t : ℕ) → ltb t (c .texts) ≡ true → textOf im′ t ≡ textOf im t
-  text-same t h =
-      let l : t < sizeOf im Texts = omega (arith, ltb-true t (c .texts) h) in
-      text-stays im im′ (to .bytes) (to .texts) t l (text-says im wf t l .part)
+  text-same t h = to .texts t (omega (arith, ltb-true t (c .texts) h))
 
   const-same : (v : ConstVal) → constHas c v ≡ true → mapConst (textOf im′) (constOf v) ≡ mapConst (textOf im) (constOf v)
   const-same (Int x) h = refl
@@ -69,7 +117,7 @@ module _ (im im′ : Image) (f : ℕ) (wf : WellFormed im) (to : Followed im f i
   const-has : (v : ConstVal) → constHas c v ≡ true → constHas c′ v ≡ true
   const-has (Int x) h = refl
   const-has (Float x) h = refl
-  const-has (Str t) h = lt-ltb t (c′ .texts) (omega (arith, ltb-true t (c .texts) h, longer-length (to .texts)))
+  const-has (Str t) h = lt-ltb t (c′ .texts) (omega (arith, ltb-true t (c .texts) h, to .more))
   const-has (Truth b) h = refl
 
   plain-has : (p : Plain) → plainHas c p ≡ true → plainHas c′ p ≡ true
@@ -88,20 +136,3 @@ module _ (im im′ : Image) (f : ℕ) (wf : WellFormed im) (to : Followed im f i
       let has : Bool = valueHas c (a .value) in
       let have : Bool = allHave c vs in
       ap₂ _&&_ (value-has (a .value) (and-left has have h)) (values-have vs (and-right has have h))
-
--- ---- its functions
-
-pub params-same : (im im′ : Image) (f : ℕ) → f < sizeOf im Functions → Followed im f im′ → functionAt im′ f .params ≡ functionAt im f .params
-unfolding functionAt
-params-same im im′ f l to =
-    let r : Rec = recordOf im Functions f in
-    let list : Field = to .functions .0 in
-    let d : recordOf im′ Functions f ≡ bodied r list =
-    ap (λ (rs : List Rec). getD rs f noRecord) (to .functions .1) ∙ getD-set-same (recordsOf im Functions) f (bodied r list) noRecord l in
-    let p : getD (set (r .fields) 4 list) 2 noField ≡ getD (r .fields) 2 noField =
-    getD-set-other (r .fields) 4 2 list noField (λ e. omega arith) in
-    rw (d, p) refl
-
-pub functions-same : (im im′ : Image) (f : ℕ) → Followed im f im′ → sizeOf im′ Functions ≡ sizeOf im Functions
-functions-same im im′ f to =
-    rw (to .functions .1) (length-set (recordsOf im Functions) f (bodied (recordOf im Functions f) (to .functions .0)))

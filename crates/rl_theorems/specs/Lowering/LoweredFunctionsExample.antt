@@ -15,7 +15,7 @@ use Rattle.rl_spec.specs.Lower.{lowered}
 use Rattle.rl_theorems.specs.Reading.EncodedAnswers.{well-formed-by}
 use Rattle.rl_examples.specs.LowerExamples.{returns-ok, lowering, decoding, running}
 use Rattle.rl_theorems.specs.Lowering.LowerBodies.{Ensured}
-use Rattle.rl_theorems.specs.Lowering.LowerFrame.{Clean, begins, CleanChecks}
+use Rattle.rl_theorems.specs.Lowering.LowerFrame.{begins, CleanChecks}
 use Rattle.rl_theorems.specs.Lowering.LoweredFunctions.{lowered-reads}
 
 original : WellFormed returns-ok
@@ -27,7 +27,7 @@ unfolding lowering running
 only = tt
 
 clean : CleanChecks (contractFunction returns-ok 0 .ensures)
-unfolding lowering running CleanChecks Clean begins
+unfolding lowering running CleanChecks begins
 clean = (refl, tt, tt)
 
 -- what it is lowered to, LowerExamples' case11-whole, runs as the function is read

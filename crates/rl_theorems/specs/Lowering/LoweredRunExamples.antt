@@ -17,7 +17,7 @@ use Rattle.rl_spec.specs.Mapped.{Text}
 use Rattle.rl_spec.specs.Run.{Plain, folded, Value, plain, ok, err, folds, Outcome, returned, stopped, fault, spent, used, find, update, eval}
 use Rattle.rl_spec.specs.Reading.{Check, Function, checks, turns, stmt, body, top, runFunction, reading}
 use Rattle.rl_theorems.specs.Lowering.LowerTrees.{_⧺_, guards, transformStmt, trailing, withoutLast, lowered}
-use Rattle.rl_theorems.specs.Lowering.LowerFrame.{begins, Clean, CleanChecks}
+use Rattle.rl_theorems.specs.Lowering.LowerFrame.{begins, CleanChecks}
 use Rattle.rl_theorems.specs.Lowering.LowerBodies.{Ensured}
 use Rattle.rl_theorems.specs.Lowering.LoweredRuns.{Premises}
 
@@ -90,11 +90,11 @@ resultOne =
     }
 
 pub plain-meets : Premises plainOne
-unfolding CleanChecks Clean begins ascii
+unfolding CleanChecks begins ascii
 plain-meets = record { ensures = ((refl, tt), tt, tt); last = refl }
 
 pub result-meets : Premises resultOne
-unfolding CleanChecks Clean begins ascii
+unfolding CleanChecks begins ascii
 result-meets = record { ensures = ((refl, tt), tt, tt); last = tt }
 
 -- ---- what lowering makes of them
@@ -149,15 +149,15 @@ after =
     }
 
 pub looking-fails : Premises looking → ⊥
-unfolding CleanChecks Clean begins ascii
+unfolding CleanChecks begins ascii
 looking-fails p = true≢false (p .ensures .0 .0)
 
 pub telling-fails : Premises telling → ⊥
-unfolding CleanChecks Clean begins ascii
+unfolding CleanChecks begins ascii
 telling-fails p = true≢false (p .ensures .1)
 
 pub changing-fails : Premises changing → ⊥
-unfolding CleanChecks Clean begins ascii
+unfolding CleanChecks begins ascii
 changing-fails p = true≢false (p .ensures .0 .0 .0)
 
 abbrev given : Option (Expr Text) → Bool
@@ -172,7 +172,7 @@ pub five-last : (c : Check Text) → Ensured (five c .ensures) (five c .body)
 five-last c = tt
 
 pub after-ensures : CleanChecks (after .ensures)
-unfolding CleanChecks Clean
+unfolding CleanChecks
 after-ensures = (tt, tt, tt)
 
 -- ---- the list: the run of the lowered function, and the reading
