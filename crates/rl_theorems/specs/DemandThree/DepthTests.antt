@@ -94,11 +94,11 @@ module _ (im : Image) (ok : Rec → Bool) where
   step i deeper = ok (recordOf im Expressions i) && passes im deeper (recordOf im Expressions i)
 
   unfoldable pub throughout : ℕ → Bool
-  throughout = descend false step
+  throughout = descend (λ _. false) step
 
-  parts : (i : ℕ) → throughout i ≡ true → step i (below i false throughout) ≡ true
+  parts : (i : ℕ) → throughout i ≡ true → step i (below i (λ _. false) throughout) ≡ true
   unfolding throughout
-  parts i h = sym (descend-is false step i) ∙ h
+  parts i h = sym (descend-is (λ _. false) step i) ∙ h
 
   pub ok-itself : (i : ℕ) → throughout i ≡ true → ok (recordOf im Expressions i) ≡ true
   ok-itself i h = and-left (ok (recordOf im Expressions i)) _ (parts i h)
@@ -111,7 +111,7 @@ module _ (im : Image) (ok : Rec → Bool) where
   pub throughout-named : (i j : ℕ) → throughout i ≡ true →
       ((test : ℕ → Bool) → passes im test (recordOf im Expressions i) ≡ true → test j ≡ true) → throughout j ≡ true
   throughout-named i j h x =
-      earlier j (ltb j i) (x (below i false throughout) (and-right (ok (recordOf im Expressions i)) _ (parts i h)))
+      earlier j (ltb j i) (x (below i (λ _. false) throughout) (and-right (ok (recordOf im Expressions i)) _ (parts i h)))
 
 abbrev pub isNot : ℕ → Rec → Bool
 isNot kind x = not (eqb (x .kind) kind)

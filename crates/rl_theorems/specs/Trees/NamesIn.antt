@@ -72,7 +72,7 @@ module _ (im : Image) (H : ℕ → Type 0)
     r = recordOf im Expressions i
 
     abbrev tree : ℕ → Expr ℕ
-    tree = below i other (exprTree im)
+    tree = below i (λ _. other) (exprTree im)
 
     record Says (f : Form) : Type 0 where
       says : NamesIn look store (treeBy im f tree)
