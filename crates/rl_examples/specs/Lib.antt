@@ -9,3 +9,7 @@ pub mod FunctionExamples
 pub mod MarkedImages
 pub mod LowerExamples
 pub mod LowerLimitExamples
+-- ---- tables: operators and literals, floats
+pub mod NodeRows
+pub mod OperatorTable
+pub mod FloatTable
