@@ -9,7 +9,9 @@ pub mod FunctionExamples
 pub mod MarkedImages
 pub mod LowerExamples
 pub mod LowerLimitExamples
--- ---- tables: operators and literals, floats
+-- ---- tables: operators and literals, floats, refinements and the texts of clauses
 pub mod NodeRows
 pub mod OperatorTable
 pub mod FloatTable
+pub mod ContractRows
+pub mod RefinementTable
