@@ -47,7 +47,7 @@ constOf (text t) = Str t
 constOf yes = Truth true
 constOf no = Truth false
 
-abbrev argument : Given → Argument
+abbrev pub argument : Given → Argument
 argument g = record { value = Bare (Const (constOf g)) }
 
 -- ---- a call
@@ -62,22 +62,29 @@ pub record Call : Type 0 where
   pub reports : List Text
   pub ends : Ends
 
+-- the texts of the reports of the k-th call of an image
+abbrev pub reported : Image → ℕ → List Text
+reported im k = map (messageOf im k) (violationsOf im k)
+
+-- for a budget: the reading, and the run in the image that lowering made
+abbrev pub readAs : Image → List Argument → ℕ → Ends
+readAs im vs budget = readingIn im 0 (valuesOf vs) budget
+
 abbrev ranAs : Image → RunAnswer → Ends
 ranAs im (Ran o n) = (outcomeIn im o, n)
 ranAs im (Refused q n) = (fault 0, n)
 
-abbrev ranIf : Option Image → List Argument → Ends
-ranIf none vs = (fault 0, 0)
-ranIf (some im) vs = ranAs im (ranIn im 0 vs 1000)
+abbrev pub loweredAs : Option Image → List Argument → ℕ → Ends
+loweredAs none vs budget = (fault 0, 0)
+loweredAs (some im) vs budget = ranAs im (ranIn im 0 vs budget)
 
--- the reports of the calls from the k-th on, the readings, and the runs of the image that lowering made
+abbrev callSeen : Image → Option Image → ℕ → List Argument → List Text × (Ends × Ends)
+callSeen im im′ k vs = (reported im k, (readAs im vs 1000, loweredAs im′ vs 1000))
+
+-- the calls from the k-th on
 unfoldable pub callsSeen : Image → Option Image → ℕ → List Call → List (List Text × (Ends × Ends))
 callsSeen im im′ k [] = []
-callsSeen im im′ k (c ∷ cs) = (
-  map (messageOf im k) (violationsOf im k),
-  (readingIn im 0 (valuesOf (map argument (c .given))) 1000, ranIf im′ (map argument (c .given))),
-)
-    ∷ callsSeen im im′ (k + 1) cs
+callsSeen im im′ k (c ∷ cs) = callSeen im im′ k (map argument (c .given)) ∷ callsSeen im im′ (k + 1) cs
 
 -- ---- a row: an image, and its calls in order
 
