@@ -17,57 +17,72 @@ use Rattle.rl_spec.specs.Image.{num, pair, Image, encode, imageOf, sectionsIn, 
 use Rattle.rl_spec.specs.Tree.{ascii}
 use Rattle.rl_spec.specs.Ranges.{upFrom}
 use Rattle.rl_spec.specs.Runner.{allHave, runOf, runNumber}
-use Rattle.rl_examples.specs.MarkedImages.{made, bool, identifier, binary, parameter, refined, clause, function, call, build}
+use Rattle.rl_examples.specs.MarkedImages.{made, string, bool, identifier, binary, bangEqual, parameter, refined, clause, function, call, build}
 use Rattle.rl_examples.specs.LowerExamples.{lowering, decoding, running}
 use Rattle.rl_examples.specs.NodeRows.{number, folding, evaluating}
 use Rattle.rl_examples.specs.ContractRows.{whole, argument, reported, proving}
 
--- ---- the callee: the last function of the name that has requires or a refinement
+-- ---- the callee: the last function of the name that has requires or a refinement; and its parameters and arguments
 
--- f(x > 9), f(x > 1), f(x); g(x) requires x != 5, g(x) ensures false; h(x > 9, y > 1); k(x). The calls' names are texts of their own
+-- f(x > 9), f(x > 1), f(x); g(x) requires x != 5, g(x) ensures false; h(x > 9, y > 1); k(x); l(x, y > 1); n(x, x) and p(y, x) require
+-- x != 5; each else "five". The calls' names are texts of their own
 abbrev named-alike : Image
 named-alike =
     build
     record {
-      texts = "f" ∷ "g" ∷ "h" ∷ "k" ∷ "x" ∷ "y" ∷ "f" ∷ "g" ∷ "h" ∷ "k" ∷ "m" ∷ [];
-      lists = 0 ∷ 1 ∷ 1 ∷ 1 ∷ [];
-      expressions = number 5 ∷ number 0 ∷ identifier 4 ∷ binary 2 7 0 ∷ bool 0 ∷ [];
+      texts =
+          "f" ∷ "g" ∷ "h" ∷ "k" ∷ "l" ∷ "n" ∷ "p" ∷ "x" ∷ "y" ∷ "five" ∷ "f" ∷ "g" ∷ "h" ∷ "k" ∷ "l" ∷ "n" ∷ "p" ∷ "m" ∷ [];
+      lists = 0 ∷ 1 ∷ 1 ∷ 1 ∷ 0 ∷ 2 ∷ 0 ∷ [];
+      expressions = number 5 ∷ number 0 ∷ identifier 8 ∷ identifier 7 ∷ binary 3 bangEqual 0 ∷ string 9 ∷ bool 0 ∷ [];
       statements = [];
-      parameters = refined 4 1 (pos 9) ∷ refined 4 1 (pos 1) ∷ parameter 4 ∷ refined 4 1 (pos 9) ∷ refined 5 1 (pos 1) ∷ [];
-      clauses = clause 3 65535 ∷ clause 4 65535 ∷ [];
+      parameters =
+          refined 7 1 (pos 9) ∷ refined 7 1 (pos 1) ∷ parameter 7 ∷ refined 7 1 (pos 9) ∷ refined 8 1 (pos 1) ∷ parameter 7
+          ∷ refined 8 1 (pos 1) ∷ parameter 7 ∷ parameter 7 ∷ parameter 8 ∷ parameter 7 ∷ [];
+      clauses = clause 6 65535 ∷ clause 4 5 ∷ [];
       functions =
           function 0 1 (pair 0 1) (pair 0 0) (pair 0 0) (pair 0 0) ∷ function 0 1 (pair 1 1) (pair 0 0) (pair 0 0) (pair 0 0)
           ∷ function 0 1 (pair 2 1) (pair 0 0) (pair 0 0) (pair 0 0)
-          ∷ function 1 1 (pair 2 1) (pair 0 0) (pair 0 1) (pair 0 0) ∷ function 1 1 (pair 2 1) (pair 0 0) (pair 0 0) (pair 1 1)
-          ∷ function 2 1 (pair 3 2) (pair 0 0) (pair 0 0) (pair 0 0) ∷ function 3 1 (pair 2 1) (pair 0 0) (pair 0 0) (pair 0 0) ∷ [];
-      -- f(5), f(0), g(5), g(0), h(0), h(0, 0), h(0, 0, 0), k(0), m(0)
+          ∷ function 1 1 (pair 2 1) (pair 0 0) (pair 1 1) (pair 0 0) ∷ function 1 1 (pair 2 1) (pair 0 0) (pair 0 0) (pair 0 1)
+          ∷ function 2 1 (pair 3 2) (pair 0 0) (pair 0 0) (pair 0 0) ∷ function 3 1 (pair 2 1) (pair 0 0) (pair 0 0) (pair 0 0)
+          ∷ function 4 1 (pair 5 2) (pair 0 0) (pair 0 0) (pair 0 0) ∷ function 5 1 (pair 7 2) (pair 0 0) (pair 1 1) (pair 0 0)
+          ∷ function 6 1 (pair 9 2) (pair 0 0) (pair 1 1) (pair 0 0) ∷ [];
+      -- f(5), f(0); g(5), g(0); h(0), h(0, 0), h(0, 0, 0), h(y, 5); k(0), m(0); l(0, 0); n(5, 0), n(0, 5), n(5, y); p(5, y)
       calls =
-          call 6 10 (pair 0 1) ∷ call 6 10 (pair 1 1) ∷ call 7 10 (pair 0 1) ∷ call 7 10 (pair 1 1) ∷ call 8 10 (pair 1 1)
-          ∷ call 8 10 (pair 1 2) ∷ call 8 10 (pair 1 3) ∷ call 9 10 (pair 1 1) ∷ call 10 10 (pair 1 1) ∷ [];
+          call 10 10 (pair 0 1) ∷ call 10 10 (pair 1 1) ∷ call 11 10 (pair 0 1) ∷ call 11 10 (pair 1 1) ∷ call 12 10 (pair 1 1)
+          ∷ call 12 10 (pair 1 2) ∷ call 12 10 (pair 1 3) ∷ call 12 10 (pair 5 2) ∷ call 13 10 (pair 1 1) ∷ call 17 10 (pair 1 1)
+          ∷ call 14 10 (pair 1 2) ∷ call 15 10 (pair 0 2) ∷ call 15 10 (pair 3 2) ∷ call 15 10 (pair 4 2) ∷ call 16 10 (pair 4 2) ∷ [];
     }
 
 -- a row a call: the texts of its reports
 unfoldable pub callees : List (List String)
 callees =
-    -- f(5) and f(0): of the second f, since the third has no contracts
+    -- f: the second, since the third has no contracts
     []
     ∷ ("contract violation (proven at compile time): refinement failed: x > 1" ∷ [])
-    -- g(5) and g(0): of the first g, since what is ensured does not count
-    ∷ ("contract violation (proven at compile time): requires violated" ∷ [])
+    -- g: the first, since what is ensured does not count
+    ∷ ("contract violation (proven at compile time): five" ∷ [])
     ∷ []
-    -- h with an argument too few, with two, with one too many
+    -- h: an argument too few, two, one too many; and x by the name of the parameter behind it
     ∷ ("contract violation (proven at compile time): refinement failed: x > 9" ∷ [])
     ∷ ("contract violation (proven at compile time): refinement failed: x > 9"
     ∷ "contract violation (proven at compile time): refinement failed: y > 1" ∷ [])
     ∷ ("contract violation (proven at compile time): refinement failed: x > 9"
     ∷ "contract violation (proven at compile time): refinement failed: y > 1" ∷ [])
-    -- k has no contracts, and m is no function
+    ∷ ("contract violation (proven at compile time): refinement failed: x > 9" ∷ [])
+    -- k has no contracts, m is no function, and l has one refinement, of its second parameter
     ∷ []
     ∷ []
+    ∷ ("contract violation (proven at compile time): refinement failed: y > 1" ∷ [])
+    -- n: its x is the last one that folds
+    ∷ []
+    ∷ ("contract violation (proven at compile time): five" ∷ [])
+    ∷ ("contract violation (proven at compile time): five" ∷ [])
+    -- p: x by the name of the parameter before it
+    ∷ ("contract violation (proven at compile time): five" ∷ [])
     ∷ []
 
 -- THEOREM: the calls are reported so
-pub callees-so : map (reported named-alike) (upFrom 0 9) ≡ map (map ascii) callees
+pub callees-so : map (reported named-alike) (upFrom 0 15) ≡ map (map ascii) callees
 unfolding lowering running folding proving callees
 callees-so = refl
 

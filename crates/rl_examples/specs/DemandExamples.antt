@@ -7,6 +7,7 @@ use mathlib.Core.List.{List, [], _∷_, map}
 use mathlib.Core.Option.{some}
 use lib.Dec.{ltb}
 use lib.IntN.{pos}
+use lib.ListN.{replicate}
 use Rattle.rl_spec.specs.declared.Arguments.{Arguments}
 use Rattle.rl_spec.specs.Image.{num, pair, Image, encode, imageOf, sectionsIn, recordsIn, recordIn, nextAt, endAt, fieldsAt, widthsOf, heights, heightsFrom, tallestChild, tallestEntry}
 use Rattle.rl_spec.specs.Values as value
@@ -29,7 +30,7 @@ use Rattle.rl_examples.specs.ContractRows.{whole, argument, Ends, report
 -- lowered and run, each from its bytes
 
 abbrev one : Arguments
-one = record { values = argument (whole 1) ∷ []; count = 1 }
+one = record { values = replicate 16 (argument (whole 1)); count = 1 }
 
 pub demand-one : numberIn (answerOf (encode flow) 8192) ∷ foldNumber (foldOf (encode flow) 8192 (lastNode flow))
     ∷ proveNumber (proveOf (encode flow) 8192 0 4) ∷ proveNumber (proveAllOf (encode flow) 8192 8)

@@ -25,16 +25,16 @@ unfoldable pub argumentLists : ℕ → List ℕ → List ℕ
 argumentLists seven [] = []
 argumentLists seven (k ∷ ks) = k ∷ seven ∷ argumentLists seven ks
 
--- by the refinement, the operand's sort and the operand
-abbrev refining : ℕ → ℕ → ℕ → List Given → Image
-refining op sort operand xs =
+-- by the name of p, the refinement, the operand's sort and the operand
+abbrev refining : ℕ → ℕ → ℕ → ℕ → List Given → Image
+refining p op sort operand xs =
     build
     record {
       texts = "f" ∷ "x" ∷ "p" ∷ "q" ∷ "a" ∷ "a\"b" ∷ "b" ∷ [];
       lists = argumentLists (length xs) (upFrom 0 (length xs));
       expressions = map nodeOf xs ++ number 7 ∷ [];
       statements = [];
-      parameters = made 80 (num 1 ∷ num 0 ∷ num op ∷ num sort ∷ num operand ∷ []) ∷ parameter 2 ∷ [];
+      parameters = made 80 (num 1 ∷ num 0 ∷ num op ∷ num sort ∷ num operand ∷ []) ∷ parameter p ∷ [];
       clauses = [];
       functions = made 82 (num 0 ∷ num 1 ∷ pair 0 2 ∷ num 0 ∷ pair 0 0 ∷ pair 0 0 ∷ pair 0 0 ∷ []) ∷ [];
       calls = map (λ k. call 0 10 (pair (2 * k) 2)) (upFrom 0 (length xs));
@@ -65,7 +65,7 @@ each t (x ∷ xs) (a ∷ as′) = a t x ∷ each t xs as′
 
 -- its text, and what it does with each x
 abbrev refined : ℕ → ℕ → ℕ → String → List Given → List (Text → Given → Call) → Row
-refined op sort operand t xs as′ = record { image = refining op sort operand xs; calls = each (ascii t) xs as′ }
+refined op sort operand t xs as′ = record { image = refining 2 op sort operand xs; calls = each (ascii t) xs as′ }
 
 -- below, at and above 7 and "a"; of another sort
 abbrev sevens : List Given
@@ -132,6 +132,7 @@ rows =
     ∷ refined 4 1 7 "x <= 7" sevens (holds ∷ holds ∷ fails ∷ lacks ∷ [])
     ∷ refined 5 1 7 "x == 7" sevens (fails ∷ holds ∷ fails ∷ lacks ∷ [])
     ∷ refined 6 1 7 "x != 7" sevens (holds ∷ fails ∷ holds ∷ lacks ∷ [])
+    ∷ refined 6 1 0 "x != 0" (whole 0 ∷ whole 1 ∷ []) (fails ∷ holds ∷ [])
     -- the least
     ∷ refined 1 1 0x8000000000000000 "x > -9223372036854775808" leasts (fails ∷ fails ∷ holds ∷ [])
     ∷ refined 2 1 0x8000000000000000 "x >= -9223372036854775808" leasts (fails ∷ holds ∷ holds ∷ [])
@@ -175,6 +176,8 @@ rows =
     ∷ refined 6 4 2 "x != p" sevens (holds ∷ fails ∷ holds ∷ lacks ∷ [])
     ∷ refined 1 4 1 "x > x" sevens (fails ∷ fails ∷ fails ∷ fails ∷ [])
     ∷ refined 1 4 3 "x > q" sevens (unknown ∷ unknown ∷ unknown ∷ unknown ∷ [])
+    -- where p is called x as well: the argument is proved, but the name is looked up, and it is 7
+    ∷ record { image = refining 1 1 1 7 (whole 8 ∷ []); calls = for (whole 8) [] (stopped (said "refinement failed: x > 7"), 9) ∷ [] }
     -- of a result function
     ∷ on (claused 1 over9 [] [] [] (pair 0 0) (pair 0 0)) ("contract violation (proven at compile time): refinement failed: x > 9" ∷ [])
     (returned (err (said "refinement failed: x > 9"))) 8
