@@ -9,3 +9,12 @@ pub mod FunctionExamples
 pub mod MarkedImages
 pub mod LowerExamples
 pub mod LowerLimitExamples
+-- ---- tables: operators and literals; floats; refinements and the texts of clauses; callees and values
+pub mod NodeRows
+pub mod OperatorTable
+pub mod FloatTable
+pub mod ContractRows
+pub mod RefinementTable
+pub mod CallTable
+-- ---- a closed instance of each demand
+pub mod DemandExamples
