@@ -2,10 +2,14 @@
 -- ---- text and values
 pub mod Utf8Examples
 pub mod ValueExamples
--- ---- runs and readings, and the functions of an image
-pub mod RunExamples
+-- ---- the functions of an image
 pub mod FunctionExamples
 -- ---- small images, and what lowering makes of them
 pub mod MarkedImages
 pub mod LowerExamples
 pub mod LowerLimitExamples
+-- ---- tables: runs, and readings of contracts
+pub mod FunctionRows
+pub mod RunnerRows
+pub mod RunnerTable
+pub mod ReadingTable

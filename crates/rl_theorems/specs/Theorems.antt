@@ -71,7 +71,9 @@ use Rattle.rl_theorems.specs.Runs.Budget as Budget
 use Rattle.rl_theorems.specs.Runs.Texts as Texts
 use Rattle.rl_theorems.specs.Runs.TextRuns as TextRuns
 use Rattle.rl_theorems.specs.Runs.ProvesTexts as ProvesTexts
-use Rattle.rl_examples.specs.RunExamples as RunExamples
+use Rattle.rl_examples.specs.FunctionRows as FunctionRows
+use Rattle.rl_examples.specs.RunnerTable as RunnerTable
+use Rattle.rl_examples.specs.ReadingTable as ReadingTable
 use Rattle.rl_theorems.specs.DemandThree.FoldsCalls as FoldsCalls
 use Rattle.rl_theorems.specs.DemandThree.FoldsEntry as FoldsEntry
 use Rattle.rl_images.specs.Images.Heights as Heights
@@ -311,10 +313,14 @@ module _ {A B : Type 0} (f : A → B) (bytesA : A → List ℕ) (bytesB : B → 
   pub prove-mapped : (c : FnContracts A) (args : List (Expr A)) → proveCall bytesB (mapContracts f c) (map (mapExpr f) args) ≡ proveCall bytesA c args
   prove-mapped = ProvesTexts.prove-mapped f bytesA bytesB keeps
 
--- ---- closed runs and readings (RunExamples has the list): each statement kind, each fault, each outcome, and marked case 14
+-- ---- closed runs and readings, a row or more for each sentence of 01's "Runner" and "Contract reading" (RunnerTable, ReadingTable;
+-- FunctionRows says what a row is)
 
-pub runs-end-so : map RunExamples.actual RunExamples.cases ≡ map RunExamples.expected RunExamples.cases
-runs-end-so = RunExamples.runs-end-so
+pub runs-end-so : map (λ r. map (RunnerTable.ran r) (r .budgets)) RunnerTable.rows ≡ map (λ r. map (FunctionRows.expected r) (r .budgets)) RunnerTable.rows
+runs-end-so = RunnerTable.runs-end-so
+
+pub reads-end-so : map (λ r. map (ReadingTable.read r) (r .budgets)) ReadingTable.rows ≡ map (λ r. map (FunctionRows.expected r) (r .budgets)) ReadingTable.rows
+reads-end-so = ReadingTable.reads-end-so
 
 -- ---- on trees, the plain run of a lowered function is its contract reading: outcome, value, message or number, and steps (LoweredRuns;
 -- LowerTrees has the lowering on trees, LoweredRunExamples functions that meet the premises and, for each premise, one that does not
