@@ -39,12 +39,13 @@ use Rattle.rl_spec.specs.Tree.{Expr, ascii, exprTree}
 use Rattle.rl_spec.specs.Fold.{constEval, foldOf}
 use Rattle.rl_spec.specs.Prove.{proveCall, callEntries, allEntries, fitting, sliceBy, proveOf, reportsOf, proveAllOf, allReportsOf, violationsOf}
 use Rattle.rl_spec.specs.Statement.{Stmt, Body}
+use Rattle.rl_spec.specs.Records.{functionAt}
 use Rattle.rl_spec.specs.Contracts.{FnContracts, calleeOf, argumentsOf}
 use Rattle.rl_spec.specs.Mapped.{mapValue, mapExpr, mapStmt, mapBody, mapContracts}
 use Rattle.rl_spec.specs.Functions.{plainFunction, contractFunction, readingIn}
 use Rattle.rl_spec.specs.Lower.{lowered}
 use Rattle.rl_spec.specs.Lowerer.{made, refused, tooTall, orLimit, lowerOf, lowerOut}
-use Rattle.rl_spec.specs.Runner.{outcomeIn, allHave, given, valuesOf, runOf}
+use Rattle.rl_spec.specs.Runner.{outcomeIn, allHave, given, valuesOf, isFor, ranIn, runOf}
 use Rattle.rl_spec.specs.Run.{Value, Env, got, used, tick, _>>_, eval}
 use Rattle.rl_spec.specs.Reading.{Check, Function, Mode, repeat, loopTurn, whileTurn, checks, stmt, body, top, runFunction, entering, reading}
 use Rattle.rl_images.specs.Reading.Utf8 as Utf8
@@ -206,7 +207,7 @@ module _ (i : ℤ) (h : mag i < 2 ^ 63) where
     pub nearest-even : apart i (ofInt binary64 i) * den x ≡ apart i x * den (ofInt binary64 i) → (Same x (ofInt binary64 i) → ⊥) → Nearest.LastDigit 53 0 (ofInt binary64 i) × Nearest.LastDigit 53 1 x
     nearest-even = Nearest.nearest-even i h x finite-x fits-x
 
--- ---- what folding, proving and lowering answer for the bytes of a well-formed image (EncodedAnswers)
+-- ---- what folding, proving, lowering and running answer for the bytes of a well-formed image (EncodedAnswers)
 
 module _ (im : Image) (wf : WellFormed im) (k : ℕ) (long : 8192 ≤ k) where
   pub folded-encoded : (n : ℕ) → n < sizeOf im Expressions → foldOf (encode im) k (record { arena = record { 0 = im .arena }; node = record { 0 = n } }) ≡ Found (asFolded (constEval (textOf im) [] (exprTree im n)))
@@ -229,6 +230,10 @@ module _ (im : Image) (wf : WellFormed im) (k : ℕ) (long : 8192 ≤ k) where
   -- lowering a function of an image that is not too tall, with an output slice that is long enough
   pub lowered-encoded : (f room : ℕ) → f < sizeOf im Functions → tooTall im ≡ false → 65535 ≤ room → lowerOf (encode im) k f room ≡ orLimit (lowered im f)
   lowered-encoded = EncodedAnswers.lowered-encoded im wf k long
+
+  -- running a function, on as many values as it has parameters, whose texts the image has, with a budget that is taken
+  pub ran-encoded : (f : ℕ) (args : Arguments) (budget : ℕ) → f < sizeOf im Functions → isFor (args .count) (functionAt im f .params .count) ≡ true → allHave (counts im) (given args) ≡ true → budget ≤ 1000000 → runOf (encode im) k f args budget ≡ ranIn im f (given args) budget
+  ran-encoded = EncodedAnswers.ran-encoded im wf k long
 
 -- ---- the steps of a run (Steps). Spends: what is left is at most the budget that was given, and nothing where that is spent
 
