@@ -226,6 +226,9 @@ results =
     ∷ ensured 0 (clause 1 none ∷ []) (bool 1 ∷ assign ret 0 ∷ bool 0 ∷ []) (return 2 ∷ []) 1 (returned (truth false)) 10
     ∷ ensured 0 (clause 1 none ∷ clause 3 none ∷ []) (bool 1 ∷ assign ret 0 ∷ bool 0 ∷ identifier ret ∷ []) (return 2 ∷ []) 1
     (returned (truth false)) 13
+    -- let x = 5; return 5 under ensures (x = true) and x
+    ∷ ensured 0 (clause 1 none ∷ clause 3 none ∷ []) (bool 1 ∷ assign x 0 ∷ number 5 ∷ identifier x ∷ [])
+    (declare x 2 ∷ return 2 ∷ []) 2 (returned (int 5)) 15
     -- one that fails, and two; in a result function; not Bool; a message that is an Ok; the Rust's text
     ∷ ensured 0 (clause 0 2 ∷ clause 1 3 ∷ []) (bool 1 ∷ bool 0 ∷ number 5 ∷ string no ∷ []) (return 2 ∷ []) 1
     (stopped (said "no")) 14
