@@ -2,8 +2,7 @@
 -- ---- text and values
 pub mod Utf8Examples
 pub mod ValueExamples
--- ---- runs and readings, and the functions of an image
-pub mod RunExamples
+-- ---- the functions of an image
 pub mod FunctionExamples
 -- ---- small images, and what lowering makes of them
 pub mod MarkedImages
@@ -16,5 +15,10 @@ pub mod FloatTable
 pub mod ContractRows
 pub mod RefinementTable
 pub mod CallTable
+-- ---- tables: runs, and readings of contracts
+pub mod FunctionRows
+pub mod RunnerRows
+pub mod RunnerTable
+pub mod ReadingTable
 -- ---- a closed instance of each demand
 pub mod DemandExamples

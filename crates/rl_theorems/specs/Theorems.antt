@@ -37,12 +37,13 @@ use Rattle.rl_spec.specs.Tree.{Expr, ascii, exprTree}
 use Rattle.rl_spec.specs.Fold.{constEval, foldOf}
 use Rattle.rl_spec.specs.Prove.{proveCall, callEntries, allEntries, fitting, sliceBy, proveOf, reportsOf, proveAllOf, allReportsOf, violationsOf}
 use Rattle.rl_spec.specs.Statement.{Stmt, Body}
+use Rattle.rl_spec.specs.Records.{functionAt}
 use Rattle.rl_spec.specs.Contracts.{FnContracts, calleeOf, argumentsOf}
 use Rattle.rl_spec.specs.Mapped.{mapValue, mapExpr, mapStmt, mapBody, mapContracts}
 use Rattle.rl_spec.specs.Functions.{plainFunction, contractFunction}
 use Rattle.rl_spec.specs.Lower.{lowered}
 use Rattle.rl_spec.specs.Lowerer.{made, refused, tooTall, orLimit, lowerOf, lowerAnswer, lowerOut}
-use Rattle.rl_spec.specs.Runner.{allHave, given}
+use Rattle.rl_spec.specs.Runner.{allHave, given, isFor, ranIn, runOf}
 use Rattle.rl_spec.specs.Run.{Value, Env, got, used, tick, _>>_, eval}
 use Rattle.rl_spec.specs.Reading.{Check, Function, Mode, repeat, loopTurn, whileTurn, checks, stmt, body, top, runFunction, entering, reading}
 use Rattle.rl_images.specs.Reading.Utf8 as Utf8
@@ -69,7 +70,9 @@ use Rattle.rl_theorems.specs.Runs.Budget as Budget
 use Rattle.rl_theorems.specs.Runs.Texts as Texts
 use Rattle.rl_theorems.specs.Runs.TextRuns as TextRuns
 use Rattle.rl_theorems.specs.Runs.ProvesTexts as ProvesTexts
-use Rattle.rl_examples.specs.RunExamples as RunExamples
+use Rattle.rl_examples.specs.FunctionRows as FunctionRows
+use Rattle.rl_examples.specs.RunnerTable as RunnerTable
+use Rattle.rl_examples.specs.ReadingTable as ReadingTable
 use Rattle.rl_theorems.specs.DemandThree.FoldsCalls as FoldsCalls
 use Rattle.rl_theorems.specs.DemandThree.FoldsEntry as FoldsEntry
 use Rattle.rl_images.specs.Images.Heights as Heights
@@ -202,7 +205,7 @@ module _ (i : ℤ) (h : mag i < 2 ^ 63) where
     pub nearest-even : apart i (ofInt binary64 i) * den x ≡ apart i x * den (ofInt binary64 i) → (Same x (ofInt binary64 i) → ⊥) → Nearest.LastDigit 53 0 (ofInt binary64 i) × Nearest.LastDigit 53 1 x
     nearest-even = Nearest.nearest-even i h x finite-x fits-x
 
--- ---- what folding, proving and lowering answer for the bytes of a well-formed image (EncodedAnswers)
+-- ---- what folding, proving, lowering and running answer for the bytes of a well-formed image (EncodedAnswers)
 
 module _ (im : Image) (wf : WellFormed im) (k : ℕ) (long : 8192 ≤ k) where
   pub folded-encoded : (n : ℕ) → n < sizeOf im Expressions → foldOf (encode im) k (record { arena = record { 0 = im .arena }; node = record { 0 = n } }) ≡ Found (asFolded (constEval (textOf im) [] (exprTree im n)))
@@ -225,6 +228,10 @@ module _ (im : Image) (wf : WellFormed im) (k : ℕ) (long : 8192 ≤ k) where
   -- lowering a function of an image that is not too tall, with an output slice that is long enough
   pub lowered-encoded : (f room : ℕ) → f < sizeOf im Functions → tooTall im ≡ false → 65535 ≤ room → lowerOf (encode im) k f room ≡ orLimit (lowered im f)
   lowered-encoded = EncodedAnswers.lowered-encoded im wf k long
+
+  -- running a function, on as many values as it has parameters, whose texts the image has, with a budget that is taken
+  pub ran-encoded : (f : ℕ) (args : Arguments) (budget : ℕ) → f < sizeOf im Functions → isFor (args .count) (functionAt im f .params .count) ≡ true → allHave (counts im) (given args) ≡ true → budget ≤ 1000000 → runOf (encode im) k f args budget ≡ ranIn im f (given args) budget
+  ran-encoded = EncodedAnswers.ran-encoded im wf k long
 
 -- ---- the steps of a run (Steps). Spends: what is left is at most the budget that was given, and nothing where that is spent
 
@@ -309,10 +316,14 @@ module _ {A B : Type 0} (f : A → B) (bytesA : A → List ℕ) (bytesB : B → 
   pub prove-mapped : (c : FnContracts A) (args : List (Expr A)) → proveCall bytesB (mapContracts f c) (map (mapExpr f) args) ≡ proveCall bytesA c args
   prove-mapped = ProvesTexts.prove-mapped f bytesA bytesB keeps
 
--- ---- closed runs and readings (RunExamples has the list): each statement kind, each fault, each outcome, and marked case 14
+-- ---- closed runs and readings, a row or more for each sentence of 01's "Runner" and "Contract reading" (RunnerTable, ReadingTable;
+-- FunctionRows says what a row is)
 
-pub runs-end-so : map RunExamples.actual RunExamples.cases ≡ map RunExamples.expected RunExamples.cases
-runs-end-so = RunExamples.runs-end-so
+pub runs-end-so : map (λ r. map (RunnerTable.ran r) (r .budgets)) RunnerTable.rows ≡ map (λ r. map (FunctionRows.expected r) (r .budgets)) RunnerTable.rows
+runs-end-so = RunnerTable.runs-end-so
+
+pub reads-end-so : map (λ r. map (ReadingTable.read r) (r .budgets)) ReadingTable.rows ≡ map (λ r. map (FunctionRows.expected r) (r .budgets)) ReadingTable.rows
+reads-end-so = ReadingTable.reads-end-so
 
 -- ---- on trees, the plain run of a lowered function is its contract reading: outcome, value, message or number, and steps (LoweredRuns;
 -- LowerTrees has the lowering on trees, LoweredRunExamples functions that meet the premises and, for each premise, one that does not

@@ -5,19 +5,25 @@ use Prim.Native.String.{String}
 use mathlib.Core.Path.{_≡_, refl, ap, subst, _∙_}
 use mathlib.Core.Bool.{true, false}
 use mathlib.Core.List.{List, [], _∷_, _++_, map}
-use mathlib.Core.Option.{some}
+use mathlib.Core.Option.{Option, none, some}
 use native.Mathlib.Omega.{arith}
 use lib.Dec.{lit<}
 use lib.ListN.{length, replicate}
 use lib.IntN.{pos, negsuc}
 use lib.Ieee as F
 use Rattle.rl_spec.specs.declared.Answer.the-variants.{Accepted}
+use Rattle.rl_spec.specs.declared.Arguments.{Arguments}
 use Rattle.rl_spec.specs.declared.ConstVal.the-variants.{Int, Bool as Truth}
 use Rattle.rl_spec.specs.declared.Folded.{Folded}
 use Rattle.rl_spec.specs.declared.Folded.the-variants.{Value, Nothing}
 use Rattle.rl_spec.specs.declared.FoldAnswer.the-variants.{Found}
+use Rattle.rl_spec.specs.declared.Outcome.{Outcome}
+use Rattle.rl_spec.specs.declared.Outcome.the-variants.{Returned}
+use Rattle.rl_spec.specs.declared.Plain.the-variants.{Const}
 use Rattle.rl_spec.specs.declared.ProveAnswer.the-variants.{Proved}
+use Rattle.rl_spec.specs.declared.RunAnswer.the-variants.{Ran}
 use Rattle.rl_spec.specs.declared.Section.the-variants.{Expressions, Functions, Calls}
+use Rattle.rl_spec.specs.declared.Value.the-variants.{Plain as Bare}
 use Rattle.rl_spec.specs.declared.Violation.{Violation}
 use Rattle.rl_spec.specs.declared.Violation.the-variants.{Refinement, Requires}
 use Rattle.rl_spec.specs.Schema.{limits, sections, inSection, sortOf, fieldsOf, fieldsIn, schema}
@@ -26,8 +32,7 @@ use Rattle.rl_spec.specs.Bytes.{numAt, u16At, u32At, past}
 use Rattle.rl_spec.specs.Fields.{zeros, kindOfStatement, allowed, childHeight, entryAt, rangeOf, partOf, byteIn, operandSortOf, referTo, referOrNone, entriesFrom, listOf, operandOf, valueOf, fieldAt, fieldsFrom, recordAt}
 use Rattle.rl_spec.specs.Read.{countsOf, countsFrom, headerOf, recordsFrom, sectionsFrom, endOf, bodyOf, readOf, answerOf}
 use Rattle.rl_spec.specs.Image.{Rec, Image, recordsOf, textOf, sizeOf, tallestEntry, tallestChild, heightsFrom, heights, bytesOf, encodeFields, encodeRecord, encodeRecords, encodeSections, encodeCounts, encode, imageOf, sectionsIn, recordsIn, recordIn, nextAt, endAt, fieldsAt, widthsOf, WellFormed}
-use Rattle.rl_spec.specs.Values as value
-use Rattle.rl_spec.specs.Values.{int, compareValues, compareFloats, compareBools, lessText, sameText, arithValues, negate}
+use Rattle.rl_spec.specs.Values.{int, compareValues, compareFloats, compareBools, lessText, sameText, arithValues, bang, negate}
 use Rattle.rl_spec.specs.Tree.{ascii, formBy, descendBy, descend, exprTree}
 use Rattle.rl_spec.specs.Fold.{Binding, unaryValue, unaryFolded, binaryValue, binaryFolded, lookup, constEval, foldOf}
 use Rattle.rl_spec.specs.Records.{paramAt, clauseAt, functionAt, callAt}
@@ -35,17 +40,18 @@ use Rattle.rl_spec.specs.Ranges.{upFrom}
 use Rattle.rl_spec.specs.Contracts.{paramOf, clauseOf, contractsOf, anyRefined, isCallee, calleeAmong, calleeOf, argumentsOf}
 use Rattle.rl_spec.specs.Prove.{bindArguments, refineBound, refutes, failsAt, failedRefinements, failedRequires, proveCall, violationsOf, reportEntries, callEntries, allEntries, proveOf, reportsOf, proveAllOf, allReportsOf}
 use Rattle.rl_spec.specs.Statement.{statementBy, itemTree}
-use Rattle.rl_spec.specs.Run.{folded, plain, Outcome, returned, find, eval}
-use Rattle.rl_spec.specs.Reading.{checks, stmt, top, reading}
+use Rattle.rl_spec.specs.Run.{find, eval}
+use Rattle.rl_spec.specs.Reading.{checks, stmt, body, branchOr, orElse, top, runFunction, reading}
 use Rattle.rl_spec.specs.Mapped.{mapExpr, mapBody}
-use Rattle.rl_spec.specs.Functions.{refinementChecks, contractFunction, readingIn}
+use Rattle.rl_spec.specs.Functions.{refinementChecks, plainFunction, contractFunction, readingIn}
+use Rattle.rl_spec.specs.Runner.{outcomeIn, allHave, ranOf, ranIn, runOf}
 use Rattle.rl_spec.specs.Message.{decimalBy, decimal, messageBy, opening, messageOf}
 use Rattle.rl_spec.specs.Lower.{lowered}
 use Rattle.rl_spec.specs.Lowerer.{made, anyOver, tooTall, orLimit, lowerOf}
 use Rattle.rl_images.specs.Encoding.ReaderKnows.{counts}
-use Rattle.rl_theorems.specs.Reading.EncodedAnswers.{lowered-encoded, proved-encoded, reports-encoded, all-proved-encoded, all-reports-encoded, fitting-room, slice-room, areBytes, well-formed-by, folded-longer}
-use Rattle.rl_theorems.specs.Runs.Budget.{reading-steady}
-use Rattle.rl_examples.specs.LowerExamples.{requires-identifier, requires-lowered, case10-whole, returns-ok, returns-lowered, case11-whole}
+use Rattle.rl_theorems.specs.Reading.EncodedAnswers.{lowered-encoded, ran-encoded, proved-encoded, reports-encoded, all-proved-encoded, all-reports-encoded, fitting-room, slice-room, areBytes, well-formed-by, folded-longer}
+use Rattle.rl_theorems.specs.Runs.Budget.{run-steady, reading-steady}
+use Rattle.rl_examples.specs.LowerExamples.{requires-identifier, requires-lowered, case10-whole, returns-ok, returns-lowered, case11-whole, lowering}
 use Rattle.rl_examples.specs.MarkedImages.{integer, uint, byte, string, bool, float, binary, unary, grouping, plus, minus, slash, compare, less, textBytes, textRecords, nodes, lastNode, named-before, named-behind, returns-true, flow}
 
 -- ---- what a case says
@@ -71,11 +77,14 @@ pub record Lowers (im : Image) (f : ℕ) (kinds : List ℕ) : Type 0 where
   pub image : imageOf (encode im) ≡ im
   pub answer : (k room : ℕ) → 8192 ≤ k → 65535 ≤ room → lowerOf (encode im) k f room ≡ made lowered
 
-pub record ReadsAs (im : Image) (f : ℕ) (o : Outcome (List ℕ)) (steps : ℕ) : Type 0 where
-  -- the image is the one that its bytes stand for
+-- with any budget that is enough, the contract reading of a function comes to this outcome in so many steps; and from the image's bytes,
+-- with any slices that are long enough, lowering it makes an image from whose bytes the function runs to it in as many
+pub record EndsSo (im : Image) (f : ℕ) (o : Outcome) (steps : ℕ) : Type 0 where
   pub image : imageOf (encode im) ≡ im
-  -- with any budget that is enough, the contract reading of the function comes to this outcome in so many steps
-  pub outcome : (k : ℕ) → readingIn im f [] (steps + k) ≡ (o, steps)
+  pub reads : (budget : ℕ) → steps ≤ budget → readingIn im f [] budget ≡ (outcomeIn im o, steps)
+  pub lowered : Image
+  pub answer : (k room : ℕ) → 8192 ≤ k → 65535 ≤ room → lowerOf (encode im) k f room ≡ made lowered
+  pub runs : (k budget : ℕ) (args : Arguments) → 8192 ≤ k → args .count ≡ 0 → steps ≤ budget → budget ≤ 1000000 → runOf (encode lowered) k f args budget ≡ Ran o steps
 
 -- the names found in the first pass over a call of the f-th function
 abbrev pub namesFound : Image → ℕ → ℕ → List (Binding ℕ)
@@ -111,7 +120,7 @@ pub record MarkedCases : Type 0 where
   -- 13. f(y, 5), parameters x > 9 and y: reported
   pub case13 : Reports named-behind 0 (Refinement 0) (0 ∷ 10 ∷ 0 ∷ 0 ∷ []) "contract violation (proven at compile time): refinement failed: x > 9"
   -- 14. `return true` under ensures `ret`: 9 steps
-  pub case14 : ReadsAs returns-true 0 (returned (plain (folded (value.bool true)))) 9
+  pub case14 : EndsSo returns-true 0 (Returned (Bare (Const (Truth true)))) 9
 
 -- ---- the printer's example: its two reports, and no others
 
@@ -168,7 +177,7 @@ unfolding paramAt clauseAt functionAt callAt paramOf clauseOf upFrom contractsOf
 proving = tt
 
 running : Unit {0}
-unfolding statementBy itemTree mapExpr mapBody refinementChecks contractFunction readingIn find eval checks stmt top reading
+unfolding statementBy itemTree mapExpr mapBody refinementChecks plainFunction contractFunction readingIn find eval checks stmt body branchOr orElse top runFunction reading bang
 running = tt
 
 unfoldable pub measuring : Unit {0}
@@ -182,6 +191,50 @@ lowers-10 = lowers requires-identifier refl refl refl requires-lowered (lit< tt)
 lowers-11 : Lowers returns-ok 0 (26 ∷ 49 ∷ 30 ∷ 30 ∷ 41 ∷ 30 ∷ 30 ∷ 41 ∷ 25 ∷ 30 ∷ 33 ∷ 50 ∷ 30 ∷ [])
 unfolding decoding measuring
 lowers-11 = lowers returns-ok refl refl refl returns-lowered (lit< tt) refl case11-whole refl
+
+-- ---- what lowering makes of the image of case 14, and its runs
+
+abbrev madeOf : Option Image → Image
+madeOf none = returns-true
+madeOf (some im) = im
+
+abbrev returns-true-lowered : Image
+returns-true-lowered = madeOf (lowered returns-true 0)
+
+answer-14 : (k room : ℕ) → 8192 ≤ k → 65535 ≤ room → lowerOf (encode returns-true) k 0 room ≡ made returns-true-lowered
+unfolding decoding measuring lowering
+answer-14 k room long fit =
+    lowered-encoded returns-true (well-formed returns-true refl refl refl) k long 0 room (lit< tt) refl fit
+
+lowered-well-formed : WellFormed returns-true-lowered
+unfolding decoding lowering
+lowered-well-formed = well-formed returns-true-lowered refl refl refl
+
+-- a law of every sum with 9 is one of every number from 9 on
+from-nine : {A : Type 0} (f : ℕ → A) (a : A) → ((k : ℕ) → f (9 + k) ≡ a) → (n : ℕ) → 9 ≤ n → f n ≡ a
+from-nine f a h n l = subst (λ m. f m ≡ a) (omega (arith, l)) (h (n - 9))
+
+runs-14 : (budget : ℕ) → 9 ≤ budget → ranIn returns-true-lowered 0 [] budget ≡ Ran (Returned (Bare (Const (Truth true)))) 9
+unfolding decoding folding proving running lowering ranIn
+runs-14 =
+    from-nine (ranIn returns-true-lowered 0 []) _
+    (λ k. ap ranOf (run-steady (textOf returns-true-lowered) (plainFunction returns-true-lowered 0) [] 9 k tt))
+
+ends-14 : EndsSo returns-true 0 (Returned (Bare (Const (Truth true)))) 9
+unfolding decoding folding proving running lowering allHave
+ends-14 =
+    record {
+      image = refl;
+      reads =
+          from-nine (readingIn returns-true 0 []) _
+          (λ k. reading-steady (λ t. t) (ascii "ret") (contractFunction returns-true 0) [] 9 k tt);
+      lowered = returns-true-lowered;
+      answer = answer-14;
+      runs = λ k budget args long without enough taken.
+          ran-encoded returns-true-lowered lowered-well-formed k long 0 args budget (lit< tt) (rw without refl) (rw without refl)
+          taken
+          ∙ rw without (runs-14 budget enough);
+    }
 
 -- THEOREMS
 pub marked-cases : MarkedCases
@@ -201,11 +254,7 @@ marked-cases =
       case11 = lowers-11;
       case12 = (refl, reports named-before refl refl refl (lit< tt) refl refl refl refl);
       case13 = reports named-behind refl refl refl (lit< tt) refl refl refl refl;
-      case14 =
-          record {
-            image = refl;
-            outcome = λ k. reading-steady (λ t. t) (ascii "ret") (contractFunction returns-true 0) [] 9 k tt;
-          };
+      case14 = ends-14;
     }
 
 pub printer-example : PrinterExample

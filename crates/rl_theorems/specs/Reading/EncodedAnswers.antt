@@ -1,4 +1,5 @@
--- What folding, proving and lowering answer for the bytes of a well-formed image; and of bytes that are accepted by computation.
+-- What folding, proving, lowering and running answer for the bytes of a well-formed image; and of bytes that are accepted by
+-- computation.
 -- Assumes nothing.
 use Prim.Native.Nat.{ℕ, _-_, _/_, _≤_, _<_}
 use mathlib.Core.Path.{_≡_, refl, sym, _∙_}
@@ -10,6 +11,7 @@ use borrow.Author.Tests.{lt-ltb, le-ltb, eq-eqb}
 use Rattle.rl_laws.specs.Tests.{by-ltb}
 use Rattle.rl_spec.specs.declared.ArenaNo.{ArenaNo}
 use Rattle.rl_spec.specs.declared.Counts.{Counts}
+use Rattle.rl_spec.specs.declared.Arguments.{Arguments}
 use Rattle.rl_spec.specs.declared.Id.{Id}
 use Rattle.rl_spec.specs.declared.Answer.the-variants.{Accepted}
 use Rattle.rl_spec.specs.declared.FoldAnswer.the-variants.{Found}
@@ -23,7 +25,10 @@ use Rattle.rl_spec.specs.Fold.{constEval, foldOf}
 use Rattle.rl_spec.specs.Prove.{callEntries, allEntries, fitting, sliceBy, proveOf, reportsOf, proveAllOf, allReportsOf}
 use Rattle.rl_spec.specs.Lower.{lowered}
 use Rattle.rl_spec.specs.Lowerer.{tooTall, orLimit, lowerOf}
+use Rattle.rl_spec.specs.Records.{functionAt}
+use Rattle.rl_spec.specs.Runner.{allHave, given, isFor, ranIn, runOf}
 use Rattle.rl_images.specs.Reading.Decode.{accepted-encodes}
+use Rattle.rl_images.specs.Encoding.ReaderKnows.{counts}
 use Rattle.rl_images.specs.Encoding.Header.{counts-are}
 use Rattle.rl_images.specs.Encoding.Encoded.{encoded-accepted, encoded-image}
 use Rattle.rl_images.specs.Encoding.Accepted.{accepted-well-formed}
@@ -66,6 +71,19 @@ module _ (im : Image) (wf : WellFormed im) (k : ℕ) (long : 8192 ≤ k) where
   unfolding lowerOf
   lowered-encoded f room l low long′ =
       rw (encoded-accepted im k wf long, lt-ltb f (sizeOf im Functions) l, encoded-image im wf, low, le-ltb room 65535 long′)
+
+  -- running a function, on as many values as it has parameters, whose texts the image has, with a budget that is taken
+  pub ran-encoded : (f : ℕ) (args : Arguments) (budget : ℕ) → f < sizeOf im Functions → isFor (args .count) (functionAt im f .params .count) ≡ true → allHave (counts im) (given args) ≡ true → budget ≤ 1000000 → runOf (encode im) k f args budget ≡ ranIn im f (given args) budget
+  unfolding runOf
+  ran-encoded f args budget l fits have taken =
+      rw (
+        encoded-accepted im k wf long,
+        lt-ltb f (sizeOf im Functions) l,
+        encoded-image im wf,
+        fits,
+        have,
+        le-ltb 1000000 budget taken,
+      )
 
 -- a slice that has room for the entries
 module _ (room : ℕ) (e : List ℕ) (l : length e ≤ room) where
