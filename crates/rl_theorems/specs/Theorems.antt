@@ -45,7 +45,7 @@ use Rattle.rl_spec.specs.Functions.{plainFunction, contractFunction, readingIn}
 use Rattle.rl_spec.specs.Lower.{lowered}
 use Rattle.rl_spec.specs.Lowerer.{made, refused, tooTall, orLimit, lowerOf, lowerOut}
 use Rattle.rl_spec.specs.Runner.{outcomeIn, allHave, given, valuesOf, runOf}
-use Rattle.rl_spec.specs.Run.{Value, Env, got, used, tick, _>>_, eval}
+use Rattle.rl_spec.specs.Run.{Value, Env, spent, got, used, tick, _>>_, eval}
 use Rattle.rl_spec.specs.Reading.{Check, Function, Mode, repeat, loopTurn, whileTurn, checks, stmt, body, top, runFunction, entering, reading}
 use Rattle.rl_images.specs.Reading.Utf8 as Utf8
 use Rattle.rl_images.specs.Reading.Decode as Decode
@@ -228,28 +228,26 @@ module _ (im : Image) (wf : WellFormed im) (k : ℕ) (long : 8192 ≤ k) where
   pub lowered-encoded : (f room : ℕ) → f < sizeOf im Functions → tooTall im ≡ false → 65535 ≤ room → lowerOf (encode im) k f room ≡ orLimit (lowered im f)
   lowered-encoded = EncodedAnswers.lowered-encoded im wf k long
 
--- ---- the steps of a run (Steps). Spends: what is left is at most the budget that was given, and nothing where that is spent
+-- ---- the steps of a run (Steps, Budget)
 
 module _ {Text : Type 0} (bytes : Text → List ℕ) where
-  pub eval-spends : (e : Expr Text) → Steps.Spends (eval bytes e)
-  eval-spends = Steps.evals bytes
+  -- Exact: of a run at the budgets n and n + k, either both go alike, k more being left, or n is spent and n + k is too or is left with less
+  -- than k
+  pub eval-exact : (e : Expr Text) → Steps.Exact (eval bytes e)
+  eval-exact = Steps.evals bytes
+
+  pub checks-exact : (r : Bool) (cs : List (Check Text)) → Steps.Exact (checks bytes r cs)
+  checks-exact = Steps.checkses bytes
 
   -- plainly and checked
-  pub stmt-spends : (m : Mode Text) (s : Stmt Text) → Steps.Spends (stmt bytes m s)
-  stmt-spends = Steps.stmts bytes
+  pub stmt-exact : (m : Mode Text) (s : Stmt Text) → Steps.Exact (stmt bytes m s)
+  stmt-exact = Steps.stmts bytes
 
-  pub body-spends : (m : Mode Text) (b : Body Text) → Steps.Spends (body bytes m b)
-  body-spends = Steps.bodies bytes
+  pub body-exact : (m : Mode Text) (b : Body Text) → Steps.Exact (body bytes m b)
+  body-exact = Steps.bodies bytes
 
-  pub top-spends : (m : Mode Text) (b : Body Text) → Steps.Spends (top bytes m b)
-  top-spends = Steps.tops bytes
-
-  -- Fair: the steps used are at most the budget, and all of it where that is spent
-  pub run-fair : (f : Function Text) (vs : List (Value Text)) (budget : ℕ) → Steps.Fair budget (used budget (runFunction bytes f vs budget))
-  run-fair = Steps.run-fair bytes
-
-  pub reading-fair : (ret : Text) (f : Function Text) (vs : List (Value Text)) (budget : ℕ) → Steps.Fair budget (used budget (reading bytes ret f vs budget))
-  reading-fair = Steps.reading-fair bytes
+  pub top-exact : (m : Mode Text) (b : Body Text) → Steps.Exact (top bytes m b)
+  top-exact = Steps.tops bytes
 
   -- a loop is its unfolding: a step, a turn, and the loop again
   pub while-unfolds : (m : Mode Text) (e : Expr Text) (b : Body Text) (env : Env Text) (n : ℕ) → repeat (whileTurn bytes e (body bytes m b)) env n ≡ (tick >> whileTurn bytes e (body bytes m b) (repeat (whileTurn bytes e (body bytes m b)))) env n
@@ -258,32 +256,27 @@ module _ {Text : Type 0} (bytes : Text → List ℕ) where
   pub loop-unfolds : (m : Mode Text) (b : Body Text) (env : Env Text) (n : ℕ) → repeat (loopTurn (body bytes m b)) env n ≡ (tick >> loopTurn (body bytes m b) (repeat (loopTurn (body bytes m b)))) env n
   loop-unfolds = Steps.loop-unfolds bytes
 
--- ---- a larger budget does not change a run that was not spent (Budget). Steady: where the budget n is not spent, n + k gives the same,
--- and k more is left
+  module _ (f : Function Text) (vs : List (Value Text)) where
+    -- Fair: the steps used are at most the budget, and all of it where that is spent
+    pub run-fair : (budget : ℕ) → Budget.Fair budget (used budget (runFunction bytes f vs budget))
+    run-fair = Budget.run-fair bytes f vs
 
-module _ {Text : Type 0} (bytes : Text → List ℕ) where
-  pub eval-steady : (e : Expr Text) → Budget.Steady (eval bytes e)
-  eval-steady = Budget.eval-steady bytes
+    pub reading-fair : (ret : Text) (budget : ℕ) → Budget.Fair budget (used budget (reading bytes ret f vs budget))
+    reading-fair = Budget.reading-fair bytes f vs
 
-  pub checks-steady : (r : Bool) (cs : List (Check Text)) → Budget.Steady (checks bytes r cs)
-  checks-steady = Budget.checks-steady bytes
+    -- SPENT EXACTLY WHEN THE NEXT CHARGE WOULD PASS THE BUDGET: where the budget n is not spent, every budget from the steps that it used
+    -- on has the same outcome and steps, and every one below them is spent, all of it
+    pub run-same : (n b : ℕ) → Steps.NotSpent (runFunction bytes f vs n .0) → used n (runFunction bytes f vs n) .1 ≤ b → used b (runFunction bytes f vs b) ≡ used n (runFunction bytes f vs n)
+    run-same = Budget.run-same bytes f vs
 
-  -- plainly and checked
-  pub stmt-steady : (m : Mode Text) (s : Stmt Text) → Budget.Steady (stmt bytes m s)
-  stmt-steady = Budget.stmt-steady bytes
+    pub run-spent : (n b : ℕ) → Steps.NotSpent (runFunction bytes f vs n .0) → b < used n (runFunction bytes f vs n) .1 → used b (runFunction bytes f vs b) ≡ (spent, b)
+    run-spent = Budget.run-spent bytes f vs
 
-  pub body-steady : (m : Mode Text) (b : Body Text) → Budget.Steady (body bytes m b)
-  body-steady = Budget.body-steady bytes
+    pub reading-same : (ret : Text) (n b : ℕ) → Steps.NotSpent (reading bytes ret f vs n .0) → used n (reading bytes ret f vs n) .1 ≤ b → used b (reading bytes ret f vs b) ≡ used n (reading bytes ret f vs n)
+    reading-same = Budget.reading-same bytes f vs
 
-  pub top-steady : (m : Mode Text) (b : Body Text) → Budget.Steady (top bytes m b)
-  top-steady = Budget.top-steady bytes
-
-  -- the same outcome and the same steps used
-  pub run-steady : (f : Function Text) (vs : List (Value Text)) (n k : ℕ) → Steps.NotSpent (runFunction bytes f vs n .0) → used (n + k) (runFunction bytes f vs (n + k)) ≡ used n (runFunction bytes f vs n)
-  run-steady = Budget.run-steady bytes
-
-  pub reading-steady : (ret : Text) (f : Function Text) (vs : List (Value Text)) (n k : ℕ) → Steps.NotSpent (reading bytes ret f vs n .0) → used (n + k) (reading bytes ret f vs (n + k)) ≡ used n (reading bytes ret f vs n)
-  reading-steady = Budget.reading-steady bytes
+    pub reading-spent : (ret : Text) (n b : ℕ) → Steps.NotSpent (reading bytes ret f vs n .0) → b < used n (reading bytes ret f vs n) .1 → used b (reading bytes ret f vs b) ≡ (spent, b)
+    reading-spent = Budget.reading-spent bytes f vs
 
 -- ---- another account of the texts that keeps their bytes (Texts, TextRuns): a mapped tree in mapped bindings runs as the tree does, mapped
 

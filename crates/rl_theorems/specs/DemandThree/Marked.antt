@@ -44,7 +44,7 @@ use Rattle.rl_spec.specs.Lower.{lowered}
 use Rattle.rl_spec.specs.Lowerer.{made, anyOver, tooTall, orLimit, lowerOf}
 use Rattle.rl_images.specs.Encoding.ReaderKnows.{counts}
 use Rattle.rl_theorems.specs.Reading.EncodedAnswers.{lowered-encoded, proved-encoded, reports-encoded, all-proved-encoded, all-reports-encoded, fitting-room, slice-room, areBytes, well-formed-by, folded-longer}
-use Rattle.rl_theorems.specs.Runs.Budget.{reading-steady}
+use Rattle.rl_theorems.specs.Runs.Budget.{reading-same}
 use Rattle.rl_examples.specs.LowerExamples.{requires-identifier, requires-lowered, case10-whole, returns-ok, returns-lowered, case11-whole}
 use Rattle.rl_examples.specs.MarkedImages.{integer, uint, byte, string, bool, float, binary, unary, grouping, plus, minus, slash, compare, less, textBytes, textRecords, nodes, lastNode, named-before, named-behind, returns-true, flow}
 
@@ -204,7 +204,7 @@ marked-cases =
       case14 =
           record {
             image = refl;
-            outcome = λ k. reading-steady (λ t. t) (ascii "ret") (contractFunction returns-true 0) [] 9 k tt;
+            outcome = λ k. reading-same (λ t. t) (contractFunction returns-true 0) [] (ascii "ret") 9 (9 + k) tt (omega arith);
           };
     }
 
