@@ -1,5 +1,5 @@
--- Demand 3. First half: what lowering answers and why (LowerAnswers), the bytes that it writes (LoweredBytes), and that their run is the
--- contract reading of the original (FirstHalf). Second half: what folds is what a run gives (Folds), checks that fold to false are not
+-- Demand 3. First half: what is known where lowering makes an image (LowerAnswers), the bytes that it writes (LoweredBytes), and that their
+-- run is the contract reading of the original (FirstHalf). Second half: what folds is what a run gives (Folds), checks that fold to false are not
 -- passed (FoldsChecks), a report is such a check (FoldsEntry) under names that the run binds (FoldsNames), so a call with a report never
 -- passes its callee's entry checks (FoldsCalls, and from bytes SecondHalf). The marked cases as one list (Marked).
 pub mod LowerAnswers
