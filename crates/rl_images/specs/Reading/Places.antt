@@ -17,10 +17,10 @@ use Rattle.rl_spec.specs.declared.Answer.the-variants.{Accepted, Refused}
 use Rattle.rl_spec.specs.Schema.{limits, sections, countOf, sortOf, widthOf, fieldsOf}
 use Rattle.rl_spec.specs.Read.{countsOf, seenBy, answerOf}
 use Rattle.rl_spec.specs.Image.{nextAt, endAt}
-use Rattle.rl_laws.specs.Tests.{by-eqb}
+use Rattle.rl_laws.specs.Tests.{not-below, by-eqb}
 use Rattle.rl_images.specs.Reading.Table.{Row, First, by-parts}
 use Rattle.rl_images.specs.Reading.Rows.{valueRows, fieldRows, fieldsRows, recordRows, recordsRows, sectionsRows, countsRows, headerRows, sectionsAt, contentRows, readRows}
-use Rattle.rl_images.specs.Reading.Whole.{not-below, record-whole, records-whole, header-whole}
+use Rattle.rl_images.specs.Reading.Whole.{record-whole, records-whole, header-whole}
 use Rattle.rl_images.specs.Reading.ReadOutcome.{read-refuses, accepted-reads}
 
 -- ---- all rows of a field are at its first byte

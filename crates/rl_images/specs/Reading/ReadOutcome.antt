@@ -24,7 +24,8 @@ use Rattle.rl_spec.specs.Image.{nextAt, endAt}
 use Rattle.rl_images.specs.Reading.Table.{Row, row, Unmet, First, first-front, unmet-parts, By, refuses, accepts, refuses-exactly, accepts-exactly, behind, checks, checks-not}
 use Rattle.rl_images.specs.Reading.Rows.{heightAt, recordRows, startsFrom, workFrom, recordsRows, sectionsRows, startsIn, workIn, lastAt, countsRows, headerRows, sectionsAt, sectionsEnd, contentRows, readRows}
 use Rattle.rl_images.specs.Reading.Causes.{record-by}
-use Rattle.rl_images.specs.Reading.Whole.{not-below, Sections, sections-whole, HeaderRead, header-whole}
+use Rattle.rl_laws.specs.Tests.{not-below}
+use Rattle.rl_images.specs.Reading.Whole.{Sections, sections-whole, HeaderRead, header-whole}
 
 -- ---- one part behind another
 

@@ -13,13 +13,10 @@ use Rattle.rl_spec.specs.Bytes.{u16At}
 use Rattle.rl_spec.specs.Schema.{limits, textBytesAt, countOf, inSection, sortOf, widthOf, fieldsOf}
 use Rattle.rl_spec.specs.Read.{seenBy}
 use Rattle.rl_spec.specs.Image.{widthsOf, nextAt, endAt}
-use Rattle.rl_laws.specs.Tests.{by-ltb, by-eqb}
+use Rattle.rl_laws.specs.Tests.{not-below, by-eqb}
 use Rattle.rl_images.specs.Reading.Table.{Unmet, unmet-parts}
 use Rattle.rl_images.specs.Reading.Rows.{fieldRows, fieldsRows, recordRows, recordsRows, sectionsRows, lastAt, countsRows, headerRows}
 use Rattle.rl_images.specs.Reading.Causes.{kind-outside}
-
-pub not-below : (a b : ℕ) → (a < b → ⊥) → b ≤ a
-not-below a b h = by-ltb a b (λ l. absurd (h l)) (λ l. l)
 
 -- ---- a record
 

@@ -16,7 +16,7 @@ use Rattle.rl_spec.specs.Runner.{asOutcome, given, valuesOf, ranOf, ranIn, runO
 use Rattle.rl_laws.specs.Steps.{NotSpent}
 use Rattle.rl_images.specs.Reading.Table.{Unmet, unmet-both, unmet-parts}
 use Rattle.rl_images.specs.Reading.Rows.{readRows}
-use Rattle.rl_images.specs.Reading.Whole.{not-below}
+use Rattle.rl_laws.specs.Tests.{not-below}
 use Rattle.rl_theorems.specs.Answers.Tables.{runRows}
 use Rattle.rl_theorems.specs.Answers.OfRunning.{run-accepts}
 use Rattle.rl_theorems.specs.Runs.Budget.{run-fair, run-same, run-spent}

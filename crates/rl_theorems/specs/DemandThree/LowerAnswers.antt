@@ -17,7 +17,7 @@ use Rattle.rl_spec.specs.Lower.{lowered}
 use Rattle.rl_spec.specs.Lowerer.{made, lowerOf}
 use Rattle.rl_images.specs.Reading.Table.{unmet-parts}
 use Rattle.rl_images.specs.Reading.Rows.{readRows}
-use Rattle.rl_images.specs.Reading.Whole.{not-below}
+use Rattle.rl_laws.specs.Tests.{not-below}
 use Rattle.rl_images.specs.Reading.ReadOutcome.{read-accepts}
 use Rattle.rl_images.specs.Reading.Starts.{sizes-are-counts}
 use Rattle.rl_theorems.specs.Answers.Tables.{lowerRows}
