@@ -13,7 +13,8 @@ use Rattle.rl_spec.specs.Schema.{sections}
 use Rattle.rl_spec.specs.Read.{countsOf, answerOf, startsOf}
 use Rattle.rl_spec.specs.Image.{endAt, imageOf, AllBytes, WellFormed}
 use Rattle.rl_spec.specs.Found.{imageFound}
-use Rattle.rl_images.specs.Reading.ReadOutcome.{lastAt, accepted-reads, accepted-header}
+use Rattle.rl_images.specs.Reading.Rows.{lastAt}
+use Rattle.rl_images.specs.Reading.ReadOutcome.{accepted-reads, accepted-header}
 use Rattle.rl_images.specs.Reading.Decode.{accepted-encodes}
 use Rattle.rl_images.specs.Encoding.Accepted.{accepted-well-formed}
 use Rattle.rl_images.specs.Encoding.AcceptedParts.{counts-image, section-next}

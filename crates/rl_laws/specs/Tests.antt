@@ -14,6 +14,9 @@ by-ltb {P} a b f g = go (ltb a b) refl
     go true e = f (ltb-true a b e)
     go false e = g (ltb-false a b e)
 
+pub not-below : (a b : ℕ) → (a < b → ⊥) → b ≤ a
+not-below a b h = by-ltb a b (λ l. absurd (h l)) (λ l. l)
+
 pub and-false : (a : Bool) → a && false ≡ false
 and-false true = refl
 and-false false = refl

@@ -11,7 +11,10 @@ pub mod Values
 pub mod Runs
 -- ---- lowering, on trees and from records to trees
 pub mod Lowering
+-- ---- the order of the checks
+pub mod Answers
 -- ---- both halves of demand 3, from bytes, and the marked cases
 pub mod DemandThree
 -- ---- THE STATEMENTS
 pub mod Theorems
+pub mod MoreTheorems

@@ -1,8 +1,9 @@
--- WHAT IS PROVED of the definitions in rl_spec, stated in one place. The proofs stand in the files that are named at each part.
+-- WHAT IS PROVED of the definitions in rl_spec, stated in one place. The proofs stand in the files that are named at each part; what is
+-- proved on the way, of parts of them, is in MoreTheorems.
 -- Assumes nothing.
 use Prim.Native.Nat.{ℕ, _+_, _-_, _*_, _^_, _≤_, _<_}
 use mathlib.Core.Path.{_≡_}
-use mathlib.Core.Bool.{Bool, true, false}
+use mathlib.Core.Bool.{true, false}
 use mathlib.Core.Option.{some}
 use mathlib.Core.List.{List, [], _++_, map}
 use mathlib.Core.Logic.{_⊎_, _↔_}
@@ -16,48 +17,44 @@ use lib.Ieee.Positive.{den}
 use Rattle.rl_spec.specs.declared.ArenaNo.{ArenaNo}
 use Rattle.rl_spec.specs.declared.Counts.{Counts}
 use Rattle.rl_spec.specs.declared.Cause.{Cause}
-use Rattle.rl_spec.specs.declared.Cause.the-variants.{BytesEnd, BadText, BadReference, TooHigh}
+use Rattle.rl_spec.specs.declared.Cause.the-variants.{BytesEnd, BadText, BadReference, TooHigh, WrongKind, CountOverLimit, BadValue, BytesLeft}
 use Rattle.rl_spec.specs.declared.Answer.the-variants.{Accepted, Refused}
 use Rattle.rl_spec.specs.declared.Section.{Section}
 use Rattle.rl_spec.specs.declared.FoldAnswer.the-variants.{Found}
+use Rattle.rl_spec.specs.declared.ProveAnswer.the-variants.{Proved}
 use Rattle.rl_spec.specs.declared.Arguments.{Arguments}
+use Rattle.rl_spec.specs.declared.Outcome.{Outcome as Ending}
+use Rattle.rl_spec.specs.declared.RunAnswer.the-variants as run
 use Rattle.rl_spec.specs.declared.LowerAnswer.the-variants.{Lowered}
 use Rattle.rl_spec.specs.declared.Section.the-variants.{Expressions, Statements, Functions, Calls}
 use Rattle.rl_spec.specs.declared.Sort.the-variants.{Part}
-use Rattle.rl_spec.specs.declared.Step.the-variants.{Next, Stop}
+use Rattle.rl_spec.specs.declared.Step.the-variants.{Stop}
 use Rattle.rl_spec.specs.Bytes.{u16At}
-use Rattle.rl_spec.specs.Schema.{textBytesAt, countOf, tallest, widthOf, fieldsOf}
+use Rattle.rl_spec.specs.Schema.{textBytesAt, tallest, widthOf, limits, lowest, highest}
 use Rattle.rl_spec.specs.Utf8.{utf8, isScalar, encodeText}
-use Rattle.rl_spec.specs.Fields.{entryAt, fieldsFrom, recordAt}
-use Rattle.rl_spec.specs.Read.{countsOf, answerOf, workOf, startsOf}
-use Rattle.rl_spec.specs.Image.{Image, encode, imageOf, entryOf, textOf, sizeOf, heights, AllBytes, WellFormed}
-use Rattle.rl_spec.specs.Found.{imageFound}
+use Rattle.rl_spec.specs.Fields.{recordAt}
+use Rattle.rl_spec.specs.Read.{countsOf, answerOf, workOf}
+use Rattle.rl_spec.specs.Image.{Image, encode, imageOf, textOf, sizeOf, heights, AllBytes, WellFormed}
 use Rattle.rl_spec.specs.Folded.{asFolded}
-use Rattle.rl_spec.specs.Tree.{Expr, ascii, exprTree}
+use Rattle.rl_spec.specs.Tree.{ascii, exprTree}
 use Rattle.rl_spec.specs.Fold.{constEval, foldOf}
-use Rattle.rl_spec.specs.Prove.{proveCall, callEntries, allEntries, fitting, sliceBy, proveOf, reportsOf, proveAllOf, allReportsOf, violationsOf}
-use Rattle.rl_spec.specs.Statement.{Stmt, Body}
+use Rattle.rl_spec.specs.Prove.{callEntries, allEntries, fitting, sliceBy, proveOf, reportsOf, proveAllOf, allReportsOf, violationsOf}
 use Rattle.rl_spec.specs.Records.{functionAt}
-use Rattle.rl_spec.specs.Contracts.{FnContracts, calleeOf, argumentsOf}
-use Rattle.rl_spec.specs.Mapped.{mapValue, mapExpr, mapStmt, mapBody, mapContracts}
+use Rattle.rl_spec.specs.Contracts.{calleeOf, argumentsOf}
 use Rattle.rl_spec.specs.Functions.{plainFunction, contractFunction}
 use Rattle.rl_spec.specs.Lower.{lowered}
 use Rattle.rl_spec.specs.Lowerer.{made, refused, tooTall, orLimit, lowerOf, lowerAnswer, lowerOut}
 use Rattle.rl_spec.specs.Runner.{allHave, given, isFor, ranIn, runOf}
-use Rattle.rl_spec.specs.Run.{Value, Env, got, used, tick, _>>_, eval}
-use Rattle.rl_spec.specs.Reading.{Check, Function, Mode, repeat, loopTurn, whileTurn, checks, stmt, body, top, runFunction, entering, reading}
+use Rattle.rl_spec.specs.Run.{Value, Env, spent, got, used}
+use Rattle.rl_spec.specs.Reading.{Function, runFunction, entering, reading}
 use Rattle.rl_images.specs.Reading.Utf8 as Utf8
 use Rattle.rl_images.specs.Reading.Decode as Decode
 use Rattle.rl_images.specs.Encoding.Accepted as Well
-use Rattle.rl_theorems.specs.Reading.Access as Access
-use Rattle.rl_images.specs.Reading.Found as Found
 use Rattle.rl_images.specs.Encoding.Encoded as Encoded
 use Rattle.rl_theorems.specs.Reading.EncodedBytes as EncodedBytes
 use Rattle.rl_images.specs.Encoding.ReaderKnows.{counts}
-use Rattle.rl_images.specs.Reading.Starts as Starts
 use Rattle.rl_images.specs.Reading.Places as Places
 use Rattle.rl_images.specs.Reading.ReadOutcome as ReadOutcome
-use Rattle.rl_images.specs.Reading.Causes as Causes
 use Rattle.rl_theorems.specs.Values.Distance.{Same, apart}
 use Rattle.rl_theorems.specs.Values.Nearest as Nearest
 use Rattle.rl_theorems.specs.Reading.EncodedAnswers as EncodedAnswers
@@ -67,9 +64,7 @@ use Rattle.rl_theorems.specs.Lowering.LoweredTo as LoweredTo
 use Rattle.rl_theorems.specs.Lowering.LoweredFunctions as LoweredFunctions
 use Rattle.rl_laws.specs.Steps as Steps
 use Rattle.rl_theorems.specs.Runs.Budget as Budget
-use Rattle.rl_theorems.specs.Runs.Texts as Texts
 use Rattle.rl_theorems.specs.Runs.TextRuns as TextRuns
-use Rattle.rl_theorems.specs.Runs.ProvesTexts as ProvesTexts
 use Rattle.rl_examples.specs.FunctionRows as FunctionRows
 use Rattle.rl_examples.specs.RunnerTable as RunnerTable
 use Rattle.rl_examples.specs.ReadingTable as ReadingTable
@@ -84,12 +79,25 @@ use Rattle.rl_images.specs.Lowering.Grows.{eight-sections}
 use Rattle.rl_images.specs.Lowering.Followed as Followed
 use Rattle.rl_theorems.specs.Images.FunctionReady.{Under}
 use Rattle.rl_theorems.specs.Images.LoweredWellFormed as LoweredWellFormed
-use Rattle.rl_theorems.specs.DemandThree.LowerAnswers as LowerAnswers
 use Rattle.rl_theorems.specs.DemandThree.LoweredBytes as LoweredBytes
 use Rattle.rl_theorems.specs.DemandThree.Demand as Demand
 use Rattle.rl_theorems.specs.DemandThree.OneAfterAnother as OneAfterAnother
 use Rattle.rl_theorems.specs.DemandThree.Marked as Marked
 use Rattle.rl_laws.specs.Heights.{exprHeight}
+use Rattle.rl_spec.specs.declared.Id.{Id}
+use Rattle.rl_spec.specs.declared.Folded.{Folded}
+use Rattle.rl_spec.specs.declared.FoldAnswer.the-variants as fold
+use Rattle.rl_spec.specs.declared.ProveAnswer.the-variants as prove
+use Rattle.rl_spec.specs.declared.Outcome.the-variants.{Spent}
+use Rattle.rl_images.specs.Reading.Table.{First, Unmet}
+use Rattle.rl_images.specs.Reading.Rows.{fieldRows, heightAt, recordRows, sectionsEnd, contentRows, readRows}
+use Rattle.rl_theorems.specs.Reading.Numbers as Numbers
+use Rattle.rl_theorems.specs.Answers.Tables.{lowerRows, foldRows, proveRows, reportsFrom, proveAllRows, runRows}
+use Rattle.rl_theorems.specs.Answers.OfLowering as OfLowering
+use Rattle.rl_theorems.specs.Answers.OfFolding as OfFolding
+use Rattle.rl_theorems.specs.Answers.OfProving as OfProving
+use Rattle.rl_theorems.specs.Answers.OfRunning as OfRunning
+use Rattle.rl_theorems.specs.Answers.AtBudgets as AtBudgets
 
 -- ---- text (Utf8): the syntax of RFC 3629 admits the encodings of scalars and nothing else
 
@@ -137,58 +145,95 @@ encoded-work = Encoded.encoded-work
 pub encoded-bytes : (im : Image) → WellFormed im → AllBytes (encode im)
 encoded-bytes = EncodedBytes.encoded-bytes
 
--- ---- where the records stand (Starts)
+-- ---- CHECKS RUN IN THE TABLE'S ORDER. A table is a list of rows: a cause, its place, and what it says (Table). `First t q p`: the first
+-- row of t that holds is the cause q at p. `Unmet t`: none holds. The reader's table is in Rows, the others in Tables; each stands behind
+-- the reader's. Every refusal is for the first cause that holds, and every other answer is given where none does (ReadOutcome, OfLowering,
+-- OfFolding, OfProving, OfRunning)
 
-module _ (s : List ℕ) (k : ℕ) (a : ArenaNo) (c : Counts) (e : answerOf s k ≡ Accepted a c) where
-  pub sizes-are-counts : (o : Section) → sizeOf (imageOf s) o ≡ countOf c o
-  sizes-are-counts = Starts.sizes-are-counts s k a c e
+module _ (s : List ℕ) (k : ℕ) where
+  -- 1 to 10
+  pub read-refuses : (q : Cause) (p : ℕ) → (answerOf s k ≡ Refused q p) ↔ First (readRows s k) q p
+  read-refuses = ReadOutcome.read-refuses s k
 
-  pub starts-expression : (i : ℕ) → i < c .expressions → Starts.StandsAt s Expressions i (getD (startsOf s k) i 0)
-  starts-expression = Starts.starts-expression s k a c e
+  pub read-accepts : ((a : ArenaNo) × (c : Counts) × (answerOf s k ≡ Accepted a c)) ↔ Unmet (readRows s k)
+  read-accepts = ReadOutcome.read-accepts s k
 
-  pub starts-statement : (i : ℕ) → i < c .statements → Starts.StandsAt s Statements i (getD (startsOf s k) (c .expressions + i) 0)
-  starts-statement = Starts.starts-statement s k a c e
+  -- 11, 12, 13, 14
+  pub lower-refuses : (f room : ℕ) (q : Cause) (p : ℕ) → (lowerOf s k f room ≡ refused q p) ↔ First (readRows s k ++ lowerRows (imageOf s) f room) q p
+  lower-refuses = OfLowering.lower-refuses s k
 
--- ---- where the bytes of a list entry and of a text stand (Access)
+  pub lower-accepts : (f room : ℕ) (im′ : Image) → (lowerOf s k f room ≡ made im′) ↔ (Unmet (readRows s k ++ lowerRows (imageOf s) f room) × (lowered (imageOf s) f ≡ some im′))
+  lower-accepts = OfLowering.lower-accepts s k
 
-module _ (s : List ℕ) (k : ℕ) (a : ArenaNo) (c : Counts) (e : answerOf s k ≡ Accepted a c) where
-  pub entry-of : (n : ℕ) → n < c .lists → entryAt s c n ≡ entryOf (imageOf s) n
-  entry-of = Access.entry-of s k a c e
+  -- 15, 16
+  pub fold-refuses : (id : Id) (q : Cause) (p : ℕ) → (foldOf s k id ≡ fold.Refused q p) ↔ First (readRows s k ++ foldRows (imageOf s) id) q p
+  fold-refuses = OfFolding.fold-refuses s k
 
-  pub text-of : (t : ℕ) → t < c .texts → take (u16At s (textBytesAt + c .bytes + t * 5 + 1 + 2)) (drop (textBytesAt + u16At s (textBytesAt + c .bytes + t * 5 + 1)) s) ≡ textOf (imageOf s) t
-  text-of = Access.text-of s k a c e
+  pub fold-accepts : (id : Id) (v : Folded) → (foldOf s k id ≡ Found v) ↔ (Unmet (readRows s k ++ foldRows (imageOf s) id) × (asFolded (constEval (textOf (imageOf s)) [] (exprTree (imageOf s) (id .node .0))) ≡ v))
+  fold-accepts = OfFolding.fold-accepts s k
 
--- ---- the image that bytes, starts and counts give, of accepted bytes (Found; rl_records has the functions, which answer for all bytes)
+  -- one call: 17, 18
+  pub prove-refuses : (call room : ℕ) (q : Cause) (p : ℕ) → (proveOf s k call room ≡ prove.Refused q p) ↔ First (readRows s k ++ proveRows (imageOf s) call room) q p
+  prove-refuses = OfProving.prove-refuses s k
 
-pub found-is-image : (s : List ℕ) (k : ℕ) (a : ArenaNo) (c : Counts) → answerOf s k ≡ Accepted a c → imageFound s (startsOf s k) c ≡ imageOf s
-found-is-image = Found.found-is-image
+  pub prove-accepts : (call room n : ℕ) → (proveOf s k call room ≡ Proved n) ↔ (Unmet (readRows s k ++ proveRows (imageOf s) call room) × (length (violationsOf (imageOf s) call) ≡ n))
+  prove-accepts = OfProving.prove-accepts s k
 
--- ---- a refusal names a place in the image and a cause that holds (Places, ReadOutcome, Causes)
+  -- all calls: 18
+  pub prove-all-refuses : (room : ℕ) (q : Cause) (p : ℕ) → (proveAllOf s k room ≡ prove.Refused q p) ↔ First (readRows s k ++ proveAllRows (imageOf s) room) q p
+  prove-all-refuses = OfProving.prove-all-refuses s k
+
+  pub prove-all-accepts : (room n : ℕ) → (proveAllOf s k room ≡ Proved n) ↔ (Unmet (readRows s k ++ proveAllRows (imageOf s) room) × (reportsFrom (imageOf s) (sizeOf (imageOf s) Calls) 0 ≡ n))
+  prove-all-accepts = OfProving.prove-all-accepts s k
+
+  -- 11, 19, 20, 21
+  pub run-refuses : (f : ℕ) (args : Arguments) (budget : ℕ) (q : Cause) (p : ℕ) → (runOf s k f args budget ≡ run.Refused q p) ↔ First (readRows s k ++ runRows (imageOf s) f args budget) q p
+  run-refuses = OfRunning.run-refuses s k
+
+  pub run-accepts : (f : ℕ) (args : Arguments) (budget : ℕ) (o : Ending) (n : ℕ) → (runOf s k f args budget ≡ run.Ran o n) ↔ (Unmet (readRows s k ++ runRows (imageOf s) f args budget) × (ranIn (imageOf s) f (given args) budget ≡ run.Ran o n))
+  run-accepts = OfRunning.run-accepts s k
+
+-- ---- what each number of the reader says (Numbers), and where a refusal stands (Places)
 
 pub place-within : (s : List ℕ) (k : ℕ) (q : Cause) (n : ℕ) → answerOf s k ≡ Refused q n → n ≤ length s
 place-within = Places.place-within
 
--- the whole answer: which check refuses, and what stands before it
-pub refused-for : (s : List ℕ) (k : ℕ) (q : Cause) (n : ℕ) → answerOf s k ≡ Refused q n → ReadOutcome.Refusal s k q n
-refused-for = ReadOutcome.refused-for
-
--- what a number means for one record, which starts at `at`: 3, 6, 8, 9
+-- of one record, which starts at `at`
 module _ (s w p : List ℕ) (seen : Counts) (own : Section) (at : ℕ) where
+  pub record-refuses : (q : Cause) (n : ℕ) → (recordAt s w p seen own at ≡ Stop q n) ↔ First (recordRows s w p seen own at) q n
+  record-refuses = Numbers.record-refuses s w p seen own at
+
   -- 3: the kind is past the end, or the j-th field runs past it
-  pub bytes-end : (n : ℕ) → recordAt s w p seen own at ≡ Stop BytesEnd n → ((n ≡ at) × (length s ≤ at)) ⊎ ((j : ℕ) × Causes.FieldAt s at n j × (length s < n + widthOf (Causes.sortAt s at j)))
-  bytes-end = Causes.bytes-end s w p seen own at
+  pub bytes-end : (n : ℕ) → recordAt s w p seen own at ≡ Stop BytesEnd n → ((n ≡ at) × (length s ≤ at)) ⊎ ((j : ℕ) × Numbers.FieldAt s at n j × (length s < n + widthOf (Numbers.sortAt s at j)))
+  bytes-end = Numbers.bytes-end s w p seen own at
+
+  -- 4: the kind is none of the section's
+  pub kind-outside : (n : ℕ) → recordAt s w p seen own at ≡ Stop WrongKind n → (n ≡ at) × ((getD s at 0 < lowest own) ⊎ (highest own < getD s at 0))
+  kind-outside = Numbers.kind-outside s w p seen own at
 
   -- 6: the j-th field is a text outside the text bytes, or not UTF-8
-  pub bad-text : (n : ℕ) → recordAt s w p seen own at ≡ Stop BadText n → (j : ℕ) × Causes.FieldAt s at n j × (Causes.sortAt s at j ≡ Part) × ((seen .bytes < u16At s n + u16At s (n + 2)) ⊎ (utf8 (take (u16At s (n + 2)) (drop (textBytesAt + u16At s n) s)) ≡ false))
-  bad-text = Causes.bad-text s w p seen own at
+  pub bad-text : (n : ℕ) → recordAt s w p seen own at ≡ Stop BadText n → (j : ℕ) × Numbers.FieldAt s at n j × (Numbers.sortAt s at j ≡ Part) × ((seen .bytes < u16At s n + u16At s (n + 2)) ⊎ (utf8 (take (u16At s (n + 2)) (drop (textBytesAt + u16At s n) s)) ≡ false))
+  bad-text = Numbers.bad-text s w p seen own at
+
+  -- 7: the value of the j-th field is outside the set that its sort has (fieldRows)
+  pub bad-value : (n : ℕ) → recordAt s w p seen own at ≡ Stop BadValue n → (j : ℕ) × Numbers.FieldAt s at n j × First (fieldRows s p seen (Numbers.sortAt s at j) n) BadValue n
+  bad-value = Numbers.bad-value s w p seen own at
 
   -- 8: the j-th field has a reference or a list that is not allowed
-  pub bad-reference : (n : ℕ) → recordAt s w p seen own at ≡ Stop BadReference n → (j : ℕ) × Causes.FieldAt s at n j × Causes.Wrong s p seen BadReference (Causes.sortAt s at j) n
-  bad-reference = Causes.bad-reference s w p seen own at
+  pub bad-reference : (n : ℕ) → recordAt s w p seen own at ≡ Stop BadReference n → (j : ℕ) × Numbers.FieldAt s at n j × First (fieldRows s p seen (Numbers.sortAt s at j) n) BadReference n
+  bad-reference = Numbers.bad-reference s w p seen own at
 
-  -- 9: all fields hold, and the height is over the limit
-  pub height-over : (n : ℕ) → recordAt s w p seen own at ≡ Stop TooHigh n → (n ≡ at) × (a : ℕ) × (tall : ℕ) × (fieldsFrom s w p seen own (fieldsOf (getD s at 0)) (at + 1) 0 ≡ Next a tall) × (tallest own ≤ tall)
-  height-over = Causes.height-over s w p seen own at
+  -- 9: the height is over the section's
+  pub height-over : (n : ℕ) → recordAt s w p seen own at ≡ Stop TooHigh n → (n ≡ at) × (tallest own < heightAt s w p seen own at)
+  height-over = Numbers.height-over s w p seen own at
+
+-- 5: the j-th count of the header is over its limit
+pub count-over : (s : List ℕ) (n k : ℕ) → answerOf s k ≡ Refused CountOverLimit n → (j : ℕ) × (j < length limits) × (n ≡ 5 + 2 * j) × (getD limits j 0 < u16At s n)
+count-over = Numbers.count-over
+
+-- 10: all sections are read, and bytes are left behind them
+pub bytes-left : (s : List ℕ) (n k : ℕ) → (answerOf s k ≡ Refused BytesLeft n) ↔ (Unmet (contentRows s k) × (n ≡ sectionsEnd s) × (n < length s))
+bytes-left = Numbers.bytes-left
 
 -- ---- a whole number of 64 bits beside a float becomes a binary64 value, and none is nearer (Nearest). apart i x / den x is the distance
 -- between i and x
@@ -233,88 +278,37 @@ module _ (im : Image) (wf : WellFormed im) (k : ℕ) (long : 8192 ≤ k) where
   pub ran-encoded : (f : ℕ) (args : Arguments) (budget : ℕ) → f < sizeOf im Functions → isFor (args .count) (functionAt im f .params .count) ≡ true → allHave (counts im) (given args) ≡ true → budget ≤ 1000000 → runOf (encode im) k f args budget ≡ ranIn im f (given args) budget
   ran-encoded = EncodedAnswers.ran-encoded im wf k long
 
--- ---- the steps of a run (Steps). Spends: what is left is at most the budget that was given, and nothing where that is spent
+-- ---- the steps of a run (Budget)
 
-module _ {Text : Type 0} (bytes : Text → List ℕ) where
-  pub eval-spends : (e : Expr Text) → Steps.Spends (eval bytes e)
-  eval-spends = Steps.evals bytes
-
-  -- plainly and checked
-  pub stmt-spends : (m : Mode Text) (s : Stmt Text) → Steps.Spends (stmt bytes m s)
-  stmt-spends = Steps.stmts bytes
-
-  pub body-spends : (m : Mode Text) (b : Body Text) → Steps.Spends (body bytes m b)
-  body-spends = Steps.bodies bytes
-
-  pub top-spends : (m : Mode Text) (b : Body Text) → Steps.Spends (top bytes m b)
-  top-spends = Steps.tops bytes
-
+module _ {Text : Type 0} (bytes : Text → List ℕ) (f : Function Text) (vs : List (Value Text)) where
   -- Fair: the steps used are at most the budget, and all of it where that is spent
-  pub run-fair : (f : Function Text) (vs : List (Value Text)) (budget : ℕ) → Steps.Fair budget (used budget (runFunction bytes f vs budget))
-  run-fair = Steps.run-fair bytes
+  pub run-fair : (budget : ℕ) → Budget.Fair budget (used budget (runFunction bytes f vs budget))
+  run-fair = Budget.run-fair bytes f vs
 
-  pub reading-fair : (ret : Text) (f : Function Text) (vs : List (Value Text)) (budget : ℕ) → Steps.Fair budget (used budget (reading bytes ret f vs budget))
-  reading-fair = Steps.reading-fair bytes
+  pub reading-fair : (ret : Text) (budget : ℕ) → Budget.Fair budget (used budget (reading bytes ret f vs budget))
+  reading-fair = Budget.reading-fair bytes f vs
 
-  -- a loop is its unfolding: a step, a turn, and the loop again
-  pub while-unfolds : (m : Mode Text) (e : Expr Text) (b : Body Text) (env : Env Text) (n : ℕ) → repeat (whileTurn bytes e (body bytes m b)) env n ≡ (tick >> whileTurn bytes e (body bytes m b) (repeat (whileTurn bytes e (body bytes m b)))) env n
-  while-unfolds = Steps.while-unfolds bytes
+  -- SPENT EXACTLY WHEN THE NEXT CHARGE WOULD PASS THE BUDGET: where the budget n is not spent, every budget from the steps that it used
+  -- on has the same outcome and steps, and every one below them is spent, all of it
+  pub run-same : (n b : ℕ) → Steps.NotSpent (runFunction bytes f vs n .0) → used n (runFunction bytes f vs n) .1 ≤ b → used b (runFunction bytes f vs b) ≡ used n (runFunction bytes f vs n)
+  run-same = Budget.run-same bytes f vs
 
-  pub loop-unfolds : (m : Mode Text) (b : Body Text) (env : Env Text) (n : ℕ) → repeat (loopTurn (body bytes m b)) env n ≡ (tick >> loopTurn (body bytes m b) (repeat (loopTurn (body bytes m b)))) env n
-  loop-unfolds = Steps.loop-unfolds bytes
+  pub run-spent : (n b : ℕ) → Steps.NotSpent (runFunction bytes f vs n .0) → b < used n (runFunction bytes f vs n) .1 → used b (runFunction bytes f vs b) ≡ (spent, b)
+  run-spent = Budget.run-spent bytes f vs
 
--- ---- a larger budget does not change a run that was not spent (Budget). Steady: where the budget n is not spent, n + k gives the same,
--- and k more is left
+  pub reading-same : (ret : Text) (n b : ℕ) → Steps.NotSpent (reading bytes ret f vs n .0) → used n (reading bytes ret f vs n) .1 ≤ b → used b (reading bytes ret f vs b) ≡ used n (reading bytes ret f vs n)
+  reading-same = Budget.reading-same bytes f vs
 
-module _ {Text : Type 0} (bytes : Text → List ℕ) where
-  pub eval-steady : (e : Expr Text) → Budget.Steady (eval bytes e)
-  eval-steady = Budget.eval-steady bytes
+  pub reading-spent : (ret : Text) (n b : ℕ) → Steps.NotSpent (reading bytes ret f vs n .0) → b < used n (reading bytes ret f vs n) .1 → used b (reading bytes ret f vs b) ≡ (spent, b)
+  reading-spent = Budget.reading-spent bytes f vs
 
-  pub checks-steady : (r : Bool) (cs : List (Check Text)) → Budget.Steady (checks bytes r cs)
-  checks-steady = Budget.checks-steady bytes
+-- what the runner answers with another budget, which is no larger than may be
+module _ (s : List ℕ) (k f : ℕ) (args : Arguments) (n u : ℕ) (o : Ending) (e : runOf s k f args n ≡ run.Ran o u) (ended : o ≡ Spent → ⊥) where
+  pub runner-same : (b : ℕ) → b ≤ 1000000 → u ≤ b → runOf s k f args b ≡ run.Ran o u
+  runner-same = AtBudgets.runner-same s k f args n u o e ended
 
-  -- plainly and checked
-  pub stmt-steady : (m : Mode Text) (s : Stmt Text) → Budget.Steady (stmt bytes m s)
-  stmt-steady = Budget.stmt-steady bytes
-
-  pub body-steady : (m : Mode Text) (b : Body Text) → Budget.Steady (body bytes m b)
-  body-steady = Budget.body-steady bytes
-
-  pub top-steady : (m : Mode Text) (b : Body Text) → Budget.Steady (top bytes m b)
-  top-steady = Budget.top-steady bytes
-
-  -- the same outcome and the same steps used
-  pub run-steady : (f : Function Text) (vs : List (Value Text)) (n k : ℕ) → Steps.NotSpent (runFunction bytes f vs n .0) → used (n + k) (runFunction bytes f vs (n + k)) ≡ used n (runFunction bytes f vs n)
-  run-steady = Budget.run-steady bytes
-
-  pub reading-steady : (ret : Text) (f : Function Text) (vs : List (Value Text)) (n k : ℕ) → Steps.NotSpent (reading bytes ret f vs n .0) → used (n + k) (reading bytes ret f vs (n + k)) ≡ used n (reading bytes ret f vs n)
-  reading-steady = Budget.reading-steady bytes
-
--- ---- another account of the texts that keeps their bytes (Texts, TextRuns): a mapped tree in mapped bindings runs as the tree does, mapped
-
-module _ {A B : Type 0} (f : A → B) (bytesA : A → List ℕ) (bytesB : B → List ℕ) (keeps : (t : A) → bytesB (f t) ≡ bytesA t) where
-  pub eval-mapped : (e : Expr A) (env : Env A) (n : ℕ) → eval bytesB (mapExpr f e) (Texts.mapEnv f env) n ≡ Texts.mapResult f (mapValue f) (eval bytesA e env n)
-  eval-mapped e = Texts.evals f bytesA bytesB keeps e .runs
-
-  -- statements and bodies plainly and checked
-  pub stmt-mapped : (m : Mode A) (s : Stmt A) (env : Env A) (n : ℕ) → stmt bytesB (TextRuns.mapMode f m) (mapStmt f s) (Texts.mapEnv f env) n ≡ Texts.mapResult f Texts.same (stmt bytesA m s env n)
-  stmt-mapped m s = TextRuns.stmts f bytesA bytesB keeps m s .runs
-
-  pub body-mapped : (m : Mode A) (b : Body A) (env : Env A) (n : ℕ) → body bytesB (TextRuns.mapMode f m) (mapBody f b) (Texts.mapEnv f env) n ≡ Texts.mapResult f Texts.same (body bytesA m b env n)
-  body-mapped m b = TextRuns.bodies f bytesA bytesB keeps m b .runs
-
-  pub top-mapped : (m : Mode A) (b : Body A) (env : Env A) (n : ℕ) → top bytesB (TextRuns.mapMode f m) (mapBody f b) (Texts.mapEnv f env) n ≡ Texts.mapResult f (mapValue f) (top bytesA m b env n)
-  top-mapped m b = TextRuns.tops f bytesA bytesB keeps m b .runs
-
-  pub run-mapped : (g : Function A) (vs : List (Value A)) (budget : ℕ) → runFunction bytesB (TextRuns.mapFunction f g) (map (mapValue f) vs) budget ≡ TextRuns.mapEnded f (runFunction bytesA g vs budget)
-  run-mapped = TextRuns.run-mapped f bytesA bytesB keeps
-
-  pub reading-mapped : (ret : A) (g : Function A) (vs : List (Value A)) (budget : ℕ) → reading bytesB (f ret) (TextRuns.mapFunction f g) (map (mapValue f) vs) budget ≡ TextRuns.mapEnded f (reading bytesA ret g vs budget)
-  reading-mapped = TextRuns.reading-mapped f bytesA bytesB keeps
-
-  -- a call with mapped contracts and arguments has the reports that it had (ProvesTexts)
-  pub prove-mapped : (c : FnContracts A) (args : List (Expr A)) → proveCall bytesB (mapContracts f c) (map (mapExpr f) args) ≡ proveCall bytesA c args
-  prove-mapped = ProvesTexts.prove-mapped f bytesA bytesB keeps
+  pub runner-spent : (b : ℕ) → b < u → runOf s k f args b ≡ run.Ran Spent b
+  runner-spent = AtBudgets.runner-spent s k f args n u o e ended
 
 -- ---- closed runs and readings, a row or more for each sentence of 01's "Runner" and "Contract reading" (RunnerTable, ReadingTable;
 -- FunctionRows says what a row is)
@@ -386,10 +380,6 @@ pub reported-never-enters : (im : Image) (call f : ℕ) (vs : List (Value (List 
 reported-never-enters im = FoldsCalls.reported-never-enters im
 
 -- ---- DEMAND 3, from bytes to bytes
-
--- what lowering refuses it refuses for its cause: the reader's, or 11, 12, 13 or 14 (LowerAnswers)
-pub lowering-refused-for : (s : List ℕ) (k f room : ℕ) (q : Cause) (n : ℕ) → lowerOf s k f room ≡ refused q n → LowerAnswers.Refusal s k f room q n
-lowering-refused-for = LowerAnswers.refused-for
 
 module _ (s : List ℕ) (k f room : ℕ) (im′ : Image) (bytes : AllBytes s) (e : lowerOf s k f room ≡ made im′) where
   -- what it makes is well formed, the reader accepts its bytes, it is the original's records followed by the new ones, and it is what the

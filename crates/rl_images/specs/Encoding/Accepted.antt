@@ -24,7 +24,8 @@ use Rattle.rl_spec.specs.Bytes.{past}
 use Rattle.rl_spec.specs.Schema.{textBytesAt, sections, countOf}
 use Rattle.rl_spec.specs.Read.{after, countsOf, headerOf, Out, good, bad, recordsFrom, andThen, sectionsFrom, endOf, bodyOf, mostStarts, readOf, answerBy, answerOf, workOf}
 use Rattle.rl_spec.specs.Image.{Image, recordsOf, sizeOf, recordOf, encode, recordsIn, endAt, imageOf, heights, RecordFits, AllBytes, WellFormed}
-use Rattle.rl_images.specs.Reading.ReadOutcome.{lastAt, sectionsAt, Reads, accepted-reads}
+use Rattle.rl_images.specs.Reading.Rows.{lastAt, sectionsAt}
+use Rattle.rl_images.specs.Reading.ReadOutcome.{Reads, accepted-reads}
 use Rattle.rl_images.specs.Reading.Decode.{accepted-encodes}
 use Rattle.rl_images.specs.Reading.Starts.{sectionAt, section-records, section-size, sizes-are-counts}
 use Rattle.rl_images.specs.Encoding.FieldWidths.{Bounded}

@@ -16,7 +16,9 @@ use Rattle.rl_spec.specs.Schema.{limits, textBytesAt, sections, countOf, sortOf
 use Rattle.rl_spec.specs.Fields.{listsAt}
 use Rattle.rl_spec.specs.Read.{countsOf, answerOf}
 use Rattle.rl_spec.specs.Image.{Rec, Image, recordsOf, recordOf, fieldOf, first, entryOf, encodeRecords, fieldsAt, recordIn, endAt, sectionsIn, imageOf, AllBytes, AllWithin}
-use Rattle.rl_images.specs.Reading.ReadOutcome.{lastAt, sectionsAt, CountsIn, Reads, accepted-reads, accepted-header}
+use Rattle.rl_images.specs.Reading.Rows.{lastAt, sectionsAt}
+use Rattle.rl_images.specs.Reading.Whole.{CountsIn}
+use Rattle.rl_images.specs.Reading.ReadOutcome.{Reads, accepted-reads, accepted-header}
 use Rattle.rl_images.specs.Reading.Decode.{last-after, end-after, records-length, CountsAt, header-counts, records-bytes, text-bytes, text-length}
 use Rattle.rl_images.specs.Reading.Starts.{sectionAt, section-records, section-size, stands-entry}
 use Rattle.rl_images.specs.Images.SchemaSorts.{kind-range}
@@ -99,19 +101,19 @@ module _ (s : List ℕ) (bytes : AllBytes s) {p : List ℕ} (r : Reads s p) wher
   section-bytes : (o : Section) → encodeRecords (recordsOf (imageOf s) o) ++ drop (endAt s (countOf (countsOf s) o) (sectionAt s o)) s ≡ drop (sectionAt s o) s
   section-bytes o =
       rw section-records
-      (records-bytes s bytes (countOf (countsOf s) o) (sectionAt s o) (omega (arith, section-ends o, r .body .ends)))
+      (records-bytes s bytes (countOf (countsOf s) o) (sectionAt s o) (omega (arith, section-ends o, r .ends)))
 
   pub section-stands : (o : Section) → BytesAt s (sectionAt s o) (encodeRecords (recordsOf (imageOf s) o))
   section-stands o =
       split-stands s _ _ (sectionAt s o)
-      (omega (arith, section-ends o, r .body .ends, end-after s (countOf (countsOf s) o) (sectionAt s o))) (section-bytes o)
+      (omega (arith, section-ends o, r .ends, end-after s (countOf (countsOf s) o) (sectionAt s o))) (section-bytes o)
 
   pub section-next : (o : Section) → sectionAt s o + length (encodeRecords (recordsOf (imageOf s) o)) ≡ endAt s (countOf (countsOf s) o) (sectionAt s o)
   section-next o =
       omega (
         arith,
         section-ends o,
-        r .body .ends,
+        r .ends,
         end-after s (countOf (countsOf s) o) (sectionAt s o),
         simp (length-append, length-drop) at (ap length (section-bytes o)),
       )

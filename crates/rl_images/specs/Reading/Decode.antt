@@ -19,7 +19,8 @@ use Rattle.rl_spec.specs.Bytes.{numAt, u16At}
 use Rattle.rl_spec.specs.Schema.{textBytesAt, sections, countOf, sortOf, widthOf, fieldsOf}
 use Rattle.rl_spec.specs.Read.{countsOf, answerOf}
 use Rattle.rl_spec.specs.Image.{num, pair, bytesOf, encodeField, encodeFields, encodeRecord, encodeRecords, encodeSections, encodeCounts, encode, isPair, fieldIn, fieldsAt, widthsOf, recordIn, nextAt, recordsIn, endAt, sectionsIn, imageOf, AllBytes}
-use Rattle.rl_images.specs.Reading.ReadOutcome.{lastAt, sectionsAt, Reads, accepted-reads}
+use Rattle.rl_images.specs.Reading.Rows.{lastAt, sectionsAt}
+use Rattle.rl_images.specs.Reading.ReadOutcome.{Reads, accepted-reads}
 use Rattle.rl_images.specs.Encoding.BytesAt.{u16-number, u32-number}
 
 -- ---- where records and sections end is not before they start
@@ -150,7 +151,7 @@ module _ (s : List ℕ) (bytes : AllBytes s) where
       let c : Counts = countsOf s in
       let at : ℕ = sectionsAt s in
       let l : textBytesAt ≤ length s = r .header .inside in
-      let f : encodeSections (sectionsIn s c sections at) ≡ drop at s = sections-rest c sections at (r .body .ends) in
+      let f : encodeSections (sectionsIn s c sections at) ≡ drop at s = sections-rest c sections at (r .ends) in
       let n : encodeCounts (sectionsIn s c sections at) ++ drop textBytesAt s ≡ drop 7 s =
       counts-bytes c sections at 7 (header-counts s) l in
       simp append-assoc

@@ -20,8 +20,9 @@ use Rattle.rl_spec.specs.Read.{countsOf, keep, mostStarts, answerOf, startsOf}
 use Rattle.rl_spec.specs.Image.{orderOf, recordsOf, sizeOf, noRecord, recordOf, widthsOf, recordIn, nextAt, recordsIn, endAt, sectionsIn, imageOf}
 use Rattle.rl_images.specs.Reading.Filled.{two-filled}
 use Rattle.rl_images.specs.Images.SchemaSorts.{kind-range}
-use Rattle.rl_images.specs.Reading.Causes.{Whole}
-use Rattle.rl_images.specs.Reading.ReadOutcome.{Records, Sections, lastAt, startsFrom, startsIn, sectionsAt, Reads, accepted-reads, accepted-header}
+use Rattle.rl_images.specs.Reading.Rows.{startsFrom, startsIn, lastAt, sectionsAt}
+use Rattle.rl_images.specs.Reading.Whole.{Whole, Records, Sections}
+use Rattle.rl_images.specs.Reading.ReadOutcome.{Reads, accepted-reads, accepted-header}
 use Rattle.rl_images.specs.Reading.Decode.{records-length}
 
 -- ---- the records of a section
@@ -84,7 +85,7 @@ module _ (s : List ℕ) {p : List ℕ} (r : Reads s p) where
   stands : (o : Section) (i : ℕ) → i < countOf (countsOf s) o → StandsAt s o i (endAt s i (sectionAt s o))
   stands o i h =
       let n : ℕ = countOf (countsOf s) o in
-      stands-whole s o i (endAt s i (sectionAt s o)) (record-whole s o n (sectionAt s o) i h (section-whole s o (r .body .found)))
+      stands-whole s o i (endAt s i (sectionAt s o)) (record-whole s o n (sectionAt s o) i h (section-whole s o (r .found)))
       (rw section-records (sym (record-get s n (sectionAt s o) i h)))
 
 -- ---- the starts that the reader leaves
@@ -162,7 +163,7 @@ module _ (s : List ℕ) {p : List ℕ} (r : Reads s p) where
 
   starts-are : p ≡ placesOf s Expressions ++ (placesOf s Statements ++ replicate (mostStarts - (countsOf s .expressions + countsOf s .statements)) 0)
   starts-are =
-      r .body .kept
+      r .kept
       ∙ starts-in (replicate mostStarts 0)
       ∙ two-filled mostStarts (placesOf s Expressions) (placesOf s Statements) (countsOf s .expressions) (countsOf s .statements)
       (length-places s Expressions) (length-places s Statements) few
@@ -201,7 +202,7 @@ even-end s o e (suc n) at r (suc i) l =
 
 module _ (s : List ℕ) {p : List ℕ} (r : Reads s p) (o : Section) (e : lowest o ≡ highest o) where
   section-end : (i : ℕ) → i ≤ countOf (countsOf s) o → endAt s i (sectionAt s o) ≡ sectionAt s o + i * widthIn o
-  section-end i h = even-end s o e (countOf (countsOf s) o) (sectionAt s o) (section-whole s o (r .body .found)) i h
+  section-end i h = even-end s o e (countOf (countsOf s) o) (sectionAt s o) (section-whole s o (r .found)) i h
 
   stands-even : (i : ℕ) → i < countOf (countsOf s) o → StandsAt s o i (sectionAt s o + i * widthIn o)
   stands-even i h = rw (section-end i (omega arith)) at (stands s r o i h)
@@ -254,7 +255,7 @@ module _ (s : List ℕ) (k : ℕ) (a : ArenaNo) (c : Counts) (e : answerOf s k �
             parameters = sym (ends Parameters refl);
             clauses = sym (ends Clauses refl);
             functions = sym (ends Functions refl);
-            calls = sym (r .body .ends ∙ ends Calls refl);
+            calls = sym (r .ends ∙ ends Calls refl);
           }
 
   -- THEOREM: a text takes 5 bytes, a list entry 3

@@ -50,7 +50,7 @@ use Rattle.rl_spec.specs.Lower.{lowered}
 use Rattle.rl_spec.specs.Lowerer.{made, anyOver, tooTall, orLimit, lowerOf}
 use Rattle.rl_images.specs.Encoding.ReaderKnows.{counts}
 use Rattle.rl_theorems.specs.Reading.EncodedAnswers.{lowered-encoded, ran-encoded, proved-encoded, reports-encoded, all-proved-encoded, all-reports-encoded, fitting-room, slice-room, areBytes, well-formed-by, folded-longer}
-use Rattle.rl_theorems.specs.Runs.Budget.{run-steady, reading-steady}
+use Rattle.rl_theorems.specs.Runs.Budget.{run-same, reading-same}
 use Rattle.rl_examples.specs.LowerExamples.{requires-identifier, requires-lowered, case10-whole, returns-ok, returns-lowered, case11-whole, lowering}
 use Rattle.rl_examples.specs.MarkedImages.{integer, uint, byte, string, bool, float, binary, unary, grouping, plus, minus, slash, compare, less, textBytes, textRecords, nodes, lastNode, named-before, named-behind, returns-true, flow}
 
@@ -210,24 +210,17 @@ lowered-well-formed : WellFormed returns-true-lowered
 unfolding decoding lowering
 lowered-well-formed = well-formed returns-true-lowered refl refl refl
 
--- a law of every sum with 9 is one of every number from 9 on
-from-nine : {A : Type 0} (f : ℕ → A) (a : A) → ((k : ℕ) → f (9 + k) ≡ a) → (n : ℕ) → 9 ≤ n → f n ≡ a
-from-nine f a h n l = subst (λ m. f m ≡ a) (omega (arith, l)) (h (n - 9))
-
 runs-14 : (budget : ℕ) → 9 ≤ budget → ranIn returns-true-lowered 0 [] budget ≡ Ran (Returned (Bare (Const (Truth true)))) 9
 unfolding decoding folding proving running lowering ranIn
-runs-14 =
-    from-nine (ranIn returns-true-lowered 0 []) _
-    (λ k. ap ranOf (run-steady (textOf returns-true-lowered) (plainFunction returns-true-lowered 0) [] 9 k tt))
+runs-14 budget enough =
+    ap ranOf (run-same (textOf returns-true-lowered) (plainFunction returns-true-lowered 0) [] 9 budget tt enough)
 
 ends-14 : EndsSo returns-true 0 (Returned (Bare (Const (Truth true)))) 9
 unfolding decoding folding proving running lowering allHave
 ends-14 =
     record {
       image = refl;
-      reads =
-          from-nine (readingIn returns-true 0 []) _
-          (λ k. reading-steady (λ t. t) (ascii "ret") (contractFunction returns-true 0) [] 9 k tt);
+      reads = λ budget enough. reading-same (λ t. t) (contractFunction returns-true 0) [] (ascii "ret") 9 budget tt enough;
       lowered = returns-true-lowered;
       answer = answer-14;
       runs = λ k budget args long without enough taken.
