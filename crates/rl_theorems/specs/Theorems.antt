@@ -42,7 +42,7 @@ use Rattle.rl_spec.specs.Prove.{callEntries, allEntries, fitting, sliceBy, prov
 use Rattle.rl_spec.specs.Records.{functionAt}
 use Rattle.rl_spec.specs.Contracts.{calleeOf, argumentsOf}
 use Rattle.rl_spec.specs.Functions.{plainFunction, contractFunction}
-use Rattle.rl_spec.specs.Lower.{lowered}
+use Rattle.rl_spec.specs.Lower.{lowered, unlimited}
 use Rattle.rl_spec.specs.Lowerer.{made, refused, tooTall, orLimit, lowerOf, lowerAnswer, lowerOut}
 use Rattle.rl_spec.specs.Runner.{allHave, given, isFor, ranIn, runOf}
 use Rattle.rl_spec.specs.Run.{Value, Env, spent, got, used}
@@ -61,6 +61,7 @@ use Rattle.rl_theorems.specs.Reading.EncodedAnswers as EncodedAnswers
 use Rattle.rl_theorems.specs.Lowering.LowerBodies as LowerBodies
 use Rattle.rl_theorems.specs.Lowering.LowerFrame as LowerFrame
 use Rattle.rl_theorems.specs.Lowering.LoweredTo as LoweredTo
+use Rattle.rl_theorems.specs.Lowering.LimitPassed as LimitPassed
 use Rattle.rl_theorems.specs.Lowering.LoweredFunctions as LoweredFunctions
 use Rattle.rl_laws.specs.Steps as Steps
 use Rattle.rl_theorems.specs.Runs.Budget as Budget
@@ -93,7 +94,7 @@ use Rattle.rl_images.specs.Reading.Table.{First, Unmet}
 use Rattle.rl_images.specs.Reading.Rows.{fieldRows, heightAt, recordRows, sectionsEnd, contentRows, readRows}
 use Rattle.rl_theorems.specs.Reading.Numbers as Numbers
 use Rattle.rl_theorems.specs.Answers.Tables.{lowerRows, foldRows, proveRows, reportsFrom, proveAllRows, runRows}
-use Rattle.rl_theorems.specs.Answers.OfLowering as OfLowering
+use Rattle.rl_theorems.specs.Answers.OfLimits as OfLimits
 use Rattle.rl_theorems.specs.Answers.OfFolding as OfFolding
 use Rattle.rl_theorems.specs.Answers.OfProving as OfProving
 use Rattle.rl_theorems.specs.Answers.OfRunning as OfRunning
@@ -147,7 +148,7 @@ encoded-bytes = EncodedBytes.encoded-bytes
 
 -- ---- CHECKS RUN IN THE TABLE'S ORDER. A table is a list of rows: a cause, its place, and what it says (Table). `First t q p`: the first
 -- row of t that holds is the cause q at p. `Unmet t`: none holds. The reader's table is in Rows, the others in Tables; each stands behind
--- the reader's. Every refusal is for the first cause that holds, and every other answer is given where none does (ReadOutcome, OfLowering,
+-- the reader's. Every refusal is for the first cause that holds, and every other answer is given where none does (ReadOutcome, OfLimits,
 -- OfFolding, OfProving, OfRunning)
 
 module _ (s : List ℕ) (k : ℕ) where
@@ -159,11 +160,12 @@ module _ (s : List ℕ) (k : ℕ) where
   read-accepts = ReadOutcome.read-accepts s k
 
   -- 11, 12, 13, 14
-  pub lower-refuses : (f room : ℕ) (q : Cause) (p : ℕ) → (lowerOf s k f room ≡ refused q p) ↔ First (readRows s k ++ lowerRows (imageOf s) f room) q p
-  lower-refuses = OfLowering.lower-refuses s k
+  pub lower-refuses : AllBytes s → (f room : ℕ) (q : Cause) (p : ℕ) → (lowerOf s k f room ≡ refused q p) ↔ First (readRows s k ++ lowerRows (imageOf s) f room) q p
+  lower-refuses bytes f room = OfLimits.lower-refuses s k f room bytes
 
-  pub lower-accepts : (f room : ℕ) (im′ : Image) → (lowerOf s k f room ≡ made im′) ↔ (Unmet (readRows s k ++ lowerRows (imageOf s) f room) × (lowered (imageOf s) f ≡ some im′))
-  lower-accepts = OfLowering.lower-accepts s k
+  -- the image that lowering without limits makes
+  pub lower-accepts : AllBytes s → (f room : ℕ) (im′ : Image) → (lowerOf s k f room ≡ made im′) ↔ (Unmet (readRows s k ++ lowerRows (imageOf s) f room) × (unlimited (imageOf s) f ≡ some im′))
+  lower-accepts bytes f room = OfLimits.lower-accepts s k f room bytes
 
   -- 15, 16
   pub fold-refuses : (id : Id) (q : Cause) (p : ℕ) → (foldOf s k id ≡ fold.Refused q p) ↔ First (readRows s k ++ foldRows (imageOf s) id) q p
@@ -340,6 +342,12 @@ module _ (im im′ : Image) (f : ℕ) (wf : WellFormed im) (there : f < sizeOf i
 
   pub lowered-accepted : (k : ℕ) → 8192 ≤ k → (answerOf (encode im′) k ≡ Accepted (record { 0 = im′ .arena }) (counts im′)) × (imageOf (encode im′) ≡ im′)
   lowered-accepted k = LoweredWellFormed.lowered-accepted im im′ f k wf there low lower e
+
+-- ---- 14 is for limits alone: without limits there is an image; where it passes one, nothing is made under limits, and else that image
+-- (LimitPassed)
+
+pub limits-alone : (im : Image) (f : ℕ) → WellFormed im → f < sizeOf im Functions → Under 64 (heights im Expressions) → Under 32 (heights im Statements) → (x : Image) × (unlimited im f ≡ some x) × LimitPassed.Answers x (lowered im f)
+limits-alone = LimitPassed.limits-alone
 
 -- ---- on records, the function of a lowered image, its texts as bytes, is what the function's tree is lowered to, and so its plain run is the
 -- contract reading (LoweredFunctions; LoweredTo says when a tree is lowered to another, whatever the temporaries are called;

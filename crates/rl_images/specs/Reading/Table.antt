@@ -65,6 +65,24 @@ by-parts [] u q p f g x = g tt x
 by-parts (r ∷ t) u q p f g (inl x) = f (inl x)
 by-parts (r ∷ t) u q p f g (inr x) = by-parts t u q p (λ y. f (inr (x .0, y))) (λ a y. g (x .0, a) y) (x .1)
 
+-- ---- the last row may be said otherwise where none before it holds
+
+module _ (t u : List Row) {P Q : Type 0} (c : Cause) (d : ℕ) (same : Unmet t → Unmet u → P → Q) where
+  at-last : (q : Cause) (p : ℕ) → Unmet t → Unmet u → First (row c d P ∷ []) q p → First (t ++ (u ++ row c d Q ∷ [])) q p
+  at-last q p a b (inl x) = first-behind t _ q p a (first-behind u _ q p b (inl (same a b (x .0), x .1, x .2)))
+  at-last q p a b (inr x) = absurd (x .1)
+
+  pub first-last : (q : Cause) (p : ℕ) → First (t ++ (u ++ row c d P ∷ [])) q p → First (t ++ (u ++ row c d Q ∷ [])) q p
+  first-last q p =
+      by-parts t (u ++ row c d P ∷ []) q p (first-front t _ q p) λ a.
+      by-parts u (row c d P ∷ []) q p (λ x. first-behind t _ q p a (first-front u _ q p x)) (at-last q p a)
+
+  pub unmet-last : Unmet (t ++ (u ++ row c d Q ∷ [])) → Unmet (t ++ (u ++ row c d P ∷ []))
+  unmet-last h =
+      let a = unmet-parts t (u ++ row c d Q ∷ []) h in
+      let b = unmet-parts u (row c d Q ∷ []) (a .1) in
+      unmet-both t _ (a .0) (unmet-both u _ (b .0) (λ x. b .1 .0 (same (a .0) (b .0) x), tt))
+
 -- ---- an answer by a table: it refuses for the first cause that holds, and where none does it is this
 
 pub data By {A : Type 0} (refused : Cause → ℕ → A) (t : List Row) (answer : A) : A → Type 0 where

@@ -1,4 +1,4 @@
--- What lowering answers: by the reader's table, then 11, 12, 13 and 14.
+-- What lowering answers: by the reader's table, then 11, 12, 13, and 14 where nothing is made (OfLimits says when that is).
 -- Assumes nothing.
 use Prim.Native.Nat.{ℕ, zero, suc, _<_}
 use mathlib.Core.Path.{_≡_, refl, sym, ap}
@@ -16,10 +16,10 @@ use Rattle.rl_spec.specs.declared.Section.the-variants.{Expressions, Statements
 use Rattle.rl_spec.specs.Image.{Image, heights, imageOf}
 use Rattle.rl_spec.specs.Lower.{lowered}
 use Rattle.rl_spec.specs.Lowerer.{made, refused, anyOver, tooTall, orLimit, lowerBy, lowerOf}
-use Rattle.rl_images.specs.Reading.Table.{row, Unmet, First, unmet-parts, By, refuses, accepts, checks, refuses-exactly, accepts-exactly}
+use Rattle.rl_images.specs.Reading.Table.{Row, row, Unmet, First, unmet-parts, By, refuses, accepts, checks, refuses-exactly, accepts-exactly}
 use Rattle.rl_images.specs.Reading.Rows.{readRows}
 use Rattle.rl_images.specs.Reading.Starts.{sizes-are-counts}
-use Rattle.rl_theorems.specs.Answers.Tables.{HeightOver, lowerRows}
+use Rattle.rl_theorems.specs.Answers.Tables.{HeightOver, lowerChecks}
 use Rattle.rl_theorems.specs.Answers.AfterReading.{after-reading}
 
 -- ---- 12
@@ -57,6 +57,10 @@ tall-under im e (inr x) = none-over 32 (heights im Statements) (neither (anyOver
 
 -- ---- the answer
 
+-- 11, 12, 13, and nothing is made
+abbrev pub makingRows : Image → ℕ → ℕ → List Row
+makingRows im f room = lowerChecks im f room ++ row LimitPassed 0 (lowered im f ≡ none) ∷ []
+
 differ : {im : Image} {q : Cause} {p : ℕ} → made im ≡ refused q p → ⊥
 differ e = let z : _≡_ {A = ℕ} 0 1 = cc in omega arith
 
@@ -78,10 +82,10 @@ gives (some x) im e = let y : x ≡ im = cc in ap some y
 
 module _ (s : List ℕ) (k f room : ℕ) where
   -- THEOREM
-  pub lower-by : By refused (readRows s k ++ lowerRows (imageOf s) f room) (orLimit (lowered (imageOf s) f)) (lowerOf s k f room)
+  pub making-by : By refused (readRows s k ++ makingRows (imageOf s) f room) (orLimit (lowered (imageOf s) f)) (lowerOf s k f room)
   unfolding lowerOf
-  lower-by =
-      after-reading s k (lowerRows (imageOf s) f room) (lowerBy s f room) (λ q n. refl) λ a c e.
+  making-by =
+      after-reading s k (makingRows (imageOf s) f room) (lowerBy s f room) (λ q n. refl) λ a c e.
       let functions = sizes-are-counts s k a c e Functions in
       checks (not (ltb f (c .functions))) (λ d. omega (arith, functions, ltb-false f (c .functions) (not-true _ d)))
       (λ d h. omega (arith, functions, ltb-true f (c .functions) (not-false _ d), h))
@@ -89,12 +93,12 @@ module _ (s : List ℕ) (k f room : ℕ) where
       (checks (ltb room 65535) (ltb-true room 65535) (λ d h. omega (arith, ltb-false room 65535 d, h)) (limit-by (lowered (imageOf s) f))))
 
   -- THEOREMS: so
-  pub lower-refuses : (q : Cause) (p : ℕ) → (lowerOf s k f room ≡ refused q p) ↔ First (readRows s k ++ lowerRows (imageOf s) f room) q p
-  lower-refuses =
+  pub making-refuses : (q : Cause) (p : ℕ) → (lowerOf s k f room ≡ refused q p) ↔ First (readRows s k ++ makingRows (imageOf s) f room) q p
+  making-refuses =
       refuses-exactly (λ q q′ p p′ e. (cc, cc))
-      (λ u q p. no-limit (lowered (imageOf s) f) q p (unmet-parts (readRows s k) (lowerRows (imageOf s) f room) u .1 .1 .1 .1 .0)) lower-by
+      (λ u q p. no-limit (lowered (imageOf s) f) q p (unmet-parts (readRows s k) (makingRows (imageOf s) f room) u .1 .1 .1 .1 .0)) making-by
 
-  pub lower-accepts : (im′ : Image) → (lowerOf s k f room ≡ made im′) ↔ (Unmet (readRows s k ++ lowerRows (imageOf s) f room) × (lowered (imageOf s) f ≡ some im′))
-  lower-accepts im′ =
-      let x = accepts-exactly (made im′) (λ q p e. differ (sym e)) lower-by in
+  pub making-accepts : (im′ : Image) → (lowerOf s k f room ≡ made im′) ↔ (Unmet (readRows s k ++ makingRows (imageOf s) f room) × (lowered (imageOf s) f ≡ some im′))
+  making-accepts im′ =
+      let x = accepts-exactly (made im′) (λ q p e. differ (sym e)) making-by in
       (λ e. (x .0 e .0, gives (lowered (imageOf s) f) im′ (x .0 e .1)), λ y. x .1 (y .0, ap orLimit (y .1)))

@@ -2,22 +2,24 @@
 -- the bytes stand for.
 use Prim.Native.Nat.{ℕ, zero, suc, _+_, _*_, _≤_, _<_}
 use mathlib.Core.Path.{_≡_}
-use mathlib.Core.List.{List, [], _∷_}
+use mathlib.Core.List.{List, [], _∷_, _++_}
 use mathlib.Core.Logic.{_⊎_, _≢_}
-use mathlib.Core.Option.{none}
+use mathlib.Core.Option.{some}
 use lib.ListN.{length, getD}
 use Rattle.rl_spec.specs.declared.Id.{Id}
 use Rattle.rl_spec.specs.declared.Cause.the-variants.{NoSuchFunction, HeightOverLimit, OutputTooShort, LimitPassed, OtherArena, NoSuchNode, NoSuchCall, ReportsTooShort, WrongValues, NoSuchText, BudgetOverLimit}
+use Rattle.rl_spec.specs.declared.Section.{Section}
 use Rattle.rl_spec.specs.declared.Section.the-variants.{Texts, Expressions, Statements, Functions, Calls}
 use Rattle.rl_spec.specs.declared.ConstVal.the-variants.{Str}
 use Rattle.rl_spec.specs.declared.Plain.the-variants.{Null, Const}
 use Rattle.rl_spec.specs.declared.Value.the-variants.{Plain}
 use Rattle.rl_spec.specs.declared.Argument.{Argument}
 use Rattle.rl_spec.specs.declared.Arguments.{Arguments}
-use Rattle.rl_spec.specs.Image.{Image, sizeOf, heights}
+use Rattle.rl_spec.specs.Image.{Image, sizeOf, heights, encode}
 use Rattle.rl_spec.specs.Records.{functionAt}
 use Rattle.rl_spec.specs.Prove.{violationsOf}
-use Rattle.rl_spec.specs.Lower.{lowered}
+use Rattle.rl_spec.specs.Make.{most, mostBytes}
+use Rattle.rl_spec.specs.Lower.{unlimited}
 use Rattle.rl_spec.specs.Runner.{given, contentOf}
 use Rattle.rl_images.specs.Reading.Table.{Row, row}
 
@@ -27,17 +29,19 @@ use Rattle.rl_images.specs.Reading.Table.{Row, row}
 abbrev pub HeightOver : Image → Type 0
 HeightOver im = ((i : ℕ) × (64 < getD (heights im Expressions) i 0)) ⊎ ((i : ℕ) × (32 < getD (heights im Statements) i 0))
 
--- a limit would be passed
-abbrev pub PastLimit : Image → ℕ → Type 0
-PastLimit im f = lowered im f ≡ none
+-- 11, 12, 13
+abbrev pub lowerChecks : Image → ℕ → ℕ → List Row
+lowerChecks im f room =
+    row NoSuchFunction 0 (sizeOf im Functions ≤ f) ∷ row HeightOverLimit 0 (HeightOver im) ∷ row OutputTooShort 0 (room < 65535) ∷ []
 
--- 11, 12, 13, 14
+-- the text bytes or a section are over their limit, or there are more than 65,535 bytes
+abbrev pub Passes : Image → Type 0
+Passes im = (mostBytes < length (im .bytes)) ⊎ (((o : Section) × (most o < sizeOf im o)) ⊎ (65535 < length (encode im)))
+
+-- 11, 12, 13, and 14: the image that lowering without limits makes passes a limit
 abbrev pub lowerRows : Image → ℕ → ℕ → List Row
 lowerRows im f room =
-    row NoSuchFunction 0 (sizeOf im Functions ≤ f)
-    ∷ row HeightOverLimit 0 (HeightOver im)
-    ∷ row OutputTooShort 0 (room < 65535)
-    ∷ row LimitPassed 0 (PastLimit im f) ∷ []
+    lowerChecks im f room ++ row LimitPassed 0 ((im′ : Image) × (unlimited im f ≡ some im′) × Passes im′) ∷ []
 
 -- ---- folding a node by its id: 15, 16
 

@@ -20,11 +20,10 @@ use Rattle.rl_images.specs.Reading.Rows.{readRows}
 use Rattle.rl_laws.specs.Tests.{not-below}
 use Rattle.rl_images.specs.Reading.ReadOutcome.{read-accepts}
 use Rattle.rl_images.specs.Reading.Starts.{sizes-are-counts}
-use Rattle.rl_theorems.specs.Answers.Tables.{lowerRows}
-use Rattle.rl_theorems.specs.Answers.OfLowering.{lower-accepts}
+use Rattle.rl_theorems.specs.Answers.OfLowering.{makingRows, making-accepts}
 use Rattle.rl_theorems.specs.Images.FunctionReady.{Under}
 
-under : (most : ℕ) (hs : List ℕ) → ((i : ℕ) → most < getD hs i 0 → ⊥) → Under most hs
+pub under : (most : ℕ) (hs : List ℕ) → ((i : ℕ) → most < getD hs i 0 → ⊥) → Under most hs
 under most [] h = tt
 under most (x ∷ hs) h = (not-below most x (h 0), under most hs (λ i. h (suc i)))
 
@@ -42,8 +41,8 @@ module _ (s : List ℕ) (k f room : ℕ) where
   -- THEOREM
   pub made-for : (im′ : Image) → lowerOf s k f room ≡ made im′ → Made im′
   made-for im′ e =
-      let x = lower-accepts s k f room im′ .0 e in
-      let u = unmet-parts (readRows s k) (lowerRows (imageOf s) f room) (x .0) in
+      let x = making-accepts s k f room im′ .0 e in
+      let u = unmet-parts (readRows s k) (makingRows (imageOf s) f room) (x .0) in
       let r = read-accepts s k .1 (u .0) in
       record {
         arena = r .0;

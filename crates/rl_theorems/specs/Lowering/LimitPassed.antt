@@ -6,7 +6,7 @@ use mathlib.Core.Path.{_≡_, refl, sym, ap, _∙_, subst}
 use mathlib.Core.Bool.{Bool, true, false, not, cond}
 use mathlib.Core.List.{List}
 use mathlib.Core.Option.{Option, none, some}
-use mathlib.Core.Logic.{_⊎_, inl, inr}
+use mathlib.Core.Logic.{inl, inr}
 use native.Mathlib.Omega.{arith}
 use lib.Dec.{ltb}
 use lib.ListN.{length, length-set}
@@ -23,20 +23,17 @@ use Rattle.rl_images.specs.Lowering.Grows.{Eight, eight-sections, records-own, 
 use Rattle.rl_images.specs.Lowering.GrowsTo.{eight-later}
 use Rattle.rl_images.specs.Lowering.Adds.{Over, Tracks, alike, passed, freed}
 use Rattle.rl_images.specs.Lowering.AddsLower.{adds-new-body}
+use Rattle.rl_theorems.specs.Answers.Tables.{Passes}
 use Rattle.rl_theorems.specs.Images.FunctionReady.{Under}
 use Rattle.rl_theorems.specs.Images.SoundImages.{same-order}
 use Rattle.rl_theorems.specs.Images.LoweredWellFormed.{lowered-well-formed}
 
--- a section or the text bytes are over their limit, or there are more than 65,535 bytes
-abbrev pub Passes : Image → Type 0
-Passes im = Over im ⊎ (65535 < length (encode im))
-
 -- a well-formed image passes no limit
 none-passed : (im : Image) → WellFormed im → Passes im → ⊥
 unfolding limits
-none-passed im wf (inl (inl h)) = omega (arith, h, wf .counts .0)
-none-passed im wf (inl (inr h)) = omega (arith, h .1, size-within im (wf .counts) (h .0))
-none-passed im wf (inr h) = omega (arith, h, wf .size)
+none-passed im wf (inl h) = omega (arith, h, wf .counts .0)
+none-passed im wf (inr (inl h)) = omega (arith, h .1, size-within im (wf .counts) (h .0))
+none-passed im wf (inr (inr h)) = omega (arith, h, wf .size)
 
 -- what lowering makes of an image that is made without limits
 pub data Answers (im : Image) : Option Image → Type 0 where
@@ -51,9 +48,9 @@ body-size im f list e o =
     (λ d. rw (same-order Functions o d, records-own im Functions _ e) (length-set (recordsOf im Functions) f _))
     (λ n. ap length (records-other im Functions o _ (λ d. n (sym d))))
 
-body-over : (im : Image) (f : ℕ) (list : Field) → Eight im → Over im → Over (withBody im f list)
+body-over : (im : Image) (f : ℕ) (list : Field) → Eight im → Over im → Passes (withBody im f list)
 body-over im f list e (inl h) = inl h
-body-over im f list e (inr h) = inr (h .0, rw (body-size im f list e (h .0)) (h .1))
+body-over im f list e (inr h) = inr (inl (h .0, rw (body-size im f list e (h .0)) (h .1)))
 
 -- ---- the lowered image
 
@@ -67,7 +64,7 @@ module _ (im : Image) (f : ℕ) (wf : WellFormed im) (there : f < sizeOf im Func
 
   by-bytes : (x : Image) (b : Bool) → ltb 65535 (length (encode x)) ≡ b → InLimits (cond b none (some x)) →
       Result (some x) (cond b none (some x))
-  by-bytes x true e h = (x, refl, refuses (inr (ltb-true 65535 (length (encode x)) e)))
+  by-bytes x true e h = (x, refl, refuses (inr (inr (ltb-true 65535 (length (encode x)) e))))
   by-bytes x false e h = (x, refl, makes (none-passed x (h x refl)))
 
   by-body : {o p : Option (Field × Context)} → Tracks (start im f) o p → InLimits (finished true f o) →
@@ -75,7 +72,7 @@ module _ (im : Image) (f : ℕ) (wf : WellFormed im) (there : f < sizeOf im Func
   unfolding fitting
   by-body (alike {a = list} {d = d} l) h = by-bytes (withBody (d .image) f list) _ refl h
   by-body (passed {a = list} {d = d} l v) h =
-      (withBody (d .image) f list, refl, refuses (inl (body-over (d .image) f list (eight-later l (eight-sections im wf)) v)))
+      (withBody (d .image) f list, refl, refuses (body-over (d .image) f list (eight-later l (eight-sections im wf)) v))
 
   by-contracts : (b : Bool) → let made = newBody im f in
       InLimits (cond b (finished true f (made (start im f))) (some im)) →
