@@ -19,7 +19,7 @@ use Rattle.rl_spec.specs.Lowerer.{made, refused, anyOver, tooTall, orLimit, low
 use Rattle.rl_images.specs.Reading.Table.{row, Unmet, First, unmet-parts, By, refuses, accepts, checks, refuses-exactly, accepts-exactly}
 use Rattle.rl_images.specs.Reading.Rows.{readRows}
 use Rattle.rl_images.specs.Reading.Starts.{sizes-are-counts}
-use Rattle.rl_theorems.specs.Answers.Tables.{HeightOver, lowerRows}
+use Rattle.rl_theorems.specs.Answers.Tables.{HeightOver, PastLimit, lowerRows}
 use Rattle.rl_theorems.specs.Answers.AfterReading.{after-reading}
 
 -- ---- 12
@@ -63,10 +63,13 @@ differ e = let z : _≡_ {A = ℕ} 0 1 = cc in omega arith
 never-none : {im : Image} → some im ≡ none → ⊥
 never-none e = let z : _≡_ {A = ℕ} 0 1 = cc in omega arith
 
--- 14
-limit-by : (o : Option Image) → By refused (row LimitPassed 0 (o ≡ none) ∷ []) (orLimit o) (orLimit o)
-limit-by none = refuses (inl (refl, refl, refl))
-limit-by (some im) = accepts (never-none, tt)
+-- 14: nothing is made exactly where a limit would be passed
+past-limit : (im : Image) (f : ℕ) → (lowered im f ≡ none) ↔ PastLimit im f
+past-limit im f = (λ e. e, λ e. e)
+
+limit-by : {P : Type 0} (o : Option Image) → (o ≡ none) ↔ P → By refused (row LimitPassed 0 P ∷ []) (orLimit o) (orLimit o)
+limit-by none h = refuses (inl (h .0 refl, refl, refl))
+limit-by (some im) h = accepts (λ x. never-none (h .1 x), tt)
 
 no-limit : (o : Option Image) (q : Cause) (p : ℕ) → (o ≡ none → ⊥) → orLimit o ≡ refused q p → ⊥
 no-limit none q p h e = h refl
@@ -86,13 +89,15 @@ module _ (s : List ℕ) (k f room : ℕ) where
       checks (not (ltb f (c .functions))) (λ d. omega (arith, functions, ltb-false f (c .functions) (not-true _ d)))
       (λ d h. omega (arith, functions, ltb-true f (c .functions) (not-false _ d), h))
       (checks (tooTall (imageOf s)) (tall-over (imageOf s)) (tall-under (imageOf s))
-      (checks (ltb room 65535) (ltb-true room 65535) (λ d h. omega (arith, ltb-false room 65535 d, h)) (limit-by (lowered (imageOf s) f))))
+      (checks (ltb room 65535) (ltb-true room 65535) (λ d h. omega (arith, ltb-false room 65535 d, h)) (limit-by (lowered (imageOf s) f) (past-limit (imageOf s) f))))
 
   -- THEOREMS: so
   pub lower-refuses : (q : Cause) (p : ℕ) → (lowerOf s k f room ≡ refused q p) ↔ First (readRows s k ++ lowerRows (imageOf s) f room) q p
   lower-refuses =
       refuses-exactly (λ q q′ p p′ e. (cc, cc))
-      (λ u q p. no-limit (lowered (imageOf s) f) q p (unmet-parts (readRows s k) (lowerRows (imageOf s) f room) u .1 .1 .1 .1 .0)) lower-by
+      (λ u q p.
+      let h = unmet-parts (readRows s k) (lowerRows (imageOf s) f room) u .1 .1 .1 .1 .0 in
+      no-limit (lowered (imageOf s) f) q p (λ e. h (past-limit (imageOf s) f .0 e))) lower-by
 
   pub lower-accepts : (im′ : Image) → (lowerOf s k f room ≡ made im′) ↔ (Unmet (readRows s k ++ lowerRows (imageOf s) f room) × (lowered (imageOf s) f ≡ some im′))
   lower-accepts im′ =
