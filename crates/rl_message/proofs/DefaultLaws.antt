@@ -30,7 +30,7 @@ use Rattle.rl_spec.specs.Records.{paramAt, functionAt}
 use Rattle.rl_spec.specs.Contracts.{operandOf, refinementOf, paramOf}
 use Rattle.rl_spec.specs.Found.{imageFound}
 use Rattle.rl_spec.specs.Mapped.{mapOperand, mapRefinement}
-use Rattle.rl_spec.specs.Message.{decimal, integerText, refineOpText, boolText, operandText, refinementText, defaultText}
+use Rattle.rl_spec.specs.Message.{decimal, integerText, refineOpStr, boolText, operandStr, refinementText, defaultText}
 use Rattle.rl_text_out.specs.Put.{withText, afterText}
 use Rattle.rl_text_out.proofs.Joined.{after-nothing, with-nothing, after-after, with-with}
 
@@ -61,7 +61,7 @@ puts-nothing out = (sym (after-nothing out 0), sym (with-nothing out 0))
 
 module _ (op : RefineOp) where
   abbrev OpText : List ℕ → Type 0
-  OpText t = t ≡ refineOpText (opOf op)
+  OpText t = t ≡ refineOpStr (opOf op)
 
   pub op-gt : op ≡ Gt → OpText (ascii ">")
   op-gt e = rw e refl
@@ -131,7 +131,7 @@ module _ (s : List ℕ) (c : Counts) (out : List ℕ) (at : ℕ) where
 
   module _ (o : RefineOperand) (w : List ℕ) (r : ℕ) where
     abbrev text : Image → List ℕ
-    text im = operandText (mapOperand (textOf im) (operandOf o))
+    text im = operandStr (mapOperand (textOf im) (operandOf o))
 
     abbrev PutsOperand : Type 0
     PutsOperand = PutsIn s c out at text w r
@@ -154,7 +154,7 @@ module _ (s : List ℕ) (c : Counts) (out : List ℕ) (at : ℕ) where
 module _ (s : List ℕ) (c : Counts) (out : List ℕ) (name : ℕ) (op : RefineOp) (o : RefineOperand) where
   pub puts-refinement : (t w₁ w₂ w₃ w₄ w₅ w : List ℕ) (e₁ e₂ e₃ e₄ e₅ r : ℕ) → ((p : List ℕ) → t ≡ textOf (imageFound s p c) name)
       → Puts out 0 (ascii "refinement failed: ") w₁ e₁ → Puts w₁ e₁ t w₂ e₂ → Puts w₂ e₂ (ascii " ") w₃ e₃
-      → Puts w₃ e₃ (refineOpText (opOf op)) w₄ e₄ → Puts w₄ e₄ (ascii " ") w₅ e₅ → PutsIn s c w₅ e₅ (λ im. operandText (mapOperand (textOf im) (operandOf o))) w r
+      → Puts w₃ e₃ (refineOpStr (opOf op)) w₄ e₄ → Puts w₄ e₄ (ascii " ") w₅ e₅ → PutsIn s c w₅ e₅ (λ im. operandStr (mapOperand (textOf im) (operandOf o))) w r
       → PutsIn s c out 0 (λ im. refinementText (textOf im name) (Option·map (mapRefinement (textOf im)) (refinementOf (Refined op o)))) w r
   puts-refinement t w₁ w₂ w₃ w₄ w₅ w e₁ e₂ e₃ e₄ e₅ r f a b d g h k = (λ p. whole p .0, λ p. whole p .1)
     where

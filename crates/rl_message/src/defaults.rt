@@ -22,12 +22,12 @@ ghost use Rattle.rl_spec.specs.Found.{imageFound};
 ghost use mathlib.Core.Option.{Option·map};
 ghost use Rattle.rl_spec.specs.Image.{textOf};
 ghost use Rattle.rl_spec.specs.Mapped.{mapOperand, mapRefinement};
-ghost use Rattle.rl_spec.specs.Message.{refineOpText, boolText, integerText, operandText, refinementText, defaultText};
+ghost use Rattle.rl_spec.specs.Message.{refineOpStr, boolText, integerText, operandStr, refinementText, defaultText};
 ghost use Rattle.rl_text_out.specs.Put.{afterText, withText};
 
-fn put_op(out: &mut [u8], at: usize, op: RefineOp) -> usize
-    ensures { λ r. ⌜ r ≡ afterText (now (out .entry)) at (refineOpText (opOf op)) ⌝ }
-    ensures { λ r. ⌜ now (out .exit) ≡ withText (now (out .entry)) at (refineOpText (opOf op)) ⌝ }
+fn refine_op_str(out: &mut [u8], at: usize, op: RefineOp) -> usize
+    ensures { λ r. ⌜ r ≡ afterText (now (out .entry)) at (refineOpStr (opOf op)) ⌝ }
+    ensures { λ r. ⌜ now (out .exit) ≡ withText (now (out .entry)) at (refineOpStr (opOf op)) ⌝ }
 {
     match op {
         RefineOp::Gt => put_text(out, at, b">"),
@@ -70,15 +70,15 @@ fn put_quoted(out: &mut [u8], at: usize, text: &[u8]) -> usize
     put_text(out, end, b"\"")
 }
 
-fn put_operand(
+fn operand_str(
     image: &[u8],
     counts: Counts,
     operand: RefineOperand,
     out: &mut [u8],
     at: usize,
 ) -> usize
-    ensures { λ r. ⌜ ((p : List ℕ) → r ≡ afterText (now (out .entry)) at (operandText (mapOperand (textOf (imageFound (now (image .entry)) p counts)) (operandOf operand)))) ⌝ }
-    ensures { λ r. ⌜ ((p : List ℕ) → now (out .exit) ≡ withText (now (out .entry)) at (operandText (mapOperand (textOf (imageFound (now (image .entry)) p counts)) (operandOf operand)))) ⌝ }
+    ensures { λ r. ⌜ ((p : List ℕ) → r ≡ afterText (now (out .entry)) at (operandStr (mapOperand (textOf (imageFound (now (image .entry)) p counts)) (operandOf operand)))) ⌝ }
+    ensures { λ r. ⌜ ((p : List ℕ) → now (out .exit) ≡ withText (now (out .entry)) at (operandStr (mapOperand (textOf (imageFound (now (image .entry)) p counts)) (operandOf operand)))) ⌝ }
 {
     match operand {
         RefineOperand::Integer(x) => put_integer(out, at, x),
@@ -103,9 +103,9 @@ fn put_refinement(
     let mut at = put_text(out, 0, b"refinement failed: ");
     at = put_text(out, at, text_at(image, counts, name));
     at = put_text(out, at, b" ");
-    at = put_op(out, at, op);
+    at = refine_op_str(out, at, op);
     at = put_text(out, at, b" ");
-    put_operand(image, counts, operand, out, at)
+    operand_str(image, counts, operand, out, at)
 }
 
 // The parameter of a function, by its number.

@@ -19,7 +19,7 @@ use Rattle.rl_spec.specs.Values.{sameText}
 use Rattle.rl_spec.specs.Found.{imageFound}
 use Rattle.rl_spec.specs.Records.{paramAt, functionAt}
 use Rattle.rl_spec.specs.Ranges.{upFrom, numbersIn}
-use Rattle.rl_spec.specs.Contracts.{paramOf, clauseOf, refinementOf, isSome, anyRefined, contractsOf, hasContracts, isCallee, calleeAmong}
+use Rattle.rl_spec.specs.Contracts.{paramOf, clauseOf, refinementOf, isSome, anyRefined, contractsOf, recordFnContracts, isCallee, calleeAmong}
 use Rattle.rl_names.specs.Names.{Classes}
 use Rattle.rl_prover.specs.declared.callee.Callee.{Callee}
 use Rattle.rl_prover.specs.declared.callee.Callee.the-variants.{Found, Missing}
@@ -70,7 +70,7 @@ module _ (s : List ℕ) (c : Counts) (f : Function) where
   unfolding recorded
   recorded-refined e r g p = rw e (g p)
 
-recorded-is : (im : Image) (f : ℕ) → recorded im (functionAt im f) ≡ hasContracts (contractsOf im f)
+recorded-is : (im : Image) (f : ℕ) → recorded im (functionAt im f) ≡ recordFnContracts (contractsOf im f)
 unfolding recorded contractsOf
 recorded-is im f = rw (empty-is (clauseOf im) (functionAt im f .required .first) (functionAt im f .required .count)) refl
 

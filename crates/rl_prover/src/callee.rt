@@ -47,8 +47,8 @@ pub fn any_refined(image: &[u8], counts: Counts, params: Interval) -> bool
     false
 }
 
-// `record_fn_contracts` skips a function without requires and without a refinement.
-fn has_contracts(image: &[u8], counts: Counts, function: Function) -> bool
+// Whether a function is recorded: one without requires and without a refinement is not.
+fn record_fn_contracts(image: &[u8], counts: Counts, function: Function) -> bool
     ensures { λ r. ⌜ ((p : List ℕ) → r ≡ recorded (imageFound (now (image .entry)) p counts) function) ⌝ }
 {
     let required = function.required;
@@ -65,7 +65,7 @@ fn is_callee(image: &[u8], counts: Counts, classes: &[u16], name: u16, f: u16) -
     if word_at(classes, function.name as usize) != word_at(classes, name as usize) {
         return false;
     }
-    has_contracts(image, counts, function)
+    record_fn_contracts(image, counts, function)
 }
 
 // The last function of that name that has requires or a refinement.

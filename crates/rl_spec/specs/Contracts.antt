@@ -87,11 +87,11 @@ isEmpty [] = true
 isEmpty (a ∷ l) = false
 
 -- `record_fn_contracts` skips a function without requires and without a refinement
-abbrev pub hasContracts : {T : Type 0} → FnContracts T → Bool
-hasContracts f = not (isEmpty (f .requires)) || anyRefined (f .params)
+abbrev pub recordFnContracts : {T : Type 0} → FnContracts T → Bool
+recordFnContracts f = not (isEmpty (f .requires)) || anyRefined (f .params)
 
 unfoldable pub isCallee : Image → List ℕ → ℕ → Bool
-isCallee im name f = sameText (textOf im (functionAt im f .name)) name && hasContracts (contractsOf im f)
+isCallee im name f = sameText (textOf im (functionAt im f .name)) name && recordFnContracts (contractsOf im f)
 
 -- the last of the first n functions of that name that has requires or a refinement
 unfoldable pub calleeAmong : Image → List ℕ → ℕ → Option ℕ

@@ -30,29 +30,29 @@ integerText (negsuc n) = ascii "-" ++ decimal (suc n)
 
 -- ---- a refinement
 
-abbrev pub refineOpText : RefineOp → List ℕ
-refineOpText gt = ascii ">"
-refineOpText ge = ascii ">="
-refineOpText lt = ascii "<"
-refineOpText le = ascii "<="
-refineOpText eq = ascii "=="
-refineOpText ne = ascii "!="
+abbrev pub refineOpStr : RefineOp → List ℕ
+refineOpStr gt = ascii ">"
+refineOpStr ge = ascii ">="
+refineOpStr lt = ascii "<"
+refineOpStr le = ascii "<="
+refineOpStr eq = ascii "=="
+refineOpStr ne = ascii "!="
 
 abbrev pub boolText : Bool → List ℕ
 boolText true = ascii "true"
 boolText false = ascii "false"
 
 -- a text stands in quotes as it is
-abbrev pub operandText : RefineOperand Text → Text
-operandText (integer x) = integerText x
-operandText (str t) = ascii "\"" ++ t ++ ascii "\""
-operandText (bool b) = boolText b
-operandText (param t) = t
+abbrev pub operandStr : RefineOperand Text → Text
+operandStr (integer x) = integerText x
+operandStr (str t) = ascii "\"" ++ t ++ ascii "\""
+operandStr (bool b) = boolText b
+operandStr (param t) = t
 
 abbrev pub refinementText : Text → Option (ParamRefinement Text) → Text
 refinementText name none = []
 refinementText name (some r) =
-    ascii "refinement failed: " ++ name ++ ascii " " ++ refineOpText (r .op) ++ ascii " " ++ operandText (r .operand)
+    ascii "refinement failed: " ++ name ++ ascii " " ++ refineOpStr (r .op) ++ ascii " " ++ operandStr (r .operand)
 
 abbrev pub paramText : Param Text → Text
 paramText p = refinementText (p .name) (p .refinement)

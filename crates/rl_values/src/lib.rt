@@ -71,7 +71,7 @@ fn compare_texts(op: RefineOp, a: &[u8], b: &[u8]) -> bool
     }
 }
 
-pub fn compare_ints(op: RefineOp, x: i64, y: i64) -> bool
+pub fn cmp_i64(op: RefineOp, x: i64, y: i64) -> bool
     ensures { λ r. ⌜ r ≡ compareBy ltZ sameInt (opOf op) x y ⌝ }
 {
     match op {
@@ -155,7 +155,7 @@ pub fn compare_values(op: RefineOp, a: ConstVal, b: ConstVal, left: &[u8], right
 {
     match a {
         ConstVal::Int(x) => match b {
-            ConstVal::Int(y) => verdict(compare_ints(op, x, y)),
+            ConstVal::Int(y) => verdict(cmp_i64(op, x, y)),
             ConstVal::Float(y) => compare_floats(op, nearest_f64(x), y),
             ConstVal::Str(_) => Verdict::Unknown,
             ConstVal::Bool(_) => Verdict::Unknown,

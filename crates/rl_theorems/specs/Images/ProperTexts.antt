@@ -19,7 +19,7 @@ use Rattle.rl_spec.specs.Tree.{ascii}
 use Rattle.rl_spec.specs.Words.{bits64}
 use Rattle.rl_spec.specs.Contracts.{RefineOperand, integer, str, bool, param, ParamRefinement}
 use Rattle.rl_spec.specs.Mapped.{mapOperand, mapRefinement}
-use Rattle.rl_spec.specs.Message.{decimalBy, decimal, integerText, refineOpText, operandText, refinementText}
+use Rattle.rl_spec.specs.Message.{decimalBy, decimal, integerText, refineOpStr, operandStr, refinementText}
 use Rattle.rl_images.specs.Encoding.AcceptedParts.{take-bytes, drop-bytes}
 use Rattle.rl_theorems.specs.Reading.EncodedBytes.{append-bytes}
 use Rattle.rl_images.specs.Images.SchemaSorts.{kind-range, and-left, and-right}
@@ -93,7 +93,7 @@ unfolding ascii
 integer-proper (pos n) = decimal-proper n
 integer-proper (negsuc n) = ascii-proper (ascii "-") refl with decimal-proper (suc n)
 
-op-proper : (op : RefineOp) → Proper (refineOpText op)
+op-proper : (op : RefineOp) → Proper (refineOpStr op)
 unfolding ascii
 op-proper gt = ascii-proper (ascii ">") refl
 op-proper ge = ascii-proper (ascii ">=") refl
@@ -109,7 +109,7 @@ OperandReady im (str t) = Proper (textOf im t)
 OperandReady im (bool b) = Unit {0}
 OperandReady im (param t) = Proper (textOf im t)
 
-operand-proper : (im : Image) (x : RefineOperand ℕ) → OperandReady im x → Proper (operandText (mapOperand (textOf im) x))
+operand-proper : (im : Image) (x : RefineOperand ℕ) → OperandReady im x → Proper (operandStr (mapOperand (textOf im) x))
 unfolding ascii
 operand-proper im (integer x) h = integer-proper x
 operand-proper im (str t) h = ascii-proper (ascii "\"") refl with h with ascii-proper (ascii "\"") refl

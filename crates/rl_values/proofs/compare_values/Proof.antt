@@ -11,8 +11,8 @@ enum-known-a c = search needs
 enum-known-b : tie.Need-enum-known-b
 enum-known-b c = search needs
 
-compare-ints-requires : tie.Need-compare-ints-requires
-compare-ints-requires c κs = search needs
+cmp-i64-requires : tie.Need-cmp-i64-requires
+cmp-i64-requires c κs = search needs
 
 verdict-requires : tie.Need-verdict-requires
 verdict-requires c κs = search needs
@@ -125,7 +125,7 @@ compare-values-spec =
     (tie.spec
     enum-known-a
     enum-known-b
-    compare-ints-requires
+    cmp-i64-requires
     verdict-requires
     enum-known-b-2
     nearest-f64-requires

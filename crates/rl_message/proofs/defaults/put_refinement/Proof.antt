@@ -22,8 +22,8 @@ slice-aggregate-put-text-2 c = search needs
 put-text-requires-3 : tie.Need-put-text-requires-3
 put-text-requires-3 c κs = search needs
 
-put-op-requires : tie.Need-put-op-requires
-put-op-requires c κs = search needs
+refine-op-str-requires : tie.Need-refine-op-str-requires
+refine-op-str-requires c κs = search needs
 
 slice-aggregate-put-text-3 : tie.Need-slice-aggregate-put-text-3
 slice-aggregate-put-text-3 c = search needs
@@ -31,8 +31,8 @@ slice-aggregate-put-text-3 c = search needs
 put-text-requires-4 : tie.Need-put-text-requires-4
 put-text-requires-4 c κs = search needs
 
-put-operand-requires : tie.Need-put-operand-requires
-put-operand-requires c κs = search needs
+operand-str-requires : tie.Need-operand-str-requires
+operand-str-requires c κs = search needs
 
 same-length : tie.Need-same-length
 same-length c = search needs
@@ -52,9 +52,9 @@ returns c =
     (heading .put-text .ensures)
     (named .put-text2 .ensures)
     (space .put-text3 .ensures)
-    (op .put-op .ensures)
+    (op .refine-op-str .ensures)
     (second-space .put-text4 .ensures)
-    (c .before .before .put-operand .ensures)
+    (c .before .before .operand-str .ensures)
 
 pub put-refinement-spec : {M : Type 1} → statement M
 put-refinement-spec =
@@ -66,9 +66,9 @@ put-refinement-spec =
     put-text-requires-2
     slice-aggregate-put-text-2
     put-text-requires-3
-    put-op-requires
+    refine-op-str-requires
     slice-aggregate-put-text-3
     put-text-requires-4
-    put-operand-requires
+    operand-str-requires
     same-length
     returns)

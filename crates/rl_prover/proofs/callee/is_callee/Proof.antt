@@ -20,8 +20,8 @@ word-at-requires-2 c κs = search needs
 returns : tie.Need-returns
 returns c = search (laws, needs)
 
-has-contracts-requires : tie.Need-has-contracts-requires
-has-contracts-requires c κs = search needs
+record-fn-contracts-requires : tie.Need-record-fn-contracts-requires
+record-fn-contracts-requires c κs = search needs
 
 returns-2 : tie.Need-returns-2
 returns-2 c = search (laws, needs)
@@ -35,5 +35,5 @@ is-callee-spec =
     word-at-requires
     word-at-requires-2
     returns
-    has-contracts-requires
+    record-fn-contracts-requires
     returns-2)

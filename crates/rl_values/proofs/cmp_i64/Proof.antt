@@ -1,6 +1,6 @@
 use borrow.Author.Needs.{needs}
-use Rattle.rl_values.proofs.compare_ints.Statement.{statement}
-use Rattle.rl_values.proofs.compare_ints.Tie as tie
+use Rattle.rl_values.proofs.cmp_i64.Statement.{statement}
+use Rattle.rl_values.proofs.cmp_i64.Tie as tie
 use Rattle.rl_values.proofs.Laws.{by-gt, by-ge, by-lt, by-le, by-eq, by-ne, lt-bits, le-bits, eq-bits, ne-bits}
 
 ruleset laws = (by-gt, by-ge, by-lt, by-le, by-eq, by-ne, lt-bits, le-bits, eq-bits, ne-bits)
@@ -41,8 +41,8 @@ returns-5 c = search (laws, needs)
 returns-6 : tie.Need-returns-6
 returns-6 c = search (laws, needs)
 
-pub compare-ints-spec : {M : Type 1} → statement M
-compare-ints-spec =
+pub cmp-i64-spec : {M : Type 1} → statement M
+cmp-i64-spec =
     tie.close
     (tie.spec
     enum-told

@@ -1,7 +1,7 @@
 use borrow.Author.Needs.{needs}
 use Rattle.rl_message.proofs.DefaultLaws.{puts-integer, puts-bool, puts-str, puts-param}
-use Rattle.rl_message.proofs.defaults.put_operand.Statement.{statement}
-use Rattle.rl_message.proofs.defaults.put_operand.Tie as tie
+use Rattle.rl_message.proofs.defaults.operand_str.Statement.{statement}
+use Rattle.rl_message.proofs.defaults.operand_str.Tie as tie
 
 enum-known-operand : tie.Need-enum-known-operand
 enum-known-operand c = search needs
@@ -57,8 +57,8 @@ same-length-4 c = search needs
 returns-4 : tie.Need-returns-4
 returns-4 c = puts-param _ _ _ _ _ _ _ _ _ (c .before .before .before .text-at2 .ensures) (c .before .before .before .before .before .before .operand4 .given .1) (c .before .before .put-text .ensures)
 
-pub put-operand-spec : {M : Type 1} → statement M
-put-operand-spec =
+pub operand-str-spec : {M : Type 1} → statement M
+operand-str-spec =
     tie.close
     (tie.spec
     enum-known-operand

@@ -1,7 +1,7 @@
 use borrow.Author.Needs.{needs}
 use Rattle.rl_spec.specs.Tree.{ascii}
-use Rattle.rl_message.proofs.defaults.put_op.Statement.{statement}
-use Rattle.rl_message.proofs.defaults.put_op.Tie as tie
+use Rattle.rl_message.proofs.defaults.refine_op_str.Statement.{statement}
+use Rattle.rl_message.proofs.defaults.refine_op_str.Tie as tie
 use Rattle.rl_message.proofs.DefaultLaws.{after-as, with-as, op-gt, op-ge, op-lt, op-le, op-eq, op-ne}
 
 ruleset laws = (after-as, with-as, op-gt, op-ge, op-lt, op-le, op-eq, op-ne)
@@ -102,8 +102,8 @@ returns-6 : tie.Need-returns-6
 unfolding ascii
 returns-6 c = search (laws, needs)
 
-pub put-op-spec : {M : Type 1} → statement M
-put-op-spec =
+pub refine-op-str-spec : {M : Type 1} → statement M
+refine-op-str-spec =
     tie.close
     (tie.spec
     enum-told

@@ -1,6 +1,6 @@
 use borrow.Author.Needs.{needs}
-use Rattle.rl_prover.proofs.callee.has_contracts.Statement.{statement}
-use Rattle.rl_prover.proofs.callee.has_contracts.Tie as tie
+use Rattle.rl_prover.proofs.callee.record_fn_contracts.Statement.{statement}
+use Rattle.rl_prover.proofs.callee.record_fn_contracts.Tie as tie
 use Rattle.rl_prover.proofs.CalleeLaws.{recorded-requires, recorded-refined}
 
 ruleset laws = (recorded-requires, recorded-refined)
@@ -14,5 +14,5 @@ any-refined-requires c κs = search needs
 returns-2 : tie.Need-returns-2
 returns-2 c = search (laws, needs)
 
-pub has-contracts-spec : {M : Type 1} → statement M
-has-contracts-spec = tie.close (tie.spec returns any-refined-requires returns-2)
+pub record-fn-contracts-spec : {M : Type 1} → statement M
+record-fn-contracts-spec = tie.close (tie.spec returns any-refined-requires returns-2)
