@@ -202,6 +202,7 @@ fn rest(
     )
 }
 
+// The new body list of a function. `text` is scratch, for the texts of refinements: what it holds then is left open.
 pub fn new_body(
     image: &[u8],
     starts: &[u16],

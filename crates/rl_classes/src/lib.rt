@@ -97,7 +97,7 @@ fn find(image: &[u8], counts: Counts, links: &[u64], t: u16) -> Place
     Place { class: t + 1, link }
 }
 
-// Gives each text its class, where both slices have a word for each text.
+// Gives each text its class, where both slices have a word for each text. `links` is scratch: what it holds then is left open.
 pub fn text_classes(image: &[u8], counts: Counts, links: &mut [u64], classes: &mut [u16])
     ensures { λ _. ⌜ ((p : List ℕ) → counts .texts ≤ length (now (links .entry)) → counts .texts ≤ length (now (classes .entry)) → ClassOfEach (textOf (imageFound (now (image .entry)) p counts)) (now (classes .exit))) ⌝ }
     ensures { λ _. ⌜ ((p : List ℕ) → counts .texts ≤ length (now (links .entry)) → counts .texts ≤ length (now (classes .entry)) → Classes (textOf (imageFound (now (image .entry)) p counts)) (now (classes .exit))) ⌝ }

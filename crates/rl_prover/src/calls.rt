@@ -69,7 +69,7 @@ fn prove_callee(
 }
 
 // Writes the reports of a call behind those that are there. Answers the place after them. The promise is about classes of the
-// image's texts and names with room for all parameters.
+// image's texts and names with room for all parameters. `names` and `memory` are scratch: what they hold then is left open.
 pub fn prove_call(
     image: &[u8],
     starts: &[u16],
