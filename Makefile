@@ -42,6 +42,7 @@ bench: staticlib
 	$(CARGO_RELEASE)
 	tools/target/release/bench_read
 	tools/target/release/bench_prove
+	tools/target/release/bench_names
 	tools/target/release/bench_run
 	tools/target/release/bench_lower
 
