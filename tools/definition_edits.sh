@@ -8,6 +8,27 @@ new=$(mktemp -d)
 trap 'rm -rf "$new"' EXIT
 crates='rl_spec rl_laws rl_images rl_examples rl_theorems'
 
+# Leaves of rl_examples in a repository only one file and what it uses: no other one is asked.
+only() { # REPO FILE
+    specs=$1/crates/rl_examples/specs wanted='' more=$2
+    while [ -n "$more" ]; do
+        wanted="$wanted $more"
+        more=$(for name in $more; do
+            sed -n 's/^use Rattle\.rl_examples\.specs\.\([A-Za-z0-9]*\).*/\1/p' "$specs/$name.antt"
+        done | sort -u | while read -r name; do
+            case " $wanted " in *" $name "*) ;; *) printf '%s ' "$name" ;; esac
+        done)
+    done
+    : >"$specs/Lib.antt"
+    for path in "$specs"/*.antt; do
+        name=$(basename "$path" .antt)
+        case " $wanted Lib " in
+        *" $name "*) [ "$name" = Lib ] || echo "pub mod $name" >>"$specs/Lib.antt" ;;
+        *) rm "$path" ;;
+        esac
+    done
+}
+
 # Tries one edit, in a repository of its own.
 try() { # NAME
     edit=tools/definition_edits/$1.edit repo=$new/$1
@@ -21,6 +42,7 @@ EOF
     done >"$repo/crates.txt"
 
     sh tools/apply_edit.sh "$edit" "$repo/crates/rl_spec" || return 1
+    [ "$crate" != rl_examples ] || only "$repo" "$file"
 
     began=$(date +%s) status=0
     (cd "$repo" && rt check "$crate") >"$repo/log" 2>&1 || status=$?
