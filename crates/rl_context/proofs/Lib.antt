@@ -13,3 +13,6 @@ pub mod NodesMade
 pub mod StatementsMade
 pub mod Rows
 pub mod Temporaries
+pub mod FieldWords
+pub mod Copying
+pub mod CopiedEntries

@@ -1,3 +1,4 @@
 pub mod Additions
 pub mod Does
 pub mod Paths
+pub mod Copies

@@ -1,7 +1,7 @@
 // The guards of clauses: rl-resolver's guard.
 use rl_context::Ctx;
 use rl_context::Made;
-use rl_copy::deep_clone_expr;
+use rl_context::deep_clone_expr;
 use rl_records::clause_at;
 use rl_spec::Clause;
 use rl_spec::Counts;

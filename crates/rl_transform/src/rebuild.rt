@@ -4,7 +4,7 @@ use rl_arena::statement_start;
 use rl_bytes::put_long;
 use rl_context::Ctx;
 use rl_context::Made;
-use rl_copy::word_of;
+use rl_context::word_of;
 use rl_schema::row_of;
 use rl_schema::sort_of;
 use rl_schema::width_of;

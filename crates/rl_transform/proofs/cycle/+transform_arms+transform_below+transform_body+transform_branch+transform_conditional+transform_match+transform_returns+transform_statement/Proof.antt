@@ -8,7 +8,7 @@ use Rattle.rl_spec.specs.Found.{imageFound}
 use Rattle.rl_spec.specs.Lower.{transformArm}
 use Rattle.rl_context.specs.Does.{at}
 use Rattle.rl_images.specs.Lowering.AddsLower.{adds-arm}
-use Rattle.rl_copy.proofs.Copying.{kind-in}
+use Rattle.rl_context.proofs.Copying.{kind-in}
 use Rattle.rl_guards.specs.Guards.{clausesIn}
 use Rattle.rl_transform.specs.Transforms.{walkBelow, Ready, ArmsIn}
 use Rattle.rl_transform.proofs.Loops.{Flat, flat-none, flat-more, flat-all, Each, each-none, each-more, each-all}

@@ -14,9 +14,9 @@ use Rattle.rl_spec.specs.Ranges.{upFrom}
 use Rattle.rl_spec.specs.Make.{Make, give}
 use Rattle.rl_spec.specs.Lower.{isNode, cloneEntries, cloneField, deepCloneExpr}
 use Rattle.rl_encode.specs.Words.{wordField}
-use Rattle.rl_copy.specs.declared.Plan.{Plan}
-use Rattle.rl_copy.specs.declared.Plan.the-variants.{Keep, Node, List}
+use Rattle.rl_context.specs.declared.copy.Plan.{Plan}
+use Rattle.rl_context.specs.declared.copy.Plan.the-variants.{Keep, Node, List}
 use Rattle.rl_context.specs.Does.{State, nothing, one, all, Does}
 
 -- what is done with a field of a sort
 abbrev pub planOf : Sort → Plan

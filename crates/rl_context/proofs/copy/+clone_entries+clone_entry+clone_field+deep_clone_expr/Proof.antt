@@ -8,46 +8,46 @@ use Rattle.rl_spec.specs.Lower.{isLambda}
 use Rattle.rl_schema.specs.Codes.{codes, table}
 use Rattle.rl_schema.proofs.Rows.{row-codes}
 use Rattle.rl_arena.proofs.Laws.{width-small}
 use Rattle.rl_context.specs.Does.{at}
-use Rattle.rl_copy.proofs.Copying.{Copying, kind-in, codes-few, small-left, as-made, few-left, place-left, place-fits, j-fits, still-eight, copies-full, copies-lambda, copies-record, not-lambda, copying-none, copying-field, copying-more, copying-all, copying-whole}
-use Rattle.rl_copy.proofs.Entries.{CopyingEntries, entries-none, entries-more, entries-all, entry-before, entry-copied, entry-kept, field-shared, field-kept, field-copied, field-listed, list-fits}
+use Rattle.rl_context.proofs.Copying.{Copying, kind-in, codes-few, small-left, as-made, few-left, place-left, place-fits, j-fits, still-eight, copies-full, copies-lambda, copies-record, not-lambda, copying-none, copying-field, copying-more, copying-all, copying-whole}
+use Rattle.rl_context.proofs.CopiedEntries.{CopyingEntries, entries-none, entries-more, entries-all, entry-before, entry-copied, entry-kept, field-shared, field-kept, field-copied, field-listed, list-fits}
 use borrow.Fn.Kinds.{In}
 use borrow.Fn.PlainCycle.{Measures, is, falls, and}
-use Rattle.rl_copy.proofs.clone_entries.Reads as clone-entries
-use Rattle.rl_copy.proofs.clone_entries.Kinds as clone-entries-kinds
-use Rattle.rl_copy.proofs.+clone_entries+clone_entry+clone_field+deep_clone_expr.Lts-clone_entries as clone-entries-lts
-use Rattle.rl_copy.proofs.clone_entry.Reads as clone-entry
-use Rattle.rl_copy.proofs.clone_entry.Kinds as clone-entry-kinds
-use Rattle.rl_copy.proofs.+clone_entries+clone_entry+clone_field+deep_clone_expr.Lts-clone_entry as clone-entry-lts
-use Rattle.rl_copy.proofs.clone_field.Reads as clone-field
-use Rattle.rl_copy.proofs.clone_field.Kinds as clone-field-kinds
-use Rattle.rl_copy.proofs.+clone_entries+clone_entry+clone_field+deep_clone_expr.Lts-clone_field as clone-field-lts
-use Rattle.rl_copy.proofs.deep_clone_expr.Reads as deep-clone-expr
-use Rattle.rl_copy.proofs.deep_clone_expr.Kinds as deep-clone-expr-kinds
-use Rattle.rl_copy.proofs.+clone_entries+clone_entry+clone_field+deep_clone_expr.Lts-deep_clone_expr as deep-clone-expr-lts
+use Rattle.rl_context.proofs.copy.clone_entries.Reads as clone-entries
+use Rattle.rl_context.proofs.copy.clone_entries.Kinds as clone-entries-kinds
+use Rattle.rl_context.proofs.copy.+clone_entries+clone_entry+clone_field+deep_clone_expr.Lts-clone_entries as clone-entries-lts
+use Rattle.rl_context.proofs.copy.clone_entry.Reads as clone-entry
+use Rattle.rl_context.proofs.copy.clone_entry.Kinds as clone-entry-kinds
+use Rattle.rl_context.proofs.copy.+clone_entries+clone_entry+clone_field+deep_clone_expr.Lts-clone_entry as clone-entry-lts
+use Rattle.rl_context.proofs.copy.clone_field.Reads as clone-field
+use Rattle.rl_context.proofs.copy.clone_field.Kinds as clone-field-kinds
+use Rattle.rl_context.proofs.copy.+clone_entries+clone_entry+clone_field+deep_clone_expr.Lts-clone_field as clone-field-lts
+use Rattle.rl_context.proofs.copy.deep_clone_expr.Reads as deep-clone-expr
+use Rattle.rl_context.proofs.copy.deep_clone_expr.Kinds as deep-clone-expr-kinds
+use Rattle.rl_context.proofs.copy.+clone_entries+clone_entry+clone_field+deep_clone_expr.Lts-deep_clone_expr as deep-clone-expr-lts
 use Rattle.rl_arena.proofs.expression_start.Reads as expression-start-reads
 use Rattle.rl_arena.proofs.kind_at.Reads as kind-at-reads
 use Rattle.rl_bytes.proofs.put_long.Reads as put-long-reads
 use Rattle.rl_bytes.proofs.second_u16.Reads as second-u16-reads
 use Rattle.rl_bytes.proofs.u16_at.Reads as u16-at-reads
 use Rattle.rl_context.proofs.Ctx.new_expression.Reads as new-expression-reads
 use Rattle.rl_context.proofs.Ctx.push.Reads as push-reads
 use Rattle.rl_context.proofs.Ctx.stopped.Reads as Ctx-stopped-reads
-use Rattle.rl_copy.proofs.as_it_is.Reads as as-it-is-reads
-use Rattle.rl_copy.proofs.as_list.Reads as as-list-reads
-use Rattle.rl_copy.proofs.as_node.Reads as as-node-reads
-use Rattle.rl_copy.proofs.shared.Reads as shared-reads
-use Rattle.rl_copy.proofs.is_copied.Reads as is-copied-reads
-use Rattle.rl_copy.proofs.plan_of.Reads as plan-of-reads
-use Rattle.rl_copy.proofs.pushed.Reads as pushed-reads
+use Rattle.rl_context.proofs.copy.as_it_is.Reads as as-it-is-reads
+use Rattle.rl_context.proofs.copy.as_list.Reads as as-list-reads
+use Rattle.rl_context.proofs.copy.as_node.Reads as as-node-reads
+use Rattle.rl_context.proofs.copy.shared.Reads as shared-reads
+use Rattle.rl_context.proofs.copy.is_copied.Reads as is-copied-reads
+use Rattle.rl_context.proofs.copy.plan_of.Reads as plan-of-reads
+use Rattle.rl_context.proofs.copy.pushed.Reads as pushed-reads
 use Rattle.rl_records.proofs.entry_at.Reads as entry-at-reads
 use Rattle.rl_schema.proofs.row_of.Reads as row-of-reads
 use Rattle.rl_schema.proofs.sort_of.Reads as sort-of-reads
 use Rattle.rl_schema.proofs.width_of.Reads as width-of-reads
-use Rattle.rl_copy.proofs.+clone_entries+clone_entry+clone_field+deep_clone_expr.{
+use Rattle.rl_context.proofs.copy.+clone_entries+clone_entry+clone_field+deep_clone_expr.{
   statement,
 }
-use Rattle.rl_copy.proofs.+clone_entries+clone_entry+clone_field+deep_clone_expr.Tie.{
+use Rattle.rl_context.proofs.copy.+clone_entries+clone_entry+clone_field+deep_clone_expr.Tie.{
   close,
 }
 

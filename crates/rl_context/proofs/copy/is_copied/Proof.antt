@@ -2,11 +2,11 @@ use mathlib.Core.Path.{ap, sym, _∙_}
 use mathlib.Core.Bool.{_&&_}
 use lib.Dec.{ltb}
 use borrow.Author.Needs.{needs}
-use Rattle.rl_copy.proofs.is_copied.Statement.{statement}
-use Rattle.rl_copy.proofs.is_copied.Tie as tie
-use Rattle.rl_copy.proofs.is_copied.Reads as reads
-use Rattle.rl_copy.proofs.is_copied.Lts as lts
-use Rattle.rl_copy.proofs.is_node.Reads as is-node-reads
+use Rattle.rl_context.proofs.copy.is_copied.Statement.{statement}
+use Rattle.rl_context.proofs.copy.is_copied.Tie as tie
+use Rattle.rl_context.proofs.copy.is_copied.Reads as reads
+use Rattle.rl_context.proofs.copy.is_copied.Lts as lts
+use Rattle.rl_context.proofs.copy.is_node.Reads as is-node-reads
 
 -- src/lib.rt:164:8
 is-node-requires : tie.Need-is-node-requires

@@ -1,7 +1,7 @@
 use borrow.Author.Needs.{needs}
-use Rattle.rl_copy.proofs.Fields.{two-words}
-use Rattle.rl_copy.proofs.as_list.Statement.{statement}
-use Rattle.rl_copy.proofs.as_list.Tie as tie
+use Rattle.rl_context.proofs.FieldWords.{two-words}
+use Rattle.rl_context.proofs.copy.as_list.Statement.{statement}
+use Rattle.rl_context.proofs.copy.as_list.Tie as tie
 
 new-list-requires : tie.Need-new-list-requires
 new-list-requires c κs = search needs

@@ -1,5 +1,7 @@
 // Copies an expression and all below it: rl-resolver's deep_clone_expr. Each field is copied by its sort; a shared record is copied as often as it
 // is met, until a limit would be passed.
+use crate::Ctx;
+use crate::Made;
 use rl_arena::expression_start;
 use rl_arena::is_pair;
 use rl_arena::kind_at;
@@ -7,8 +9,6 @@ use rl_arena::number_at;
 use rl_bytes::put_long;
 use rl_bytes::second_u16;
 use rl_bytes::u16_at;
-use rl_context::Ctx;
-use rl_context::Made;
 use rl_records::entry_at;
 use rl_schema::row_of;
 use rl_schema::sort_of;
@@ -29,8 +29,8 @@ ghost use Rattle.rl_spec.specs.declared.Section.the-variants.{Lists};
 ghost use Rattle.rl_spec.specs.Lower.{isNode};
 ghost use Rattle.rl_spec.specs.Found.{imageFound};
 ghost use Rattle.rl_schema.specs.Codes.{table};
 ghost use Rattle.rl_context.specs.Does.{at, Pushes, Listed};
-ghost use Rattle.rl_copy.specs.Copies.{planOf, Fitting, Copies, CopiesField, CopiesEntry, CopiesEntries};
+ghost use Rattle.rl_context.specs.Copies.{planOf, Fitting, Copies, CopiesField, CopiesEntry, CopiesEntries};
 
 // The context, and a field as a word.
 struct Copied {

@@ -26,18 +26,18 @@ use Rattle.rl_encode.specs.Words.{wordField}
 use Rattle.rl_images.specs.Images.SchemaSorts.{and-right}
 use Rattle.rl_images.specs.Images.FieldFacts.{list-says}
 use Rattle.rl_images.specs.Lowering.Gives.{gives, after}
 use Rattle.rl_context.specs.declared.Ctx.{Ctx}
 use Rattle.rl_context.specs.Additions.{Live}
 use Rattle.rl_context.specs.Does.{State, at, nothing, one, all, Ends, Start, Does, Pushes, Listed}
 use Rattle.rl_context.proofs.Composed.{Keeps, does-then, does-bind, does-give, does-same, does-push, does-list}
 use Rattle.rl_images.specs.Lowering.Adds.{adds-give}
 use Rattle.rl_context.proofs.StaysOver.{keeps-more, keeps-one}
 use Rattle.rl_images.specs.Lowering.AddsLower.{adds-entries, adds-field}
 use Rattle.rl_context.proofs.Appends.{stops-does}
-use Rattle.rl_copy.specs.declared.Plan.{Plan}
-use Rattle.rl_copy.specs.declared.Plan.the-variants as plan
-use Rattle.rl_copy.specs.Copies.{planOf, cloneBelow, Fitting, Copies, CopiesField, CopiesEntry, CopiesEntries}
-use Rattle.rl_copy.proofs.Copying.{adds-below, old-entries}
+use Rattle.rl_context.specs.declared.copy.Plan.{Plan}
+use Rattle.rl_context.specs.declared.copy.Plan.the-variants as plan
+use Rattle.rl_context.specs.Copies.{planOf, cloneBelow, Fitting, Copies, CopiesField, CopiesEntry, CopiesEntries}
+use Rattle.rl_context.proofs.Copying.{adds-below, old-entries}
 
 pub two : (s : List ℕ) (at : ℕ) → numAt s at 2 ≡ u16At s at
 unfolding numAt u16At

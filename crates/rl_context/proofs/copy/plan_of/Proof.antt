@@ -1,7 +1,7 @@
 use borrow.Author.Needs.{needs}
-use Rattle.rl_copy.proofs.Fields.{plan-list, plan-keep}
-use Rattle.rl_copy.proofs.plan_of.Statement.{statement}
-use Rattle.rl_copy.proofs.plan_of.Tie as tie
+use Rattle.rl_context.proofs.FieldWords.{plan-list, plan-keep}
+use Rattle.rl_context.proofs.copy.plan_of.Statement.{statement}
+use Rattle.rl_context.proofs.copy.plan_of.Tie as tie
 
 ruleset laws = (plan-list, plan-keep)
 

@@ -16,8 +16,8 @@ use Rattle.rl_spec.specs.Lower.{isNode}
 use Rattle.rl_arena.specs.Find.{numberIn}
 use Rattle.rl_arena.proofs.Laws.{first-number}
 use Rattle.rl_encode.specs.Words.{wordField}
-use Rattle.rl_copy.specs.declared.Plan.the-variants.{Keep, List}
-use Rattle.rl_copy.specs.Copies.{planOf}
+use Rattle.rl_context.specs.declared.copy.Plan.the-variants.{Keep, List}
+use Rattle.rl_context.specs.Copies.{planOf}
 
 pub two-words : (x y : ℕ) → x < 65536 → pair ((x + y * 65536) % 65536) ((x + y * 65536) / 65536) ≡ pair x y
 two-words x y h = ap₂ pair a b

@@ -1,8 +1,8 @@
 use borrow.Author.Needs.{needs}
 use Rattle.rl_arena.proofs.Laws.{width-fits}
-use Rattle.rl_copy.proofs.Fields.{word-pair, word-number}
-use Rattle.rl_copy.proofs.word_of.Statement.{statement}
-use Rattle.rl_copy.proofs.word_of.Tie as tie
+use Rattle.rl_context.proofs.FieldWords.{word-pair, word-number}
+use Rattle.rl_context.proofs.copy.word_of.Statement.{statement}
+use Rattle.rl_context.proofs.copy.word_of.Tie as tie
 
 ruleset laws = (word-pair, word-number, width-fits)
 

@@ -26,14 +26,14 @@ use Rattle.rl_schema.specs.Codes.{codesIn, codes}
 use Rattle.rl_schema.proofs.Rows.{codes-none, codes-more}
 use Rattle.rl_arena.proofs.Laws.{width-small}
 use Rattle.rl_encode.specs.Words.{wordField, wordFields, wordRecord}
 use Rattle.rl_context.specs.Additions.{Live}
 use Rattle.rl_context.specs.Does.{State, nothing, Does}
 use Rattle.rl_context.proofs.Composed.{not-both, does-then, does-bind, does-give, does-same}
 use Rattle.rl_images.specs.Lowering.Adds.{Adds, adds-bind, adds-append, adds-give, adds-cond}
 use Rattle.rl_context.proofs.StaysOver.{keeps-more}
 use Rattle.rl_images.specs.Lowering.AddsLower.{adds-clone, adds-fields}
 use Rattle.rl_context.proofs.Appends.{stops-does}
-use Rattle.rl_copy.specs.Copies.{cloneBelow, Fitting, Copies, CopiesField}
+use Rattle.rl_context.specs.Copies.{cloneBelow, Fitting, Copies, CopiesField}
 
 -- ---- the record at hand
 
