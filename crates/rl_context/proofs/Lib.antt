@@ -16,3 +16,11 @@ pub mod Temporaries
 pub mod FieldWords
 pub mod Copying
 pub mod CopiedEntries
+pub mod Known
+pub mod Conditions
+pub mod GuardLaws
+pub mod TempName
+pub mod WrapLaws
+pub mod ComparisonCopied
+pub mod Operands
+pub mod RefinementLaws

@@ -1,17 +1,24 @@
 // The lowering context, and what is appended to an image with it. New text bytes, texts, list entries, expressions and statements are kept in a
 // lent scratch slice, each section at its own place, as the bytes of an image; the entries of lists that are being made wait in another.
+mod clauses;
 mod copy;
 mod nodes;
+mod refinements;
+mod wrapping;
 
+pub use clauses::clause_guard;
+pub use clauses::clause_guards;
+pub use clauses::guard;
 pub use copy::deep_clone_expr;
 pub use copy::word_of;
-
+pub use refinements::refinement_guard;
 use rl_bytes::put;
 use rl_bytes::word_at;
 use rl_encode::put_number;
 use rl_encode::put_record;
 use rl_spec::Interval;
 use rl_text_out::put_text;
+pub use wrapping::wrap_return;
 ghost use mathlib.Core.Path.{_≡_};
 ghost use mathlib.Core.Bool.{true};
 ghost use mathlib.Core.List.{List, [], _∷_};

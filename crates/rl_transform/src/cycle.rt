@@ -12,7 +12,7 @@ use rl_bytes::second_u16;
 use rl_bytes::u16_at;
 use rl_context::Ctx;
 use rl_context::Made;
-use rl_guards::wrap_return;
+use rl_context::wrap_return;
 use rl_records::entry_at;
 use rl_spec::Counts;
 use rl_spec::Interval;
