@@ -33,7 +33,6 @@ use Rattle.rl_context.proofs.Composed.{Keeps, does-then, does-bind, doe
 use Rattle.rl_images.specs.Lowering.Adds.{adds-give}
 use Rattle.rl_context.proofs.StaysOver.{keeps-more, keeps-one}
 use Rattle.rl_images.specs.Lowering.AddsLower.{adds-entries, adds-field}
-use Rattle.rl_context.proofs.Appends.{stops-does}
 use Rattle.rl_context.specs.declared.copy.Plan.{Plan}
 use Rattle.rl_context.specs.declared.copy.Plan.the-variants as plan
 use Rattle.rl_context.specs.Copies.{planOf, cloneBelow, Fitting, Copies, CopiesField, CopiesEntry, CopiesEntries}

@@ -4,9 +4,6 @@ use lib.Dec.{ltb}
 use borrow.Author.Needs.{needs}
 use Rattle.rl_context.proofs.copy.is_copied.Statement.{statement}
 use Rattle.rl_context.proofs.copy.is_copied.Tie as tie
-use Rattle.rl_context.proofs.copy.is_copied.Reads as reads
-use Rattle.rl_context.proofs.copy.is_copied.Lts as lts
-use Rattle.rl_context.proofs.copy.is_node.Reads as is-node-reads
 
 -- src/lib.rt:164:8
 is-node-requires : tie.Need-is-node-requires
