@@ -16,7 +16,7 @@ use Rattle.rl_spec.specs.Ranges.{upFrom}
 use Rattle.rl_spec.specs.Make.{Make, give, each}
 use Rattle.rl_spec.specs.Lower.{expr, strLit, deepCloneExpr, violation, onlyIf, guard, msgExpr, clauseGuard}
 use Rattle.rl_schema.specs.Codes.{table}
-use Rattle.rl_context.specs.Does.{State, nothing, Pushes}
+use Rattle.rl_context.specs.Does.{State, nothing, Does, Pushes}
 use Rattle.rl_context.proofs.Composed.{does-bind, does-give, does-push, does-each}
 use Rattle.rl_images.specs.Lowering.Adds.{adds-bind, adds-each}
 use Rattle.rl_context.proofs.StaysOver.{keeps-more, keeps-one}
@@ -36,20 +36,18 @@ guard-does pred msg d e =
     does-bind d
     (keeps-more nothing (λ copy. adds-bind (adds-expr 33 (num 5 ∷ num copy ∷ [])) (λ neg. adds-bind (adds-violation msg) (λ stm. adds-only-if neg stm)))) e
 
-module _ {im : Image} {s u : State} {a : ℕ} (default : List ℕ) (clause : Clause) where
-  by-message : {t : State} {m : ℕ} → Makes im (msgExpr clause default) s m t → Makes im (guard (clause .condition) m) t a u → Makes im (clauseGuard default clause) s a u
-  by-message d e = does-bind d (keeps-more nothing (λ m. adds-guard (clause .condition) m)) e
+module _ {im : Image} {k : ℕ} {s : State} (clause : Clause) (default : List ℕ) where
+  pub message-default : {t : State} {m : ℕ} → clause .message ≡ 65535 → Does im k k nothing (strLit default) s m t → Does im k k nothing (msgExpr clause default) s m t
+  message-default {t} {m} e d = subst (λ b. Does im k k nothing (cond b (strLit default) (give (clause .message))) s m t) (sym (ap (λ n. eqb n 65535) e)) d
 
-  pub clause-default : {t : State} {m : ℕ} → clause .message ≡ 65535 → Makes im (strLit default) s m t → Makes im (guard (clause .condition) m) t a u →
-      Makes im (clauseGuard default clause) s a u
-  clause-default {t} {m} e d f =
-      by-message (subst (λ b. Makes im (cond b (strLit default) (give (clause .message))) s m t) (sym (ap (λ n. eqb n 65535) e)) d) f
+  pub message-own : (clause .message ≡ 65535 → ⊥) → Does im k k nothing (msgExpr clause default) s (clause .message) s
+  message-own n =
+      subst (λ b. Does im k k nothing (cond b (strLit default) (give (clause .message))) s (clause .message) s) (sym (ne-eqb (clause .message) 65535 n))
+      (does-give im k (clause .message) s)
 
-  pub clause-own : (clause .message ≡ 65535 → ⊥) → Makes im (guard (clause .condition) (clause .message)) s a u → Makes im (clauseGuard default clause) s a u
-  clause-own n f =
-      by-message
-      (subst (λ b. Makes im (cond b (strLit default) (give (clause .message))) s (clause .message) s) (sym (ne-eqb (clause .message) 65535 n))
-      (does-give im 0 (clause .message) s)) f
+pub clause-does : {im : Image} {s t u : State} {m a : ℕ} (default : List ℕ) (clause : Clause) → Makes im (msgExpr clause default) s m t → Makes im (guard (clause .condition) m) t a u →
+    Makes im (clauseGuard default clause) s a u
+clause-does default clause d e = does-bind d (keeps-more nothing (λ m. adds-guard (clause .condition) m)) e
 
 -- ---- the guards of clauses, one after the other
 

@@ -6,9 +6,6 @@ mod nodes;
 mod refinements;
 mod wrapping;
 
-pub use clauses::clause_guard;
-pub use clauses::clause_guards;
-pub use clauses::guard;
 pub use copy::deep_clone_expr;
 pub use copy::word_of;
 pub use refinements::refinement_guard;

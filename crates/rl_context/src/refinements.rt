@@ -1,7 +1,6 @@
 // The guards of refinements: rl-resolver's refine_predicate, and its guard. The predicate has just been made, so that its copy is known.
 use crate::Ctx;
 use crate::Made;
-use crate::clauses::guarded;
 use rl_bytes::part;
 use rl_message::default_text;
 use rl_records::function_at;
@@ -159,7 +158,7 @@ fn refined(
         scratch,
         right_copy.ctx,
     );
-    let s = guarded(copy.index, msg.index, scratch, waiting, copy.ctx);
+    let s = copy.ctx.guarded(scratch, waiting, copy.index, msg.index);
     s.ctx.push(waiting, s.index)
 }
 

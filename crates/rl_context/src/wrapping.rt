@@ -1,7 +1,6 @@
 // Wrapped returns: rl-resolver's wrap_return. The statements wait then.
 use crate::Ctx;
 use crate::Made;
-use crate::clauses::clause_guards;
 use rl_bytes::part;
 use rl_spec::Counts;
 use rl_spec::Interval;
@@ -74,16 +73,15 @@ fn wrap_as(
     let inner = inner_of(temp, is_result, scratch, waiting, skipped);
     let ret = inner.ctx.declare(scratch, b"ret", inner.index);
     let named = ret.ctx.push(waiting, ret.index);
-    let guarded = clause_guards(
+    let guarded = named.clause_guards(
         image,
         starts,
         counts,
         rows,
-        b"ensures violated",
-        ensured,
         scratch,
         waiting,
-        named,
+        b"ensures violated",
+        ensured,
     );
     let last = guarded.return_of(scratch, temp);
     last.ctx.push(waiting, last.index)

@@ -1,7 +1,7 @@
 use borrow.Author.Needs.{needs}
 use Rattle.rl_context.proofs.GuardLaws.{guard-does}
-use Rattle.rl_context.proofs.clauses.guard.Statement.{statement}
-use Rattle.rl_context.proofs.clauses.guard.Tie as tie
+use Rattle.rl_context.proofs.Ctx.guard.Statement.{statement}
+use Rattle.rl_context.proofs.Ctx.guard.Tie as tie
 
 deep-clone-expr-requires : tie.Need-deep-clone-expr-requires
 deep-clone-expr-requires c κs = search needs

@@ -1,7 +1,7 @@
 use borrow.Author.Needs.{needs}
 use Rattle.rl_context.proofs.GuardLaws.{guarded-does}
-use Rattle.rl_context.proofs.clauses.guarded.Statement.{statement}
-use Rattle.rl_context.proofs.clauses.guarded.Tie as tie
+use Rattle.rl_context.proofs.Ctx.guarded.Statement.{statement}
+use Rattle.rl_context.proofs.Ctx.guarded.Tie as tie
 
 negated-requires : tie.Need-negated-requires
 negated-requires c κs = search needs

@@ -4,17 +4,17 @@ use Rattle.rl_context.proofs.GuardLaws.{Guarding, guarding-none, guardi
 use Rattle.rl_context.specs.Does.{at}
 use Rattle.rl_spec.specs.Found.{imageFound}
 use Prim.Native.Nat.{_-_}
-use Rattle.rl_context.proofs.clauses.clause_guards.Statement.{statement}
-use Rattle.rl_context.proofs.clauses.clause_guards.Tie as tie
+use Rattle.rl_context.proofs.Ctx.clause_guards.Statement.{statement}
+use Rattle.rl_context.proofs.Ctx.clause_guards.Tie as tie
 
 ruleset laws = (guarding-none, guarding-more, guarding-all)
 
 abbrev Inv-loop : tie.InvT-loop
-Inv-loop image starts counts rows default clauses scratch₀ waiting₀ next₀ i₀ scratch waiting next i =
+Inv-loop image starts counts rows scratch₀ waiting₀ default clauses next₀ i₀ scratch waiting next i =
     Guarding (imageFound image starts counts) default clauses rows (counts .expressions) (at next₀ scratch₀ waiting₀) i (at next scratch waiting)
 
 abbrev μ-loop : tie.MeasureT-loop
-μ-loop image starts counts rows default clauses scratch₀ waiting₀ next₀ i₀ scratch waiting next i =
+μ-loop image starts counts rows scratch₀ waiting₀ default clauses next₀ i₀ scratch waiting next i =
     clauses .count - i
 
 loop-holds : tie.Need-loop-holds Inv-loop μ-loop
@@ -45,7 +45,7 @@ loop-less : tie.Need-loop-less Inv-loop μ-loop
 loop-less c = search (laws, needs)
 
 loop-again : tie.Need-loop-again Inv-loop μ-loop
-loop-again c = guarding-more _ _ _ _ _ _ _ _ _ _ _ _ (c .before .before .before .before .before .before .before .before .before .before .before .before .before .if1 .taken) (c .before .before .before .before .before .before .before .before .before .before .before .before .before .before .before .loop .inv) (c .before .before .before .before .before .before .before .before .before .before .before .clause-at .ensures _) (c .before .before .before .before .before .before .before .before .clause-guard .ensures) (c .before .before .push .ensures _) (c .before .before .before .before .before .before .before .before .clause-guard .kept .1 .1 .1 .1 .1 .1 .0) (c .before .before .push .kept .1 .0 ∙ c .before .before .before .before .before .before .before .before .clause-guard .kept .1 .1 .1 .1 .1 .1 .1 .0)
+loop-again c = guarding-more _ _ _ _ _ _ _ _ _ _ _ _ (c .before .before .before .before .before .before .before .before .before .before .before .before .before .if1 .taken) (c .before .before .before .before .before .before .before .before .before .before .before .before .before .before .before .loop .inv) (c .before .before .before .before .before .before .before .before .before .before .before .clause-at .ensures _) (c .before .before .before .before .before .before .before .before .clause-guard .ensures) (c .before .before .push .ensures _) (c .before .before .before .before .before .before .before .before .clause-guard .kept .1 .1 .1 .1 .1 .0) (c .before .before .push .kept .1 .0 ∙ c .before .before .before .before .before .before .before .before .clause-guard .kept .1 .1 .1 .1 .1 .1 .0)
 
 same-length : tie.Need-same-length Inv-loop μ-loop
 same-length c = search (laws, needs)
