@@ -15,7 +15,6 @@ use rl_encode::put_number;
 use rl_encode::put_record;
 use rl_spec::Interval;
 use rl_text_out::put_text;
-pub use wrapping::wrap_return;
 ghost use mathlib.Core.Path.{_≡_};
 ghost use mathlib.Core.Bool.{true};
 ghost use mathlib.Core.List.{List, [], _∷_};

@@ -1,7 +1,7 @@
 use borrow.Author.Needs.{needs}
 use Rattle.rl_context.proofs.WrapLaws.{inner-unwrapped, inner-plain}
-use Rattle.rl_context.proofs.wrapping.inner_of.Statement.{statement}
-use Rattle.rl_context.proofs.wrapping.inner_of.Tie as tie
+use Rattle.rl_context.proofs.Ctx.inner_of.Statement.{statement}
+use Rattle.rl_context.proofs.Ctx.inner_of.Tie as tie
 
 ident-requires : tie.Need-ident-requires
 ident-requires c κs = search needs

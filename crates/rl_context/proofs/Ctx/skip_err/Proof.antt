@@ -1,8 +1,8 @@
 use borrow.Author.Needs.{needs}
 use Rattle.rl_context.proofs.WrapLaws.{skip-err-does}
 use mathlib.Core.Path.{_∙_}
-use Rattle.rl_context.proofs.wrapping.skip_err.Statement.{statement}
-use Rattle.rl_context.proofs.wrapping.skip_err.Tie as tie
+use Rattle.rl_context.proofs.Ctx.skip_err.Statement.{statement}
+use Rattle.rl_context.proofs.Ctx.skip_err.Tie as tie
 
 ident-requires : tie.Need-ident-requires
 ident-requires c κs = search needs

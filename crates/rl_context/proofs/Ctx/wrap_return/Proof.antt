@@ -2,8 +2,8 @@ use borrow.Author.Needs.{needs}
 use Rattle.rl_context.proofs.TempName.{temp-name}
 use Rattle.rl_context.proofs.WrapLaws.{wrap-return-does}
 use mathlib.Core.Path.{refl}
-use Rattle.rl_context.proofs.wrapping.wrap_return.Statement.{statement}
-use Rattle.rl_context.proofs.wrapping.wrap_return.Tie as tie
+use Rattle.rl_context.proofs.Ctx.wrap_return.Statement.{statement}
+use Rattle.rl_context.proofs.Ctx.wrap_return.Tie as tie
 
 slice-aggregate-put-text : tie.Need-slice-aggregate-put-text
 slice-aggregate-put-text c = search needs
@@ -42,7 +42,7 @@ same-length-2 : tie.Need-same-length-2
 same-length-2 c = search needs
 
 returns : tie.Need-returns
-returns c q h = wrap-return-does _ _ _ (temp-name _ _ _ _ _ _ _ refl (c .before .before .before .before .before .before .before .before .before .before .before .before .before .before .before .put-text .ensures .0) (c .before .before .before .before .before .before .before .before .before .before .before .before .before .before .before .put-text .ensures .1) (c .before .before .before .before .before .before .before .before .before .before .before .put-number .ensures .0) (c .before .before .before .before .before .before .before .before .before .before .before .put-number .ensures .1) (c .before .before .before .before .before .before .before .part .ensures)) (c .before .before .before .before .before .before .before .before .before .take-temp .ensures _ _ _) (c .before .before .before .before .wrap-as .ensures q h)
+returns c q h = wrap-return-does _ _ _ (temp-name _ _ _ _ _ _ _ refl (c .before .before .before .before .before .before .before .before .before .before .before .before .before .before .before .put-text .ensures .0) (c .before .before .before .before .before .before .before .before .before .before .before .before .before .before .before .put-text .ensures .1) (c .before .before .before .before .before .before .before .before .before .before .before .put-number .ensures .0) (c .before .before .before .before .before .before .before .before .before .before .before .put-number .ensures .1) (c .before .before .before .before .before .part .ensures)) (c .before .before .before .before .before .before .before .before .before .take-temp .ensures _ _ _) (c .before .before .before .before .wrap-as .ensures q h)
 
 pub wrap-return-spec : {M : Type 1} → statement M
 wrap-return-spec =

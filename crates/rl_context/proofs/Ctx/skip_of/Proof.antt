@@ -1,7 +1,7 @@
 use borrow.Author.Needs.{needs}
 use Rattle.rl_context.proofs.WrapLaws.{skip-some, skip-none}
-use Rattle.rl_context.proofs.wrapping.skip_of.Statement.{statement}
-use Rattle.rl_context.proofs.wrapping.skip_of.Tie as tie
+use Rattle.rl_context.proofs.Ctx.skip_of.Statement.{statement}
+use Rattle.rl_context.proofs.Ctx.skip_of.Tie as tie
 
 skip-err-requires : tie.Need-skip-err-requires
 skip-err-requires c κs = search needs
