@@ -13,11 +13,11 @@ use Rattle.rl_spec.specs.Tree.{below}
 use Rattle.rl_spec.specs.Make.{Context, Make, andThen, _>>=_, give, imageSoFar, append, made}
 use Rattle.rl_spec.specs.Lower.{expr, cloneFields, cloneRecord, deepCloneExpr}
 use Rattle.rl_laws.specs.Descend.{descend-is, under-earlier}
-use Rattle.rl_images.specs.Lowering.Gives.{given-is}
-use Rattle.rl_images.specs.Lowering.Grows.{Eight, record-kept, size-grows, records-own, expr-gives}
-use Rattle.rl_images.specs.Lowering.GrowsTo.{Later}
+use Rattle.rl_images.specs.Lowering.Gives.{Gives, weaker, given-is}
+use Rattle.rl_images.specs.Lowering.Grows.{Eight, record-kept, size-grows, records-own, appended-grows, Appended, expr-gives}
+use Rattle.rl_images.specs.Lowering.GrowsTo.{Later, eight-later, with-later}
 use Rattle.rl_images.specs.Lowering.Adds.{adds-later, adds-append}
-use Rattle.rl_images.specs.Lowering.AddsLower.{adds-expr}
+use Rattle.rl_context.proofs.Known.{later-bind}
 use Rattle.rl_context.specs.Guards.{Leaf, anInteger, aString, aBool, anIdentifier, copyOf}
 
 -- the expression at an index
@@ -39,26 +39,34 @@ pub record New (x : Context) (kind : ℕ) (fields : List Field) (n : ℕ) (y : C
   pub has : Has y n (made kind (num (y .span) ∷ fields))
   pub last : n ≡ sizeOf (x .image) Expressions
 
-pub expr-new : (kind : ℕ) (fields : List Field) (x y : Context) (n : ℕ) → Eight (x .image) → expr kind fields x ≡ some (n, y) → New x kind fields n y
-expr-new kind fields x y n e is =
-    let g = given-is (expr-gives kind fields x) is in
-    let l : Later x y = given-is (adds-later (adds-expr kind fields) x e) is in
-    let r : Rec = made kind (num (x .span) ∷ fields) in
-    let old : List Rec = recordsOf (x .image) Expressions in
-    let q : recordsOf (y .image) Expressions ≡ old ++ r ∷ [] = ap (λ c. recordsOf (c .image) Expressions) (g .is) ∙ records-own (x .image) Expressions (old ++ r ∷ []) e in
-    record {
-      later = l;
-      has =
-          record {
-            inside = rw (q, length-append old (r ∷ [])) (omega (arith, g .at));
-            is = rw (q, g .at, l .span) (getD-at-end old r);
-          };
-      last = g .at;
-    }
+pub expr-new : (kind : ℕ) (fields : List Field) (x : Context) → Eight (x .image) → Gives (λ n y. New x kind fields n y) (expr kind fields x)
+expr-new kind fields x e = weaker (expr-gives kind fields x) is-new
   where
-    getD-at-end : (l : List Rec) (r : Rec) → getD (l ++ r ∷ []) (length l) noRecord ≡ r
-    getD-at-end [] r = refl
-    getD-at-end (z ∷ l) r = getD-at-end l r
+    r : Rec
+    r = made kind (num (x .span) ∷ fields)
+
+    old : List Rec
+    old = recordsOf (x .image) Expressions
+
+    getD-at-end : (l : List Rec) → getD (l ++ r ∷ []) (length l) noRecord ≡ r
+    getD-at-end [] = refl
+    getD-at-end (z ∷ l) = getD-at-end l
+
+    records-are : (n : ℕ) (y : Context) → Appended x Expressions (r ∷ []) n y → recordsOf (y .image) Expressions ≡ old ++ r ∷ []
+    records-are n y g = ap (λ c. recordsOf (c .image) Expressions) (g .is) ∙ records-own (x .image) Expressions (old ++ r ∷ []) e
+
+    is-new : (n : ℕ) (y : Context) → Appended x Expressions (r ∷ []) n y → New x kind fields n y
+    is-new n y g =
+        let l : Later x y = rw (g .is) (with-later (appended-grows (x .image) Expressions (r ∷ []) tt e)) in
+        record {
+          later = l;
+          has =
+              record {
+                inside = rw (records-are n y g, length-append old (r ∷ [])) (omega (arith, g .at));
+                is = rw (records-are n y g, g .at, l .span) (getD-at-end old);
+              };
+          last = g .at;
+        }
 
 -- ---- copies
 
@@ -101,9 +109,13 @@ module _ (clone : ℕ → Make ℕ) (id σ tok l r : ℕ) (left right : Rec) whe
   left-flat none h = refl
   left-flat (some p) h = ap (from-right (p .0)) (h (p .0) (p .1) refl) ∙ right-flat (p .0) (append Expressions (right ∷ []) (p .1))
 
+  -- the two records, and the comparison of the new ones
+  abbrev copied : Make ℕ
+  copied = append Expressions (left ∷ []) >>= λ n. append Expressions (right ∷ []) >>= λ m. append Expressions (made 32 (num σ ∷ num n ∷ num tok ∷ num m ∷ []) ∷ [])
+
   binary-record : (x : Context) → clone l x ≡ append Expressions (left ∷ []) x →
       ((n : ℕ) (y : Context) → append Expressions (left ∷ []) x ≡ some (n, y) → clone r y ≡ append Expressions (right ∷ []) y) →
-      cloneRecord clone id (made 32 (num σ ∷ num l ∷ num tok ∷ num r ∷ [])) x ≡ copyOf σ left tok right x
+      cloneRecord clone id (made 32 (num σ ∷ num l ∷ num tok ∷ num r ∷ [])) x ≡ copied x
   unfolding from-left cloneFields fieldsOf fieldsIn schema sortOf
   binary-record x e h = ap from-left e ∙ left-flat (append Expressions (left ∷ []) x) h
 
@@ -129,9 +141,18 @@ comparison-later l c =
       right-before = c .right-before;
     }
 
--- THEOREM: its copy is the two records again, and a comparison of them
-pub comparison-copied : (x : Context) (kind w t tok pred : ℕ) → Eight (x .image) → Leaf kind → Comparison x kind w t tok pred →
-    deepCloneExpr pred x ≡ copyOf (x .span) (made 30 (num (x .span) ∷ num t ∷ [])) tok (made kind (num (x .span) ∷ num w ∷ [])) x
+-- the span is the same all the while
+same-span : (clone : ℕ → Make ℕ) (id l r : ℕ) (x : Context) (kind w t tok : ℕ) → Eight (x .image) →
+    copied clone id (x .span) tok l r (made 30 (num (x .span) ∷ num t ∷ [])) (made kind (num (x .span) ∷ num w ∷ [])) x ≡ copyOf (kind, w) t tok x
+unfolding expr
+same-span clone id l r x kind w t tok e =
+    later-bind (adds-append Expressions tt _) x e
+    (λ n y p.
+    ap (λ σ. (append Expressions (made kind (num σ ∷ num w ∷ []) ∷ []) >>= λ m. append Expressions (made 32 (num σ ∷ num n ∷ num tok ∷ num m ∷ []) ∷ [])) y) (sym (p .span))
+    ∙ later-bind (adds-append Expressions tt _) y (eight-later p e) (λ m z q. ap (λ σ. append Expressions (made 32 (num σ ∷ num n ∷ num tok ∷ num m ∷ []) ∷ []) z) (sym (q .span))))
+
+-- THEOREM: its copy is the two operands again, and the comparison of them
+pub comparison-copied : (x : Context) (kind w t tok pred : ℕ) → Eight (x .image) → Leaf kind → Comparison x kind w t tok pred → deepCloneExpr pred x ≡ copyOf (kind, w) t tok x
 comparison-copied x kind w t tok pred e leaf c =
     clone-is pred x _ (c .has)
     ∙ binary-record (below pred give deepCloneExpr) pred (x .span) tok (c .left) (c .right) _ _ x
@@ -139,3 +160,4 @@ comparison-copied x kind w t tok pred e leaf c =
     (λ n y is.
     ap (λ m. m y) (under-earlier give deepCloneExpr pred (c .right) (c .right-before))
     ∙ leaf-copied (c .right) kind (x .span) w y leaf (has-later (given-is (adds-later (adds-append Expressions tt _) x e) is) (c .right-has)))
+    ∙ same-span (below pred give deepCloneExpr) pred (c .left) (c .right) x kind w t tok e

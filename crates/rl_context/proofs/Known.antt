@@ -1,17 +1,27 @@
 -- Computations after others whose results are known: what the code does where a property of the context holds.
 -- Assumes nothing.
 use Prim.Native.Nat.{ℕ}
-use mathlib.Core.Path.{_≡_, ap, sym, _∙_, subst}
+use mathlib.Core.Path.{_≡_, refl, ap, sym, _∙_, subst}
 use mathlib.Core.Bool.{true, false}
 use mathlib.Core.List.{List}
 use mathlib.Core.Option.{Option, none, some}
 use lib.ListN.{length}
 use Rattle.rl_spec.specs.Image.{Image}
 use Rattle.rl_spec.specs.Make.{Context, Make, andThen, _>>=_}
-use Rattle.rl_images.specs.Lowering.Gives.{after}
+use Rattle.rl_images.specs.Lowering.Gives.{Gives, stops, gives, after}
 use Rattle.rl_images.specs.Lowering.Grows.{Eight}
+use Rattle.rl_images.specs.Lowering.GrowsTo.{Later}
+use Rattle.rl_images.specs.Lowering.Adds.{Adds, adds-later}
 use Rattle.rl_context.specs.Does.{State, nothing, Ends, Start, Does}
 use Rattle.rl_context.proofs.Composed.{Keeps, not-both, by-full, ends-full, ends-live, stays-full, then-is}
+
+-- what is the same in a later context is so behind what adds to the image
+pub later-bind : {A B : Type 0} {m : Make A} {f g : A → Make B} → Adds m → (x : Context) → Eight (x .image) → ((a : A) (y : Context) → Later x y → f a y ≡ g a y) → (m >>= f) x ≡ (m >>= g) x
+later-bind {A} {m = m} {f} {g} h x e same = go (adds-later h x e)
+  where
+    go : {o : Option (A × Context)} → Gives (λ _ y. Later x y) o → andThen o f ≡ andThen o g
+    go stops = refl
+    go (gives {a = a} {c = y} l) = same a y l
 
 pub record DoesIf {A : Type 0} (im : Image) (j k : ℕ) (pushed : A → List ℕ) (P : Context → Type 0) (m : Make A) (s : State) (a : A) (t : State) : Type 0 where
   pub does : (ws : List ℕ) (o : Option (Unit {0} × Context)) → Start im j ws o s → ((x : Context) → o ≡ some (tt, x) → P x) →
@@ -27,7 +37,7 @@ if-start d = record { does = λ ws o st. d .does ws o st (λ x e. tt) }
 
 -- a computation that is another where the property holds
 pub if-same : {A : Type 0} {im : Image} {j k : ℕ} {p : A → List ℕ} {P : Context → Type 0} {n : Make A} {s : State} {a : A} {t : State} (m : Make A) →
-    Keeps (nothing {A = Unit {0}}) (λ _. m) p → ((x : Context) → Eight (x .image) → x .span ≡ s .ctx .span → P x → m x ≡ n x) → Does im j k p n s a t →
+    Keeps (nothing {A = Unit {0}}) (λ _. m) p → ((x : Context) → Eight (x .image) → P x → m x ≡ n x) → Does im j k p n s a t →
     DoesIf im j k p P m s a t
 if-same {A} {im} {j} {k} {p} {P} {n} {s} {a} {t} m keeps same d = record { does = go; full = stays-full d }
   where
@@ -38,7 +48,7 @@ if-same {A} {im} {j} {k} {p} {P} {n} {s} {a} {t} m keeps same d = record { does 
         let l = st .live v in
         subst (λ z. Ends im k p ws (andThen z (λ _. m)) a t) (sym (l .is))
         (subst (λ z. Ends im k p ws z a t)
-        (sym (same (l .here) (ap (λ z. length (z .image .records)) (l .live .context)) (ap (λ z. z .span) (l .live .context)) (h (l .here) (l .is))))
+        (sym (same (l .here) (ap (λ z. length (z .image .records)) (l .live .context)) (h (l .here) (l .is))))
         (subst (λ z. Ends im k p ws (andThen z (λ _. n)) a t) (l .is) (d .does ws o st))))
 
 -- a computation, what is known after it, and what follows

@@ -14,27 +14,27 @@ use lib.ListN.{length, take, drop}
 use lib.Seq.{length-take-le}
 use Rattle.rl_spec.specs.declared.RefineOperand as operand
 use Rattle.rl_spec.specs.declared.RefineOperand.the-variants.{Integer, Str, Bool as Truth, Param as Named}
-use Rattle.rl_spec.specs.declared.Section.the-variants.{Expressions}
 use Rattle.rl_spec.specs.Schema.{limits, sortOf, schema, fieldsIn, fieldsOf}
 use Rattle.rl_spec.specs.Image.{num, Image, textOf}
 use Rattle.rl_spec.specs.Words.{bits64}
 use Rattle.rl_spec.specs.Contracts.{operandOf}
-use Rattle.rl_spec.specs.Make.{Context, andThen, _>>=_, give, append, made, newText}
+use Rattle.rl_spec.specs.Make.{Context, andThen, _>>=_, give, newText}
 use Rattle.rl_spec.specs.Lower.{expr, strLit}
 use Rattle.rl_images.specs.Lowering.Gives.{Gives, stops, gives}
 use Rattle.rl_images.specs.Lowering.Grows.{text-gives}
 use Rattle.rl_schema.specs.Codes.{codes}
-use Rattle.rl_encode.specs.Words.{wordFields, wordRecord}
+use Rattle.rl_encode.specs.Words.{wordFields}
 use Rattle.rl_text_out.specs.Put.{fitting, withText, afterText}
 use Rattle.rl_text_out.proofs.Joined.{length-with, room-holds}
 use Rattle.rl_laws.specs.Tests.{by-ltb}
 use Rattle.rl_context.specs.Does.{State, nothing, Does}
 use Rattle.rl_context.proofs.Composed.{does-bind, does-give}
-use Rattle.rl_images.specs.Lowering.Adds.{adds-give}
+use Rattle.rl_images.specs.Lowering.Adds.{adds-give, adds-bind}
+use Rattle.rl_images.specs.Lowering.AddsLower.{adds-expr}
 use Rattle.rl_context.proofs.StaysOver.{keeps-more}
 use Rattle.rl_context.proofs.Rows.{row-integer, row-string, row-bool, row-identifier}
 use Rattle.rl_context.specs.declared.refinements.Operand.{Operand}
-use Rattle.rl_context.specs.Guards.{Makes, Leaf, anInteger, aString, aBool, anIdentifier, leafOf, OperandMade}
+use Rattle.rl_context.specs.Guards.{Makes, Leaf, anInteger, aString, aBool, anIdentifier, leafOf, copyOf, OperandMade}
 
 module _ {im : Image} (image : Image) (x : operand.RefineOperand) {s t : State} (r : Operand) where
   of-operand : (y : operand.RefineOperand) → x ≡ y → OperandMade im (leafOf image (operandOf y)) s r t → OperandMade im (leafOf image (operandOf x)) s r t
@@ -75,24 +75,23 @@ module _ {im : Image} (image : Image) (x : operand.RefineOperand) (s : State) wh
   pub false-made : (b : Bool) → x ≡ Truth b → b ≡ false → OperandMade im (leafOf image (operandOf x)) s (record { ctx = s .ctx; kind = 26; row = 1283; word = 0 }) s
   false-made b e q = truth-made false (e ∙ ap Truth q)
 
--- ---- the records
+-- ---- the nodes: a leaf's fields are its span and its number
 
-leaf-record : (kind span w : ℕ) → Leaf kind → wordRecord kind (span ∷ w ∷ []) ≡ made kind (num span ∷ num w ∷ [])
-unfolding wordRecord wordFields fieldsOf fieldsIn schema sortOf
-leaf-record kind span w anInteger = refl
-leaf-record kind span w aString = refl
-leaf-record kind span w aBool = refl
-leaf-record kind span w anIdentifier = refl
+leaf-fields : (kind w : ℕ) → Leaf kind → (cs : List ℕ) × ((fieldsOf kind ≡ 3 ∷ cs) × (wordFields cs (w ∷ 0 ∷ 0 ∷ []) 0 ≡ num w ∷ []))
+unfolding wordFields fieldsOf fieldsIn schema sortOf
+leaf-fields kind w anInteger = (_, (refl, refl))
+leaf-fields kind w aString = (_, (refl, refl))
+leaf-fields kind w aBool = (_, (refl, refl))
+leaf-fields kind w anIdentifier = (_, (refl, refl))
 
-module _ {im : Image} {s t : State} {a : ℕ} where
-  pub node-made : (kind span w : ℕ) → Leaf kind → Makes im (append Expressions (wordRecord kind (span ∷ w ∷ []) ∷ [])) s a t →
-      Makes im (append Expressions (made kind (num span ∷ num w ∷ []) ∷ [])) s a t
-  node-made kind span w l d = subst (λ r. Makes im (append Expressions (r ∷ [])) s a t) (leaf-record kind span w l) d
+pub leaf-made : {im : Image} {s t : State} {a : ℕ} (kind w : ℕ) → Leaf kind → ((cs : List ℕ) → fieldsOf kind ≡ 3 ∷ cs → Makes im (expr kind (wordFields cs (w ∷ 0 ∷ 0 ∷ []) 0)) s a t) →
+    Makes im (expr kind (num w ∷ [])) s a t
+leaf-made {im} {s} {t} {a} kind w leaf d = let l = leaf-fields kind w leaf in subst (λ fs. Makes im (expr kind fs) s a t) (l .1 .1) (d (l .0) (l .1 .0))
 
-  pub comparison-made : (span left token right : ℕ) → Makes im (append Expressions (wordRecord 32 (span ∷ left ∷ token ∷ right ∷ []) ∷ [])) s a t →
-      Makes im (append Expressions (made 32 (num span ∷ num left ∷ num token ∷ num right ∷ []) ∷ [])) s a t
-  unfolding wordRecord wordFields fieldsOf fieldsIn schema sortOf
-  comparison-made span left token right d = d
+pub copy-does : {im : Image} {s t u v : State} {left right a : ℕ} (leaf : ℕ × ℕ) (text token : ℕ) → Makes im (expr 30 (num text ∷ [])) s left t → Makes im (expr (leaf .0) (num (leaf .1) ∷ [])) t right u →
+    Makes im (expr 32 (num left ∷ num token ∷ num right ∷ [])) u a v → Makes im (copyOf leaf text token) s a v
+copy-does {left = left} leaf text token d e f =
+    does-bind d (keeps-more nothing (λ l. adds-bind (adds-expr (leaf .0) _) (λ r. adds-expr 32 _))) (does-bind e (keeps-more nothing (λ r. adds-expr 32 _)) f)
 
 -- ---- the message: a text for which there is no room in the buffer is refused, as is what has room of it
 

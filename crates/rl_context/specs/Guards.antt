@@ -8,17 +8,17 @@ use Rattle.rl_spec.specs.declared.Interval.{Interval}
 use Rattle.rl_spec.specs.declared.RefineOp as op
 use Rattle.rl_spec.specs.declared.RefineOperand as operand
 use Rattle.rl_spec.specs.Folded.{opOf}
-use Rattle.rl_spec.specs.declared.Section.the-variants.{Expressions}
 use Rattle.rl_spec.specs.Schema.{fieldsOf}
-use Rattle.rl_spec.specs.Image.{num, Rec, Image, textOf}
+use Rattle.rl_spec.specs.Image.{num, Image, textOf}
 use Rattle.rl_spec.specs.Records.{clauseAt, functionAt}
 use Rattle.rl_spec.specs.Words.{bits64}
 use Rattle.rl_spec.specs.Ranges.{numbersIn}
 use Rattle.rl_spec.specs.Contracts.{RefineOperand, integer, str, bool, param, ParamRefinement, Param, paramOf, operandOf}
-use Rattle.rl_spec.specs.Make.{Make, _>>=_, give, append, made, newText}
-use Rattle.rl_spec.specs.Lower.{expr, ident, strLit, unwrapCall, violation, onlyIf, guard, refinePredicate, refinementGuard}
+use Rattle.rl_spec.specs.Make.{Make, _>>=_, give, newText}
+use Rattle.rl_spec.specs.Lower.{expr, ident, strLit, unwrapCall, violation, onlyIf, guard, tokenOf, refinePredicate, refinementGuard}
 use Rattle.rl_schema.specs.Codes.{codes}
 use Rattle.rl_context.specs.declared.refinements.Operand.{Operand}
+use Rattle.rl_context.specs.declared.refinements.Predicate.{Predicate}
 use Rattle.rl_context.specs.Does.{State, nothing, all, Does}
 
 -- one statement or node; and statements that wait then
@@ -64,12 +64,22 @@ leafOf im (str s) = newText (textOf im s) >>= λ t. give (25, t)
 leafOf im (bool b) = give (26, cond b 1 0)
 leafOf im (param p) = newText (textOf im p) >>= λ t. give (30, t)
 
--- the copy of a comparison: its operands' records, and the comparison of these
-abbrev pub copyOf : ℕ → Rec → ℕ → Rec → Make ℕ
-copyOf span left token right = do
-  l ← append Expressions (left ∷ [])
-  r ← append Expressions (right ∷ [])
-  append Expressions (made 32 (num span ∷ num l ∷ num token ∷ num r ∷ []) ∷ [])
+-- a refinement's predicate, with its right operand's kind and number and its left one's text
+abbrev pub predicateOf : Image → ℕ → ParamRefinement ℕ → Make (ℕ × ((ℕ × ℕ) × ℕ))
+predicateOf im name refinement = do
+  leaf ← leafOf im (refinement .operand)
+  right ← expr (leaf .0) (num (leaf .1) ∷ [])
+  t ← newText (textOf im name)
+  left ← expr 30 (num t ∷ [])
+  pred ← expr 32 (num left ∷ num (tokenOf (refinement .op)) ∷ num right ∷ [])
+  give (pred, (leaf, t))
+
+-- the predicate's copy, which has the same texts
+abbrev pub copyOf : ℕ × ℕ → ℕ → ℕ → Make ℕ
+copyOf leaf t token = do
+  left ← expr 30 (num t ∷ [])
+  right ← expr (leaf .0) (num (leaf .1) ∷ [])
+  expr 32 (num left ∷ num token ∷ num right ∷ [])
 
 -- a refinement's guard, with its message
 abbrev pub refinedBy : Image → ℕ → ParamRefinement ℕ → List ℕ → Make (List ℕ)
@@ -88,6 +98,14 @@ pub record OperandMade (im : Image) (m : Make (ℕ × ℕ)) (s : State) (o : Ope
   pub does : Does im 0 0 nothing m s (o .kind, o .word) t
   pub leaf : Leaf (o .kind)
   pub row : codes (o .row) ≡ fieldsOf (o .kind)
+
+-- a predicate of the code
+pub record PredicateMade (im image : Image) (name : ℕ) (refinement : ParamRefinement ℕ) (s : State) (p : Predicate) (t : State) : Type 0 where
+  pub does : Makes im (refinePredicate image name refinement) s (p .index) t
+  pub parts : Does im 0 0 nothing (predicateOf image name refinement) s (p .index, ((p .kind, p .word), p .text)) t
+  pub token : p .token ≡ tokenOf (refinement .op)
+  pub leaf : Leaf (p .kind)
+  pub row : codes (p .row) ≡ fieldsOf (p .kind)
 
 -- the guard of a function's parameter, by its number
 abbrev pub guardFor : Image → Param ℕ → Make (List ℕ)

@@ -8,7 +8,7 @@ mod wrapping;
 
 pub use copy::deep_clone_expr;
 pub use copy::word_of;
-pub use refinements::refinement_guard;
+pub use refinements::Predicate;
 use rl_bytes::put;
 use rl_bytes::word_at;
 use rl_encode::put_number;

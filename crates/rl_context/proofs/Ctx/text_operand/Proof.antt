@@ -1,7 +1,7 @@
 use borrow.Author.Needs.{needs}
 use mathlib.Core.Path.{refl}
-use Rattle.rl_context.proofs.refinements.text_operand.Statement.{statement}
-use Rattle.rl_context.proofs.refinements.text_operand.Tie as tie
+use Rattle.rl_context.proofs.Ctx.text_operand.Statement.{statement}
+use Rattle.rl_context.proofs.Ctx.text_operand.Tie as tie
 
 new-text-requires : tie.Need-new-text-requires
 new-text-requires c κs = search needs

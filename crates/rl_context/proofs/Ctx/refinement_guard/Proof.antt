@@ -1,7 +1,7 @@
 use borrow.Author.Needs.{needs}
 use Rattle.rl_context.proofs.RefinementLaws.{unrefined-done, refinement-done}
-use Rattle.rl_context.proofs.refinements.refinement_guard.Statement.{statement}
-use Rattle.rl_context.proofs.refinements.refinement_guard.Tie as tie
+use Rattle.rl_context.proofs.Ctx.refinement_guard.Statement.{statement}
+use Rattle.rl_context.proofs.Ctx.refinement_guard.Tie as tie
 
 function-at-requires : tie.Need-function-at-requires
 function-at-requires c κs = search needs
@@ -43,7 +43,7 @@ same-length-3 : tie.Need-same-length-3
 same-length-3 c = search needs
 
 returns-2 : tie.Need-returns-2
-returns-2 c im p h = refinement-done _ _ _ _ _ (c .before .before .before .before .before .before .before .before .before .before .before .before .before .before .before .before .before .before .before .function-at .ensures p) (c .before .before .before .before .before .before .before .before .before .before .before .before .before .before .before .before .param-at .ensures p) _ _ _ _ _ _ (c .before .before .before .before .before .before .before .before .before .before .before .before .before .before .refinement .given .1) h (c .before .before .before .before .before .before .before .before .before .before .before .default-text .ensures .0 p) (c .before .before .before .before .before .before .before .before .before .before .before .default-text .ensures .1 p) (c .before .before .before .before .before .before .before .part .ensures) (c .before .before .before .before .refined .ensures im p)
+returns-2 c im p h = refinement-done _ _ _ _ _ (c .before .before .before .before .before .before .before .before .before .before .before .before .before .before .before .before .before .before .before .function-at .ensures p) (c .before .before .before .before .before .before .before .before .before .before .before .before .before .before .before .before .param-at .ensures p) _ _ _ _ _ _ (c .before .before .before .before .before .before .before .before .before .before .before .before .before .before .refinement .given .1) h (c .before .before .before .before .before .before .before .before .before .before .before .default-text .ensures .0 p) (c .before .before .before .before .before .before .before .before .before .before .before .default-text .ensures .1 p) (c .before .before .before .before .before .part .ensures) (c .before .before .before .before .refined .ensures im p)
 
 pub refinement-guard-spec : {M : Type 1} → statement M
 refinement-guard-spec =

@@ -1,7 +1,7 @@
 use borrow.Author.Needs.{needs}
 use Rattle.rl_context.proofs.Operands.{integer-made, str-made, true-made, false-made, named-made}
-use Rattle.rl_context.proofs.refinements.operand_of.Statement.{statement}
-use Rattle.rl_context.proofs.refinements.operand_of.Tie as tie
+use Rattle.rl_context.proofs.Ctx.operand_of.Statement.{statement}
+use Rattle.rl_context.proofs.Ctx.operand_of.Tie as tie
 
 enum-known-operand : tie.Need-enum-known-operand
 enum-known-operand c = search needs
@@ -40,7 +40,7 @@ same-length : tie.Need-same-length
 same-length c = search needs
 
 returns-3 : tie.Need-returns-3
-returns-3 c im p w = str-made _ _ _ _ _ (c .before .before .before .before .before .before .operand2 .given .1) (c .before .before .before .before .text-at .ensures p) (c .before .before .text-operand .ensures .0, (c .before .before .text-operand .ensures .1 .0, c .before .before .text-operand .ensures .1 .1 im w))
+returns-3 c im p w = str-made _ _ _ _ _ (c .before .before .before .before .before .before .operand2 .given .1) (c .before .before .before .text-at .ensures p) (c .before .before .text-operand .ensures .0, (c .before .before .text-operand .ensures .1 .0, c .before .before .text-operand .ensures .1 .1 im w))
 
 returns-4 : tie.Need-returns-4
 returns-4 c im p w = false-made _ _ _ _ (c .before .before .operand3 .given .1) (c .if1 .left)
@@ -49,7 +49,7 @@ same-length-2 : tie.Need-same-length-2
 same-length-2 c = search needs
 
 returns-5 : tie.Need-returns-5
-returns-5 c im p w = named-made _ _ _ _ _ (c .before .before .before .before .before .before .operand4 .given .1) (c .before .before .before .before .text-at2 .ensures p) (c .before .before .text-operand2 .ensures .0, (c .before .before .text-operand2 .ensures .1 .0, c .before .before .text-operand2 .ensures .1 .1 im w))
+returns-5 c im p w = named-made _ _ _ _ _ (c .before .before .before .before .before .before .operand4 .given .1) (c .before .before .before .text-at2 .ensures p) (c .before .before .text-operand2 .ensures .0, (c .before .before .text-operand2 .ensures .1 .0, c .before .before .text-operand2 .ensures .1 .1 im w))
 
 pub operand-of-spec : {M : Type 1} → statement M
 operand-of-spec =
