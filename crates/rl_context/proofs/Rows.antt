@@ -67,17 +67,9 @@ pub fields-null : fieldsOf 16 ≡ 3 ∷ []
 unfolding fieldsOf fieldsIn schema
 fields-null = refl
 
-pub fields-integer : fieldsOf 17 ≡ 3 ∷ 4 ∷ []
-unfolding fieldsOf fieldsIn schema
-fields-integer = refl
-
 pub fields-string : fieldsOf 25 ≡ 3 ∷ 12 ∷ []
 unfolding fieldsOf fieldsIn schema
 fields-string = refl
-
-pub fields-bool : fieldsOf 26 ≡ 3 ∷ 5 ∷ []
-unfolding fieldsOf fieldsIn schema
-fields-bool = refl
 
 pub fields-identifier : fieldsOf 30 ≡ 3 ∷ 12 ∷ []
 unfolding fieldsOf fieldsIn schema

@@ -46,7 +46,7 @@ use Rattle.rl_bytes.proofs.u16_at.Reads as u16-at-reads
 use Rattle.rl_context.proofs.Ctx.new_list.Reads as new-list-reads
 use Rattle.rl_context.proofs.Ctx.null.Reads as null-reads
 use Rattle.rl_context.proofs.Ctx.push.Reads as push-reads
-use Rattle.rl_context.proofs.wrap_return.Reads as wrap-return-reads
+use Rattle.rl_context.proofs.Ctx.wrap_return.Reads as wrap-return-reads
 use Rattle.rl_records.proofs.entry_at.Reads as entry-at-reads
 use Rattle.rl_transform.proofs.rebuild.flag_field.Reads as flag-field-reads
 use Rattle.rl_transform.proofs.rebuild.list_field.Reads as list-field-reads
