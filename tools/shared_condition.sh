@@ -7,7 +7,7 @@ new=$(mktemp -d)
 trap 'rm -rf "$new"' EXIT
 
 cp -R crates crates.txt "$new"
-sh tools/apply_edit.sh crates/rl_guards/must-fail/shared_condition.edit "$new/crates/rl_guards"
+sh tools/apply_edit.sh crates/rl_context/must-fail/shared_condition.edit "$new/crates/rl_context"
 if (cd "$new" && rt try vectors_lower) >"$new/log" 2>&1; then
     echo "shared condition: NOT SEEN by the stored cases of lowering"
     exit 1

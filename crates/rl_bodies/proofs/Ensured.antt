@@ -36,7 +36,7 @@ use Rattle.rl_images.specs.Lowering.GrowsTo.{Later, now, eight-later}
 use Rattle.rl_images.specs.Lowering.Adds.{Adds, adds-later, adds-flat}
 use Rattle.rl_images.specs.Lowering.AddsLower.{adds-statement, adds-wrap}
 use Rattle.rl_context.proofs.Waits.{counted-same}
-use Rattle.rl_guards.specs.Guards.{Gathers, clausesIn}
+use Rattle.rl_context.specs.Guards.{Gathers, clausesIn}
 use Rattle.rl_transform.specs.Transforms.{walkBelow, Ready, Returns}
 use Rattle.rl_bodies.specs.Bodies.{entriesIn, Waits, BodyFits, endsBare}
 use Rattle.rl_bodies.proofs.Lasts.{length-entries, entry-number, last-number, no-numbers}

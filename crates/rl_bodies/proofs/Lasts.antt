@@ -20,8 +20,8 @@ use Rattle.rl_spec.specs.Tree.{number}
 use Rattle.rl_spec.specs.Ranges.{upFrom}
 use Rattle.rl_spec.specs.Contracts.{isEmpty}
 use Rattle.rl_spec.specs.Lower.{lastOf}
-use Rattle.rl_copy.proofs.Copying.{kind-in}
-use Rattle.rl_copy.proofs.Entries.{two}
+use Rattle.rl_context.proofs.Copying.{kind-in}
+use Rattle.rl_context.proofs.CopiedEntries.{two}
 use Rattle.rl_transform.proofs.Rebuilding.{statement-is}
 use Rattle.rl_bodies.specs.Bodies.{entriesIn, BodyFits, endsBare}
 

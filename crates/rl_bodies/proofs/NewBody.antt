@@ -31,8 +31,8 @@ use Rattle.rl_context.proofs.Composed.{Keeps, does-then, does-same, does-list}
 use Rattle.rl_images.specs.Lowering.Adds.{Adds, adds-bind, adds-give, adds-cond, adds-each, adds-list}
 use Rattle.rl_context.proofs.StaysOver.{keeps-more, keeps-all}
 use Rattle.rl_images.specs.Lowering.AddsLower.{adds-clause, adds-ensured, adds-desugar}
-use Rattle.rl_guards.specs.Guards.{Gathers, clausesIn, ConditionsIn}
-use Rattle.rl_guards.proofs.Conditions.{required-in, ensured-in}
+use Rattle.rl_context.specs.Guards.{Gathers, clausesIn, ConditionsIn}
+use Rattle.rl_context.proofs.Conditions.{required-in, ensured-in}
 use Rattle.rl_transform.specs.Transforms.{Ready}
 use Rattle.rl_transform.proofs.Loops.{entries-in}
 use Rattle.rl_bodies.specs.Bodies.{Fresh, refinedIn, entriesIn, Waits, BodyFits, restIn}

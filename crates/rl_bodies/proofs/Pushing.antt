@@ -20,8 +20,8 @@ use Rattle.rl_context.proofs.Composed.{does-then, does-give, does-push}
 use Rattle.rl_images.specs.Lowering.Adds.{Adds, adds-give}
 use Rattle.rl_context.proofs.StaysOver.{keeps-all}
 use Rattle.rl_images.specs.Lowering.AddsLower.{adds-refinement}
-use Rattle.rl_copy.proofs.Entries.{does-nil}
-use Rattle.rl_guards.specs.Guards.{Gathers, guardFor, guardIn}
+use Rattle.rl_context.proofs.CopiedEntries.{does-nil}
+use Rattle.rl_context.specs.Guards.{Gathers, guardFor, guardIn}
 use Rattle.rl_transform.proofs.Loops.{Gathering, gather-none, gather-more, gather-all}
 use Rattle.rl_bodies.specs.Bodies.{refinedIn, entriesIn, Waits}
 

@@ -17,7 +17,7 @@ use Rattle.rl_spec.specs.Make.{Make, give, flatMap}
 use Rattle.rl_spec.specs.Lower.{lastOf, ensuredBody}
 use Rattle.rl_context.specs.declared.Ctx.{Ctx}
 use Rattle.rl_context.specs.Does.{State, all, Does}
-use Rattle.rl_guards.specs.Guards.{guardFor, clausesIn}
+use Rattle.rl_context.specs.Guards.{guardFor, clausesIn}
 
 -- the guards of a function's refined parameters
 abbrev pub refinedIn : Image → ℕ → Make (List ℕ)

@@ -5,9 +5,6 @@ use rl_bytes::u16_at;
 use rl_bytes::word_at;
 use rl_context::Ctx;
 use rl_context::MadeList;
-use rl_guards::clause_guards;
-use rl_guards::refinement_guard;
-use rl_guards::wrap_return;
 use rl_records::entry_at;
 use rl_records::function_at;
 use rl_spec::Counts;
@@ -24,7 +21,7 @@ ghost use Rattle.rl_spec.specs.Tree.{number};
 ghost use Rattle.rl_spec.specs.Lower.{lastOf, ensuredBody, newBody};
 ghost use Rattle.rl_schema.specs.Codes.{table};
 ghost use Rattle.rl_context.specs.Does.{Does, nothing, at};
-ghost use Rattle.rl_guards.specs.Guards.{Gathers, clausesIn};
+ghost use Rattle.rl_context.specs.Guards.{Gathers, clausesIn};
 ghost use Rattle.rl_transform.specs.Transforms.{Ready};
 ghost use Rattle.rl_bodies.specs.Bodies.{Fresh, refinedIn, entriesIn, Waits, BodyFits, endsBare, restIn};
 
@@ -45,7 +42,7 @@ fn refinement_guards(
     let mut next = ctx;
     let mut i = 0;
     while i < params.count {
-        next = refinement_guard(image, counts, function, i, text, scratch, waiting, next);
+        next = next.refinement_guard(image, counts, scratch, waiting, text, function, i);
         i += 1;
     }
     next
@@ -156,16 +153,15 @@ fn ensured_body(
     let fewer = less_one(count);
     let back = done.with_waiting(ctx.waiting);
     if bare {
-        let wrapped = wrap_return(
+        let wrapped = back.wrap_return(
             image,
             starts,
             counts,
             rows,
-            value,
-            ensured,
             scratch,
             waiting,
-            back,
+            value,
+            ensured,
         );
         return push_first(&side, fewer, waiting, wrapped);
     }
@@ -220,16 +216,15 @@ pub fn new_body(
     let first = ctx.waiting;
     let refined = refinement_guards(image, counts, function, text, scratch, waiting, ctx);
     let clauses = f.required;
-    let required = clause_guards(
+    let required = refined.clause_guards(
         image,
         starts,
         counts,
         rows,
-        b"requires violated",
-        clauses,
         scratch,
         waiting,
-        refined,
+        b"requires violated",
+        clauses,
     );
     let body = f.body;
     let ensured = f.ensured;

@@ -1,6 +1,6 @@
 -- Computations that are carried out one after the other.
 -- Assumes nothing.
-use Prim.Native.Nat.{ℕ, _+_}
+use Prim.Native.Nat.{ℕ}
 use mathlib.Core.Path.{_≡_, refl, ap, sym, _∙_, subst}
 use mathlib.Core.Bool.{Bool, true, false}
 use mathlib.Core.List.{List, [], _∷_, _++_, append-assoc, append-nil}
@@ -93,7 +93,7 @@ does-then {im = im} {l = l} {r = r} {m = m} {f = f} {n = n} {u = u} {b = b} g d 
           subst (λ z. Ends im l r ws z (g b) u) (sym (then-is o m f)) (follows {n = n} g e keeps is joins ws (andThen o (λ _. m)) (d .does ws o st));
     }
 
-then-give : {A : Type 0} (m : Make A) → m ≡ (m >>= λ c. give c)
+pub then-give : {A : Type 0} (m : Make A) → m ≡ (m >>= λ c. give c)
 then-give m = λ i x. go (m x) i
   where
     go : {A : Type 0} (o : Option (A × Context)) → o ≡ andThen o (λ c. give c)

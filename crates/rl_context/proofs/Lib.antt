@@ -13,3 +13,14 @@ pub mod NodesMade
 pub mod StatementsMade
 pub mod Rows
 pub mod Temporaries
+pub mod FieldWords
+pub mod Copying
+pub mod CopiedEntries
+pub mod Known
+pub mod Conditions
+pub mod GuardLaws
+pub mod TempName
+pub mod WrapLaws
+pub mod ComparisonCopied
+pub mod Operands
+pub mod RefinementLaws

@@ -1,19 +1,21 @@
 -- The nodes that lowering makes.
 -- Assumes nothing.
-use Prim.Native.Nat.{ℕ, _+_, _*_, _/_, _%_, _<_}
+use Prim.Native.Nat.{ℕ, suc, _+_, _*_, _/_, _%_, _<_}
 use mathlib.Core.Path.{_≡_, refl, ap, ap₂, sym, _∙_, subst}
 use mathlib.Core.List.{List, [], _∷_}
 use mathlib.Core.Option.{Option, none, some}
 use native.Mathlib.Omega.{arith}
+use native.Mathlib.Nat.{suc-add}
+use lib.ListN.{length, getD}
 use Rattle.rl_spec.specs.declared.Section.the-variants.{Expressions}
 use Rattle.rl_spec.specs.declared.Interval.{Interval}
-use Rattle.rl_spec.specs.Schema.{sortOf, schema, fieldsIn, fieldsOf}
+use Rattle.rl_spec.specs.Schema.{sortOf, fieldsOf}
 use Rattle.rl_spec.specs.Image.{Field, num, pair, Rec, Image}
 use Rattle.rl_spec.specs.Tree.{ascii}
 use Rattle.rl_spec.specs.Make.{Context, Make, andThen, _>>=_, give, each, append, made, newText, newList}
 use Rattle.rl_spec.specs.Lower.{expr, ident, strLit, errLit, resCall, unwrapCall, isErrCall}
 use Rattle.rl_images.specs.Lowering.Gives.{gives, after}
-use Rattle.rl_encode.specs.Words.{wordFields, wordRecord}
+use Rattle.rl_encode.specs.Words.{wordField, wordFields, wordRecord}
 use Rattle.rl_context.specs.Does.{State, nothing, one, all, Does, Pushes, Listed}
 use Rattle.rl_context.specs.Paths.{resPath}
 use Rattle.rl_context.proofs.Composed.{Keeps, does-bind, does-then, does-give, does-same, does-push, does-each, does-list}
@@ -67,30 +69,45 @@ Word w list = pair (w % 65536) (w / 65536) ≡ pair (list .first) (list .count)
 pub list-word : (list : Interval) (w : ℕ) → list .first < 65536 → w ≡ list .first + 65536 * list .count → Word w list
 list-word list w h e = ap₂ pair (omega (arith, e)) (omega (arith, e))
 
+words-behind : (x : ℕ) (l cs : List ℕ) (j : ℕ) → wordFields cs (x ∷ l) (suc j) ≡ wordFields cs l j
+unfolding wordFields
+words-behind x l [] j = refl
+words-behind x l (c ∷ cs) j = ap (λ fs. wordField (sortOf c) (getD l j 0) ∷ fs) (ap (wordFields cs (x ∷ l)) (suc-add j 1) ∙ words-behind x l cs (j + 1))
+
+three : (l : List ℕ) → length l ≡ 3 → getD l 0 0 ∷ getD l 1 0 ∷ getD l 2 0 ∷ [] ≡ l
+three [] e = absurd (omega (arith, e))
+three (a ∷ []) e = absurd (omega (arith, e))
+three (a ∷ b ∷ []) e = absurd (omega (arith, e))
+three (a ∷ b ∷ c ∷ []) e = refl
+three (a ∷ b ∷ c ∷ d ∷ l) e = absurd (omega (arith, e))
+
+expr-record : (kind span : ℕ) (l cs : List ℕ) → length l ≡ 3 → fieldsOf kind ≡ 3 ∷ cs →
+    wordRecord kind (span ∷ getD l 0 0 ∷ getD l 1 0 ∷ getD l 2 0 ∷ []) ≡ made kind (num span ∷ wordFields cs l 0)
+unfolding wordRecord wordFields sortOf
+expr-record kind span l cs h e =
+    ap (λ z. made kind (wordFields z (span ∷ getD l 0 0 ∷ getD l 1 0 ∷ getD l 2 0 ∷ []) 0)) e
+    ∙ ap (λ fs. made kind (num span ∷ fs)) (words-behind span _ cs 0 ∙ ap (λ z. wordFields cs z 0) (three l h))
+
 module _ {im : Image} {k : ℕ} {s t : State} {a : ℕ} where
-  pub null-does : Does im k k nothing (append Expressions (wordRecord 16 (s .ctx .span ∷ []) ∷ [])) s a t → Does im k k nothing (expr 16 []) s a t
-  unfolding wordRecord wordFields fieldsOf fieldsIn schema sortOf
-  null-does d = does-expr 16 _ _ refl d
+  pub expr-does : (kind : ℕ) (l cs : List ℕ) → length l ≡ 3 → fieldsOf kind ≡ 3 ∷ cs →
+      Does im k k nothing (append Expressions (wordRecord kind (s .ctx .span ∷ getD l 0 0 ∷ getD l 1 0 ∷ getD l 2 0 ∷ []) ∷ [])) s a t →
+      Does im k k nothing (expr kind (wordFields cs l 0)) s a t
+  expr-does kind l cs h e d = does-expr kind _ _ (expr-record kind (s .ctx .span) l cs h e) d
 
-  pub negated-does : (node : ℕ) → Does im k k nothing (append Expressions (wordRecord 33 (s .ctx .span ∷ 5 ∷ node ∷ []) ∷ [])) s a t →
-      Does im k k nothing (expr 33 (num 5 ∷ num node ∷ [])) s a t
-  unfolding wordRecord wordFields fieldsOf fieldsIn schema sortOf
-  negated-does node d = does-expr 33 _ _ refl d
-
-  pub err-does : (msg : ℕ) → Does im k k nothing (append Expressions (wordRecord 50 (s .ctx .span ∷ msg ∷ []) ∷ [])) s a t → Does im k k nothing (errLit msg) s a t
-  unfolding errLit wordRecord wordFields fieldsOf fieldsIn schema sortOf
-  err-does msg d = does-expr 50 _ _ refl d
+  pub err-does : (msg : ℕ) → Does im k k nothing (expr 50 (num msg ∷ [])) s a t → Does im k k nothing (errLit msg) s a t
+  unfolding errLit
+  err-does msg d = d
 
 -- ---- nodes with texts
 
 module _ {im : Image} {k : ℕ} {s t u : State} {n a : ℕ} (text : List ℕ) (d : Does im k k nothing (newText text) s n t) where
-  pub str-does : Does im k k nothing (append Expressions (wordRecord 25 (t .ctx .span ∷ n ∷ []) ∷ [])) t a u → Does im k k nothing (strLit text) s a u
-  unfolding strLit wordRecord wordFields fieldsOf fieldsIn schema sortOf
-  str-does e = does-bind d (keeps-more nothing (λ m. adds-expr 25 (num m ∷ []))) (does-expr 25 _ _ refl e)
+  pub str-does : Does im k k nothing (expr 25 (num n ∷ [])) t a u → Does im k k nothing (strLit text) s a u
+  unfolding strLit
+  str-does e = does-bind d (keeps-more nothing (λ m. adds-expr 25 (num m ∷ []))) e
 
-  pub ident-does : Does im k k nothing (append Expressions (wordRecord 30 (t .ctx .span ∷ n ∷ []) ∷ [])) t a u → Does im k k nothing (ident text) s a u
-  unfolding ident wordRecord wordFields fieldsOf fieldsIn schema sortOf
-  ident-does e = does-bind d (keeps-more nothing (λ m. adds-expr 30 (num m ∷ []))) (does-expr 30 _ _ refl e)
+  pub ident-does : Does im k k nothing (expr 30 (num n ∷ [])) t a u → Does im k k nothing (ident text) s a u
+  unfolding ident
+  ident-does e = does-bind d (keeps-more nothing (λ m. adds-expr 30 (num m ∷ []))) e
 
 -- ---- calls
 
@@ -114,21 +131,16 @@ pub path-does : {im : Image} {k : ℕ} {s t u v z : State} {a b c : ℕ} {list :
 unfolding ascii
 path-does {s = s} name d e f l = does-list (s .ctx .waiting) refl (three-texts (ascii "std") (ascii "res") name d e f) l
 
-call-record : (span v w : ℕ) (path args : Interval) → Word v path → Word w args →
-    wordRecord 41 (span ∷ v ∷ w ∷ []) ≡ made 41 (num span ∷ pair (path .first) (path .count) ∷ pair (args .first) (args .count) ∷ [])
-unfolding wordRecord wordFields fieldsOf fieldsIn schema sortOf
-call-record span v w path args e f = ap₂ (λ p q. made 41 (num span ∷ p ∷ q ∷ [])) e f
-
 pub call-does : {im : Image} {k : ℕ} {s t u z : State} {a : ℕ} (name : List ℕ) (x : ℕ) (path args : Interval) (v w : ℕ) →
     Does im k k nothing (resPath name) s (pair (path .first) (path .count)) t → Does im k k nothing (newList (x ∷ [])) t (pair (args .first) (args .count)) u →
-    Word v path → Word w args →
-    Does im k k nothing (append Expressions (wordRecord 41 (u .ctx .span ∷ v ∷ w ∷ []) ∷ [])) u a z → Does im k k nothing (resCall name x) s a z
+    Word v path → Word w args → Does im k k nothing (expr 41 (pair (v % 65536) (v / 65536) ∷ pair (w % 65536) (w / 65536) ∷ [])) u a z →
+    Does im k k nothing (resCall name x) s a z
 unfolding resCall
-call-does {u = u} name x path args v w d e p q f =
+call-does {im} {k} {u = u} {z} {a} name x path args v w d e p q f =
     does-assoc (each newText (ascii "std" ∷ ascii "res" ∷ name ∷ [])) newList (λ p. newList (x ∷ []) >>= λ q. expr 41 (p ∷ q ∷ []))
     (does-bind d (keeps-more nothing (λ p. adds-bind (adds-list (x ∷ [])) (λ q. adds-expr 41 (p ∷ q ∷ []))))
     (does-bind e (keeps-more nothing (λ q. adds-expr 41 (pair (path .first) (path .count) ∷ q ∷ [])))
-    (does-expr 41 _ _ (call-record (u .ctx .span) v w path args p q) f)))
+    (subst (λ fs. Does im k k nothing (expr 41 fs) u a z) (ap₂ (λ p q. p ∷ q ∷ []) p q) f)))
 
 module _ {im : Image} {k : ℕ} {s t : State} {a : ℕ} (x : ℕ) where
   pub unwrap-does : Does im k k nothing (resCall (114 ∷ 101 ∷ 115 ∷ 117 ∷ 108 ∷ 116 ∷ 95 ∷ 117 ∷ 110 ∷ 119 ∷ 114 ∷ 97 ∷ 112 ∷ []) x) s a t →

@@ -1,6 +1,7 @@
 -- The rows of the schema that the code gives for the kinds that it makes.
 -- Assumes nothing.
 use mathlib.Core.Path.{_≡_, refl}
+use mathlib.Core.List.{[], _∷_}
 use Rattle.rl_spec.specs.Schema.{schema, fieldsIn, fieldsOf}
 use Rattle.rl_schema.specs.Codes.{codesIn, codes}
 
@@ -59,3 +60,33 @@ row-conditional = refl
 pub row-branch : codes 85331459 ≡ fieldsOf 69
 unfolding codesIn codes fieldsOf fieldsIn schema
 row-branch = refl
+
+-- ---- behind the span
+
+pub fields-null : fieldsOf 16 ≡ 3 ∷ []
+unfolding fieldsOf fieldsIn schema
+fields-null = refl
+
+pub fields-string : fieldsOf 25 ≡ 3 ∷ 12 ∷ []
+unfolding fieldsOf fieldsIn schema
+fields-string = refl
+
+pub fields-identifier : fieldsOf 30 ≡ 3 ∷ 12 ∷ []
+unfolding fieldsOf fieldsIn schema
+fields-identifier = refl
+
+pub fields-binary : fieldsOf 32 ≡ 3 ∷ 13 ∷ 6 ∷ 13 ∷ []
+unfolding fieldsOf fieldsIn schema
+fields-binary = refl
+
+pub fields-unary : fieldsOf 33 ≡ 3 ∷ 6 ∷ 13 ∷ []
+unfolding fieldsOf fieldsIn schema
+fields-unary = refl
+
+pub fields-call : fieldsOf 41 ≡ 3 ∷ 18 ∷ 19 ∷ []
+unfolding fieldsOf fieldsIn schema
+fields-call = refl
+
+pub fields-err : fieldsOf 50 ≡ 3 ∷ 13 ∷ []
+unfolding fieldsOf fieldsIn schema
+fields-err = refl

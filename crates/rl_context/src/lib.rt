@@ -1,7 +1,14 @@
 // The lowering context, and what is appended to an image with it. New text bytes, texts, list entries, expressions and statements are kept in a
 // lent scratch slice, each section at its own place, as the bytes of an image; the entries of lists that are being made wait in another.
+mod clauses;
+mod copy;
 mod nodes;
+mod refinements;
+mod wrapping;
 
+pub use copy::deep_clone_expr;
+pub use copy::word_of;
+pub use refinements::Predicate;
 use rl_bytes::put;
 use rl_bytes::word_at;
 use rl_encode::put_number;

@@ -9,6 +9,9 @@ ghost use Prim.Native.Nat.{ℕ, _-_, _/_, _%_};
 ghost use Rattle.rl_spec.specs.Image.{Image, num, pair};
 ghost use Rattle.rl_spec.specs.Make.{newText, newList, newStmt};
 ghost use Rattle.rl_spec.specs.Lower.{expr, ident, strLit, errLit, resCall, unwrapCall, isErrCall, violation, onlyIf, declare, returnOf};
+ghost use Rattle.rl_spec.specs.Schema.{fieldsOf};
+ghost use Rattle.rl_schema.specs.Codes.{codes};
+ghost use Rattle.rl_encode.specs.Words.{wordFields};
 ghost use Rattle.rl_context.specs.Does.{Does, nothing, one, at};
 ghost use Rattle.rl_context.specs.Paths.{resPath};
 
@@ -20,44 +23,47 @@ fn list_word(list: Interval) -> u64
 }
 
 impl Ctx {
+    // An expression with the function's span; its other fields by the codes of its row.
+    pub fn expr(self, scratch: &mut [u8], kind: u8, row: u64, fields: [u64; 3]) -> Made
+        ensures { λ r. ⌜ ((im : Image) (k : ℕ) (w cs : List ℕ) → codes row ≡ fieldsOf kind → fieldsOf kind ≡ 3 ∷ cs → Does im k k nothing (expr kind (wordFields cs fields 0)) (at self (now (scratch .entry)) w) (r .index) (at (r .ctx) (now (scratch .exit)) w)) ⌝ }
+    {
+        let words = [self.span as u64, fields[0], fields[1], fields[2]];
+        self.new_expression(scratch, kind, row, &words)
+    }
+
     pub fn null(self, scratch: &mut [u8]) -> Made
         ensures { λ r. ⌜ ((im : Image) (k : ℕ) (w : List ℕ) → Does im k k nothing (expr 16 []) (at self (now (scratch .entry)) w) (r .index) (at (r .ctx) (now (scratch .exit)) w)) ⌝ }
     {
-        let words = [self.span as u64];
-        self.new_expression(scratch, 16, 0x03, &words)
+        self.expr(scratch, 16, 0x03, [0, 0, 0])
     }
 
     pub fn str_lit(self, scratch: &mut [u8], text: &[u8]) -> Made
         ensures { λ r. ⌜ ((im : Image) (k : ℕ) (w : List ℕ) → Does im k k nothing (strLit (now (text .entry))) (at self (now (scratch .entry)) w) (r .index) (at (r .ctx) (now (scratch .exit)) w)) ⌝ }
     {
         let text = self.new_text(scratch, text);
-        let ctx = text.ctx;
-        let words = [ctx.span as u64, text.index as u64];
-        ctx.new_expression(scratch, 25, 0x0c_03, &words)
+        let index = text.index as u64;
+        text.ctx.expr(scratch, 25, 0x0c_03, [index, 0, 0])
     }
 
     pub fn ident(self, scratch: &mut [u8], name: &[u8]) -> Made
         ensures { λ r. ⌜ ((im : Image) (k : ℕ) (w : List ℕ) → Does im k k nothing (ident (now (name .entry))) (at self (now (scratch .entry)) w) (r .index) (at (r .ctx) (now (scratch .exit)) w)) ⌝ }
     {
         let text = self.new_text(scratch, name);
-        let ctx = text.ctx;
-        let words = [ctx.span as u64, text.index as u64];
-        ctx.new_expression(scratch, 30, 0x0c_03, &words)
+        let index = text.index as u64;
+        text.ctx.expr(scratch, 30, 0x0c_03, [index, 0, 0])
     }
 
     // Operator 5 is Bang.
     pub fn negated(self, scratch: &mut [u8], node: u16) -> Made
         ensures { λ r. ⌜ ((im : Image) (k : ℕ) (w : List ℕ) → Does im k k nothing (expr 33 (num 5 ∷ num node ∷ [])) (at self (now (scratch .entry)) w) (r .index) (at (r .ctx) (now (scratch .exit)) w)) ⌝ }
     {
-        let words = [self.span as u64, 5, node as u64];
-        self.new_expression(scratch, 33, 0x0d_06_03, &words)
+        self.expr(scratch, 33, 0x0d_06_03, [5, node as u64, 0])
     }
 
     pub fn err_lit(self, scratch: &mut [u8], msg: u16) -> Made
         ensures { λ r. ⌜ ((im : Image) (k : ℕ) (w : List ℕ) → Does im k k nothing (errLit msg) (at self (now (scratch .entry)) w) (r .index) (at (r .ctx) (now (scratch .exit)) w)) ⌝ }
     {
-        let words = [self.span as u64, msg as u64];
-        self.new_expression(scratch, 50, 0x0d_03, &words)
+        self.expr(scratch, 50, 0x0d_03, [msg as u64, 0, 0])
     }
 
     // A text of a path.
@@ -96,9 +102,8 @@ impl Ctx {
     {
         let path = self.res_path(scratch, waiting, name);
         let args = path.ctx.list_of(scratch, waiting, x);
-        let ctx = args.ctx;
-        let words = [ctx.span as u64, list_word(path.list), list_word(args.list)];
-        ctx.new_expression(scratch, 41, 0x13_12_03, &words)
+        let fields = [list_word(path.list), list_word(args.list), 0];
+        args.ctx.expr(scratch, 41, 0x13_12_03, fields)
     }
 
     pub fn unwrap_call(self, scratch: &mut [u8], waiting: &mut [u16], x: u16) -> Made

@@ -14,8 +14,8 @@ use Rattle.rl_context.specs.Does.{State, nothing, all, Does, Pushes}
 use Rattle.rl_context.proofs.Composed.{does-push, does-each, does-flat}
 use Rattle.rl_images.specs.Lowering.Adds.{Adds, adds-each, adds-flat}
 use Rattle.rl_context.proofs.StaysOver.{keeps-one, keeps-all}
-use Rattle.rl_copy.proofs.Entries.{up-suc, does-nil}
-use Rattle.rl_guards.specs.Guards.{Makes, Gathers}
+use Rattle.rl_context.proofs.CopiedEntries.{up-suc, does-nil}
+use Rattle.rl_context.specs.Guards.{Makes, Gathers}
 
 -- what is left
 abbrev left : {A : Type 0} → (ℕ → A) → ℕ → ℕ → ℕ → List A

@@ -22,9 +22,9 @@ use Rattle.rl_schema.proofs.Rows.{codes-none, codes-more}
 use Rattle.rl_arena.proofs.Laws.{width-small}
 use Rattle.rl_encode.specs.Words.{wordField, wordFields, wordRecord}
 use Rattle.rl_context.specs.Does.{State}
-use Rattle.rl_copy.proofs.Copying.{codes-few, few-left}
+use Rattle.rl_context.proofs.Copying.{codes-few, few-left}
 use Rattle.rl_transform.specs.Transforms.{fieldOfWord, listField, listPlace, flagField, rebuilt}
-use Rattle.rl_guards.specs.Guards.{Makes}
+use Rattle.rl_context.specs.Guards.{Makes}
 
 -- ---- the fields of a record as words, one by one
 

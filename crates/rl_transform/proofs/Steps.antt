@@ -38,9 +38,9 @@ use Rattle.rl_images.specs.Lowering.Adds.{Adds, adds-give, adds-bind, adds-cond
 use Rattle.rl_context.proofs.StaysOver.{keeps-more}
 use Rattle.rl_images.specs.Lowering.AddsLower.{adds-wrap, adds-body, adds-else, adds-arm, adds-match, adds-statement}
 use Rattle.rl_context.proofs.Appends.{stops-does}
-use Rattle.rl_copy.proofs.Copying.{old-entries}
-use Rattle.rl_copy.proofs.Entries.{two}
-use Rattle.rl_guards.specs.Guards.{Makes, Gathers, clausesIn}
+use Rattle.rl_context.proofs.Copying.{old-entries}
+use Rattle.rl_context.proofs.CopiedEntries.{two}
+use Rattle.rl_context.specs.Guards.{Makes, Gathers, clausesIn}
 use Rattle.rl_transform.specs.Transforms.{walkBelow, rebuilt, listField, listPlace, flagField, bodyOf, Ready, ArmsIn, Returns, Below, OneStatement, Conditional, Otherwise, Match, Arms, Body}
 use Rattle.rl_transform.proofs.Loops.{entries-in}
 

@@ -19,7 +19,7 @@ use Rattle.rl_encode.specs.Words.{wordField}
 use Rattle.rl_spec.specs.Found.{imageFound}
 use Rattle.rl_schema.specs.Codes.{table}
 use Rattle.rl_context.specs.Does.{State}
-use Rattle.rl_guards.specs.Guards.{Makes, Gathers, clausesIn, ConditionsIn}
+use Rattle.rl_context.specs.Guards.{Makes, Gathers, clausesIn, ConditionsIn}
 
 -- the transform of a statement before the one at hand
 abbrev pub walkBelow : List Clause → ℕ → ℕ → Make (List ℕ)

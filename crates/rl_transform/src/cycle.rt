@@ -12,7 +12,6 @@ use rl_bytes::second_u16;
 use rl_bytes::u16_at;
 use rl_context::Ctx;
 use rl_context::Made;
-use rl_guards::wrap_return;
 use rl_records::entry_at;
 use rl_spec::Counts;
 use rl_spec::Interval;
@@ -114,31 +113,29 @@ pub fn transform_statement(
     let place = start as usize;
     if kind == 66 {
         let value = u16_at(image, place + 5);
-        return wrap_return(
+        return ctx.wrap_return(
             image,
             starts,
             counts,
             rows,
-            value,
-            ensured,
             scratch,
             waiting,
-            ctx,
+            value,
+            ensured,
         );
     }
     if kind == 67 {
         let null = ctx.null(scratch);
         let value = null.index;
-        return wrap_return(
+        return null.ctx.wrap_return(
             image,
             starts,
             counts,
             rows,
-            value,
-            ensured,
             scratch,
             waiting,
-            null.ctx,
+            value,
+            ensured,
         );
     }
     if kind == 68 {

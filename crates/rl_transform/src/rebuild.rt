@@ -4,7 +4,7 @@ use rl_arena::statement_start;
 use rl_bytes::put_long;
 use rl_context::Ctx;
 use rl_context::Made;
-use rl_copy::word_of;
+use rl_context::word_of;
 use rl_schema::row_of;
 use rl_schema::sort_of;
 use rl_schema::width_of;
@@ -21,7 +21,7 @@ ghost use Rattle.rl_spec.specs.Found.{imageFound};
 ghost use Rattle.rl_schema.specs.Codes.{codes, table};
 ghost use Rattle.rl_encode.specs.Words.{wordFields};
 ghost use Rattle.rl_context.specs.Does.{at, Pushes};
-ghost use Rattle.rl_guards.specs.Guards.{Makes};
+ghost use Rattle.rl_context.specs.Guards.{Makes};
 ghost use Rattle.rl_transform.specs.Transforms.{listField, listPlace, flagField, rebuilt};
 
 // The fields of the record at a place, by the schema's row, as words.

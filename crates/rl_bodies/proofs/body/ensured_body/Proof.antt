@@ -42,7 +42,7 @@ same-length : tie.Need-same-length
 same-length c =
     let wrapped = c .before .before .before .before .before .before .before .before .before in
     let done = wrapped .before .before .before .before .before .before .before .before .before .before in
-    wrapped .wrap-return .kept .1 .1 .1 .1 .1 .1 .0 ∙ done .transform-returns .kept .1 .1 .1 .1 .1 .1 .1 .1 .0
+    wrapped .wrap-return .kept .1 .1 .1 .1 .1 .0 ∙ done .transform-returns .kept .1 .1 .1 .1 .1 .1 .1 .1 .0
 
 same-length-2 : tie.Need-same-length-2
 same-length-2 c = search needs

@@ -38,7 +38,7 @@ same-length-2 c =
     let rest = listed .before .before .before .before .before .before .before in
     let required = rest .before .before .before .before .before .before .before .before .before in
     let refined = required .before .before .before .before .before .before .before .before .before .before .before in
-    listed .new-list .kept .1 .0 ∙ rest .rest .kept .1 .1 .1 .1 .1 .1 .0 ∙ required .clause-guards .kept .1 .1 .1 .1 .1 .1 .0 ∙ refined .refinement-guards .kept .1 .1 .1 .1 .0
+    listed .new-list .kept .1 .0 ∙ rest .rest .kept .1 .1 .1 .1 .1 .1 .0 ∙ required .clause-guards .kept .1 .1 .1 .1 .1 .0 ∙ refined .refinement-guards .kept .1 .1 .1 .1 .0
 
 same-length-3 : tie.Need-same-length-3
 same-length-3 c =
@@ -46,7 +46,7 @@ same-length-3 c =
     let rest = listed .before .before .before .before .before .before .before in
     let required = rest .before .before .before .before .before .before .before .before .before in
     let refined = required .before .before .before .before .before .before .before .before .before .before .before in
-    rest .rest .kept .1 .1 .1 .1 .1 .1 .1 .0 ∙ required .clause-guards .kept .1 .1 .1 .1 .1 .1 .1 .0 ∙ refined .refinement-guards .kept .1 .1 .1 .1 .1 .0
+    rest .rest .kept .1 .1 .1 .1 .1 .1 .1 .0 ∙ required .clause-guards .kept .1 .1 .1 .1 .1 .1 .0 ∙ refined .refinement-guards .kept .1 .1 .1 .1 .1 .0
 
 returns : tie.Need-returns
 unfolding ascii

@@ -8,8 +8,8 @@ use Rattle.rl_spec.specs.Found.{imageFound}
 use Rattle.rl_spec.specs.Lower.{transformArm}
 use Rattle.rl_context.specs.Does.{at}
 use Rattle.rl_images.specs.Lowering.AddsLower.{adds-arm}
-use Rattle.rl_copy.proofs.Copying.{kind-in}
-use Rattle.rl_guards.specs.Guards.{clausesIn}
+use Rattle.rl_context.proofs.Copying.{kind-in}
+use Rattle.rl_context.specs.Guards.{clausesIn}
 use Rattle.rl_transform.specs.Transforms.{walkBelow, Ready, ArmsIn}
 use Rattle.rl_transform.proofs.Loops.{Flat, flat-none, flat-more, flat-all, Each, each-none, each-more, each-all}
 use Rattle.rl_transform.proofs.Steps.{adds-walk, below-untouched, below-done, statement-full, statement-return, statement-alone, statement-conditional, statement-match, statement-loop, statement-kept, field-low, flag-low, place-fits, next-fits, body-done, branch-none, branch-body, branch-list, branch-kept, branch-earlier, else-earlier, conditional-done, arm-made, arms-in, match-done, kind-here, loop-list}
@@ -46,7 +46,7 @@ use Rattle.rl_bytes.proofs.u16_at.Reads as u16-at-reads
 use Rattle.rl_context.proofs.Ctx.new_list.Reads as new-list-reads
 use Rattle.rl_context.proofs.Ctx.null.Reads as null-reads
 use Rattle.rl_context.proofs.Ctx.push.Reads as push-reads
-use Rattle.rl_guards.proofs.wrap_return.Reads as wrap-return-reads
+use Rattle.rl_context.proofs.Ctx.wrap_return.Reads as wrap-return-reads
 use Rattle.rl_records.proofs.entry_at.Reads as entry-at-reads
 use Rattle.rl_transform.proofs.rebuild.flag_field.Reads as flag-field-reads
 use Rattle.rl_transform.proofs.rebuild.list_field.Reads as list-field-reads

@@ -1,5 +1,5 @@
 use borrow.Author.Needs.{needs}
-use Rattle.rl_copy.proofs.Fields.{two-words}
+use Rattle.rl_context.proofs.FieldWords.{two-words}
 use Rattle.rl_transform.proofs.rebuild.list_word.Statement.{statement}
 use Rattle.rl_transform.proofs.rebuild.list_word.Tie as tie
 

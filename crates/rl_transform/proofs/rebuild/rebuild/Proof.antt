@@ -1,7 +1,7 @@
 use mathlib.Core.Path.{_∙_}
 use borrow.Author.Needs.{needs}
 use Rattle.rl_schema.proofs.Rows.{row-codes}
-use Rattle.rl_copy.proofs.Copying.{kind-in}
+use Rattle.rl_context.proofs.Copying.{kind-in}
 use Rattle.rl_transform.proofs.Rebuilding.{makes-rebuilt}
 use Rattle.rl_transform.proofs.rebuild.rebuild.Statement.{statement}
 use Rattle.rl_transform.proofs.rebuild.rebuild.Tie as tie
