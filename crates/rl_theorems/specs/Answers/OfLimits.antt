@@ -64,8 +64,7 @@ module _ (s : List ℕ) (k f room : ℕ) (bytes : AllBytes s) where
   -- THEOREMS
   pub lower-refuses : (q : Cause) (p : ℕ) → (lowerOf s k f room ≡ refused q p) ↔ First (readRows s k ++ lowerRows im f room) q p
   lower-refuses q p =
-      let m = making-refuses s k f room q p in
-      (
+      let m = making-refuses s k f room q p in (
         λ e. first-last (readRows s k) (lowerChecks im f room) LimitPassed 0 none-past q p (m .0 e),
         λ h. m .1 (first-last (readRows s k) (lowerChecks im f room) LimitPassed 0 past-none q p h),
       )
@@ -78,8 +77,7 @@ module _ (s : List ℕ) (k f room : ℕ) (bytes : AllBytes s) where
           let m = making-accepts s k f room im′ .0 e in
           let a = unmet-parts (readRows s k) (makingRows im f room) (m .0) in
           let b = unmet-parts (lowerChecks im f room) (row LimitPassed 0 (lowered im f ≡ none) ∷ []) (a .1) in
-          let x = answered (a .0) (b .0) in
-          (
+          let x = answered (a .0) (b .0) in (
             unmet-last (readRows s k) (lowerChecks im f room) LimitPassed 0 past-none (m .0),
             x .1 ∙ sym (subst (λ y. some im′ ≡ some y) (sym (some-same (x .0) im′ (x .2) (m .1))) refl),
           )
