@@ -48,7 +48,13 @@ fn by_value(nodes: &[Node], names: Names, n: usize) -> u64 {
 
 fn main() {
     // a heap: the children of node n are 2n + 1 and 2n + 2
-    let node = |n: usize| if 2 * n + 2 < NODES { Node::Sum(2 * n + 1, 2 * n + 2) } else { Node::Name(n as u64 % 4) };
+    let node = |n: usize| {
+        if 2 * n + 2 < NODES {
+            Node::Sum(2 * n + 1, 2 * n + 2)
+        } else {
+            Node::Name(n as u64 % 4)
+        }
+    };
     let nodes: Vec<Node> = (0..NODES).map(node).collect();
     let mut names = Names { slots: [Binding::default(); ROOM], len: 4 };
     for (n, slot) in names.slots.iter_mut().take(4).enumerate() {
