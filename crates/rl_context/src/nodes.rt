@@ -23,7 +23,7 @@ fn list_word(list: Interval) -> u64
 }
 
 impl Ctx {
-    // An expression with the function's span; its other fields by the codes of its row.
+    // An expression with the function's span, of a kind whose row of the schema is given; a kind with fewer fields takes the first ones.
     pub fn expr(self, scratch: &mut [u8], kind: u8, row: u64, fields: [u64; 3]) -> Made
         ensures { λ r. ⌜ ((im : Image) (k : ℕ) (w cs : List ℕ) → codes row ≡ fieldsOf kind → fieldsOf kind ≡ 3 ∷ cs → Does im k k nothing (expr kind (wordFields cs fields 0)) (at self (now (scratch .entry)) w) (r .index) (at (r .ctx) (now (scratch .exit)) w)) ⌝ }
     {
