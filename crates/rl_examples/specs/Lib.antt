@@ -8,6 +8,8 @@ pub mod FunctionExamples
 pub mod MarkedImages
 pub mod LowerExamples
 pub mod LowerLimitExamples
+-- ---- tables: the numbers of causes, and words
+pub mod NumberTable
 -- ---- tables: operators and literals; floats; refinements and the texts of clauses; callees and values
 pub mod NodeRows
 pub mod OperatorTable

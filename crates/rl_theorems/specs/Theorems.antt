@@ -5,7 +5,7 @@ use Prim.Native.Nat.{ℕ, _+_, _-_, _*_, _^_, _≤_, _<_}
 use mathlib.Core.Path.{_≡_}
 use mathlib.Core.Bool.{true, false}
 use mathlib.Core.Option.{some}
-use mathlib.Core.List.{List, [], _++_, map}
+use mathlib.Core.List.{List, [], _∷_, _++_, map}
 use mathlib.Core.Logic.{_⊎_, _↔_}
 use lib.ListN.{length, getD, take, drop, replicate}
 use lib.Dec.{T}
@@ -33,18 +33,18 @@ use Rattle.rl_spec.specs.Bytes.{u16At}
 use Rattle.rl_spec.specs.Schema.{textBytesAt, tallest, widthOf, limits, lowest, highest}
 use Rattle.rl_spec.specs.Utf8.{utf8, isScalar, encodeText}
 use Rattle.rl_spec.specs.Fields.{recordAt}
-use Rattle.rl_spec.specs.Read.{countsOf, answerOf, workOf}
+use Rattle.rl_spec.specs.Read.{numberOf, countsOf, answerOf, workOf}
 use Rattle.rl_spec.specs.Image.{Image, encode, imageOf, textOf, sizeOf, heights, AllBytes, WellFormed}
 use Rattle.rl_spec.specs.Folded.{asFolded}
 use Rattle.rl_spec.specs.Tree.{ascii, exprTree}
-use Rattle.rl_spec.specs.Fold.{constEval, foldOf}
-use Rattle.rl_spec.specs.Prove.{callEntries, allEntries, fitting, sliceBy, proveOf, reportsOf, proveAllOf, allReportsOf, violationsOf}
+use Rattle.rl_spec.specs.Fold.{constEval, foldOf, foldNumber, workUnless}
+use Rattle.rl_spec.specs.Prove.{callEntries, allEntries, fitting, sliceBy, proveOf, reportsOf, proveAllOf, allReportsOf, proveNumber, violationsOf}
 use Rattle.rl_spec.specs.Records.{functionAt}
 use Rattle.rl_spec.specs.Contracts.{calleeOf, argumentsOf}
 use Rattle.rl_spec.specs.Functions.{plainFunction, contractFunction}
 use Rattle.rl_spec.specs.Lower.{lowered, unlimited}
-use Rattle.rl_spec.specs.Lowerer.{made, refused, tooTall, orLimit, lowerOf, lowerAnswer, lowerOut}
-use Rattle.rl_spec.specs.Runner.{allHave, given, isFor, ranIn, runOf}
+use Rattle.rl_spec.specs.Lowerer.{made, refused, tooTall, orLimit, lowerOf, lowerAnswer, lowerNumber, lowerOut}
+use Rattle.rl_spec.specs.Runner.{allHave, given, isFor, ranIn, runOf, runNumber}
 use Rattle.rl_spec.specs.Run.{Value, Env, spent, got, used}
 use Rattle.rl_spec.specs.Reading.{Function, runFunction, entering, reading}
 use Rattle.rl_images.specs.Reading.Utf8 as Utf8
@@ -99,6 +99,9 @@ use Rattle.rl_theorems.specs.Answers.OfFolding as OfFolding
 use Rattle.rl_theorems.specs.Answers.OfProving as OfProving
 use Rattle.rl_theorems.specs.Answers.OfRunning as OfRunning
 use Rattle.rl_theorems.specs.Answers.AtBudgets as AtBudgets
+use Rattle.rl_theorems.specs.Answers.Outputs as Outputs
+use Rattle.rl_images.specs.Reading.Refusals as Refusals
+use Rattle.rl_examples.specs.NumberTable as NumberTable
 
 -- ---- text (Utf8): the syntax of RFC 3629 admits the encodings of scalars and nothing else
 
@@ -194,6 +197,45 @@ module _ (s : List ℕ) (k : ℕ) where
 
   pub run-accepts : (f : ℕ) (args : Arguments) (budget : ℕ) (o : Ending) (n : ℕ) → (runOf s k f args budget ≡ run.Ran o n) ↔ (Unmet (readRows s k ++ runRows (imageOf s) f args budget) × (ranIn (imageOf s) f (given args) budget ≡ run.Ran o n))
   run-accepts = OfRunning.run-accepts s k
+
+  -- A REFUSAL LEAVES EVERY LENT SLICE ALL ZERO (Outputs; the reader's own: refused-work). Without one the work slice holds what reading
+  -- leaves there, and the other slice what is answered, then zeros
+  pub refused-work : (q : Cause) (p : ℕ) → answerOf s k ≡ Refused q p → workOf s k ≡ replicate k 0
+  refused-work = Refusals.refused-work s k
+
+  pub fold-zero : (id : Id) (q : Cause) (p : ℕ) → foldOf s k id ≡ fold.Refused q p → workUnless (foldNumber (foldOf s k id)) s k ≡ replicate k 0
+  fold-zero = Outputs.fold-zero s k
+
+  pub fold-leaves : (id : Id) (v : Folded) → foldOf s k id ≡ fold.Found v → workUnless (foldNumber (foldOf s k id)) s k ≡ workOf s k
+  fold-leaves = Outputs.fold-leaves s k
+
+  pub prove-zero : (call room : ℕ) (q : Cause) (p : ℕ) → proveOf s k call room ≡ prove.Refused q p → (workUnless (proveNumber (proveOf s k call room)) s k ≡ replicate k 0) × (reportsOf s k call room ≡ replicate room 0)
+  prove-zero = Outputs.prove-zero s k
+
+  pub prove-leaves : (call room n : ℕ) → proveOf s k call room ≡ Proved n → (workUnless (proveNumber (proveOf s k call room)) s k ≡ workOf s k) × (reportsOf s k call room ≡ callEntries (imageOf s) call ++ replicate (room - length (callEntries (imageOf s) call)) 0)
+  prove-leaves = Outputs.prove-leaves s k
+
+  pub prove-all-zero : (room : ℕ) (q : Cause) (p : ℕ) → proveAllOf s k room ≡ prove.Refused q p → (workUnless (proveNumber (proveAllOf s k room)) s k ≡ replicate k 0) × (allReportsOf s k room ≡ replicate room 0)
+  prove-all-zero = Outputs.prove-all-zero s k
+
+  pub prove-all-leaves : (room n : ℕ) → proveAllOf s k room ≡ Proved n → (workUnless (proveNumber (proveAllOf s k room)) s k ≡ workOf s k) × (allReportsOf s k room ≡ allEntries (imageOf s) (countsOf s .calls) 0 ++ replicate (room - length (allEntries (imageOf s) (countsOf s .calls) 0)) 0)
+  prove-all-leaves = Outputs.prove-all-leaves s k
+
+  pub lower-zero : (f room : ℕ) (q : Cause) (p : ℕ) → lowerOf s k f room ≡ refused q p → (workUnless (lowerNumber (lowerOf s k f room)) s k ≡ replicate k 0) × (lowerOut room (lowerOf s k f room) ≡ replicate room 0)
+  lower-zero = Outputs.lower-zero s k
+
+  pub lower-leaves : (f room : ℕ) (im′ : Image) → lowerOf s k f room ≡ made im′ → (workUnless (lowerNumber (lowerOf s k f room)) s k ≡ workOf s k) × (lowerOut room (lowerOf s k f room) ≡ encode im′ ++ replicate (room - length (encode im′)) 0)
+  lower-leaves = Outputs.lower-leaves s k
+
+  pub run-zero : (f : ℕ) (args : Arguments) (budget : ℕ) (q : Cause) (p : ℕ) → runOf s k f args budget ≡ run.Refused q p → workUnless (runNumber (runOf s k f args budget)) s k ≡ replicate k 0
+  run-zero = Outputs.run-zero s k
+
+  pub run-leaves : (f : ℕ) (args : Arguments) (budget : ℕ) (o : Ending) (n : ℕ) → runOf s k f args budget ≡ run.Ran o n → workUnless (runNumber (runOf s k f args budget)) s k ≡ workOf s k
+  run-leaves = Outputs.run-leaves s k
+
+-- the numbers of the causes are those of 01's table (NumberTable)
+pub numbers-so : map numberOf NumberTable.causes ≡ 1 ∷ 2 ∷ 3 ∷ 4 ∷ 5 ∷ 6 ∷ 7 ∷ 8 ∷ 9 ∷ 10 ∷ 11 ∷ 12 ∷ 13 ∷ 14 ∷ 15 ∷ 16 ∷ 17 ∷ 18 ∷ 19 ∷ 20 ∷ 21 ∷ []
+numbers-so = NumberTable.numbers-so
 
 -- ---- what each number of the reader says (Numbers), and where a refusal stands (Places)
 

@@ -1,0 +1,77 @@
+-- What each entry point leaves in the slices that are lent to it: zeros where it refuses, and else what it answers, then zeros.
+-- Assumes nothing.
+use Prim.Native.Nat.{ℕ, _-_}
+use mathlib.Core.Path.{_≡_, refl, sym}
+use mathlib.Core.List.{List, _++_}
+use lib.ListN.{length, replicate}
+use Rattle.rl_spec.specs.declared.Id.{Id}
+use Rattle.rl_spec.specs.declared.Cause.{Cause}
+use Rattle.rl_spec.specs.declared.Folded.{Folded}
+use Rattle.rl_spec.specs.declared.FoldAnswer.the-variants as fold
+use Rattle.rl_spec.specs.declared.ProveAnswer.the-variants as prove
+use Rattle.rl_spec.specs.declared.Arguments.{Arguments}
+use Rattle.rl_spec.specs.declared.Outcome.{Outcome}
+use Rattle.rl_spec.specs.declared.RunAnswer.the-variants as run
+use Rattle.rl_spec.specs.Read.{countsOf, workOf}
+use Rattle.rl_spec.specs.Image.{Image, encode, imageOf}
+use Rattle.rl_spec.specs.Fold.{foldOf, foldNumber, workUnless}
+use Rattle.rl_spec.specs.Prove.{callEntries, allEntries, proveOf, reportsOf, proveAllOf, allReportsOf, proveNumber}
+use Rattle.rl_spec.specs.Lowerer.{made, refused, lowerOf, lowerNumber, lowerOut}
+use Rattle.rl_spec.specs.Runner.{runOf, runNumber}
+use Rattle.rl_images.specs.Reading.Refusals.{zeros-unless}
+
+module _ (s : List ℕ) (k : ℕ) where
+  -- folding: the work slice
+  pub fold-zero : (id : Id) (q : Cause) (p : ℕ) → foldOf s k id ≡ fold.Refused q p → workUnless (foldNumber (foldOf s k id)) s k ≡ replicate k 0
+  fold-zero id q p e = rw e (sym (zeros-unless q s k))
+
+  pub fold-leaves : (id : Id) (v : Folded) → foldOf s k id ≡ fold.Found v → workUnless (foldNumber (foldOf s k id)) s k ≡ workOf s k
+  fold-leaves id v e = rw e refl
+
+  -- proving a call: the work slice and the slice of reports
+  module _ (call room : ℕ) where
+    pub prove-zero : (q : Cause) (p : ℕ) → proveOf s k call room ≡ prove.Refused q p →
+        (workUnless (proveNumber (proveOf s k call room)) s k ≡ replicate k 0) × (reportsOf s k call room ≡ replicate room 0)
+    unfolding reportsOf
+    prove-zero q p e = rw e (sym (zeros-unless q s k), refl)
+
+    pub prove-leaves : (n : ℕ) → proveOf s k call room ≡ prove.Proved n →
+        (workUnless (proveNumber (proveOf s k call room)) s k ≡ workOf s k)
+        × (reportsOf s k call room ≡ callEntries (imageOf s) call ++ replicate (room - length (callEntries (imageOf s) call)) 0)
+    unfolding reportsOf
+    prove-leaves n e = rw e (refl, refl)
+
+  -- proving all calls
+  module _ (room : ℕ) where
+    pub prove-all-zero : (q : Cause) (p : ℕ) → proveAllOf s k room ≡ prove.Refused q p →
+        (workUnless (proveNumber (proveAllOf s k room)) s k ≡ replicate k 0) × (allReportsOf s k room ≡ replicate room 0)
+    unfolding allReportsOf
+    prove-all-zero q p e = rw e (sym (zeros-unless q s k), refl)
+
+    abbrev entries : List ℕ
+    entries = allEntries (imageOf s) (countsOf s .calls) 0
+
+    pub prove-all-leaves : (n : ℕ) → proveAllOf s k room ≡ prove.Proved n →
+        (workUnless (proveNumber (proveAllOf s k room)) s k ≡ workOf s k)
+        × (allReportsOf s k room ≡ entries ++ replicate (room - length entries) 0)
+    unfolding allReportsOf
+    prove-all-leaves n e = rw e (refl, refl)
+
+  -- lowering: the work slice and the output slice
+  module _ (f room : ℕ) where
+    pub lower-zero : (q : Cause) (p : ℕ) → lowerOf s k f room ≡ refused q p →
+        (workUnless (lowerNumber (lowerOf s k f room)) s k ≡ replicate k 0) × (lowerOut room (lowerOf s k f room) ≡ replicate room 0)
+    lower-zero q p e = rw e (sym (zeros-unless q s k), refl)
+
+    pub lower-leaves : (im′ : Image) → lowerOf s k f room ≡ made im′ →
+        (workUnless (lowerNumber (lowerOf s k f room)) s k ≡ workOf s k)
+        × (lowerOut room (lowerOf s k f room) ≡ encode im′ ++ replicate (room - length (encode im′)) 0)
+    lower-leaves im′ e = rw e (refl, refl)
+
+  -- running: the work slice
+  module _ (f : ℕ) (args : Arguments) (budget : ℕ) where
+    pub run-zero : (q : Cause) (p : ℕ) → runOf s k f args budget ≡ run.Refused q p → workUnless (runNumber (runOf s k f args budget)) s k ≡ replicate k 0
+    run-zero q p e = rw e (sym (zeros-unless q s k))
+
+    pub run-leaves : (o : Outcome) (n : ℕ) → runOf s k f args budget ≡ run.Ran o n → workUnless (runNumber (runOf s k f args budget)) s k ≡ workOf s k
+    run-leaves o n e = rw e refl
