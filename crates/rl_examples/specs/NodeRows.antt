@@ -32,12 +32,12 @@ use Rattle.rl_spec.specs.Functions.{plainFunction}
 use Rattle.rl_spec.specs.Runner.{ranIn}
 use Rattle.rl_examples.specs.MarkedImages.{made, binary, unary, function, textBytes, textRecords, build}
 
--- the texts "", "a", "ab", "b", "ab"; the nodes; and a function without parameters whose body is the last node alone, a bare expression
+-- the texts "", "a", "ab", "b", "ab", and, by their bytes, "é" and "è"; the nodes; and a function without parameters whose body is the last node alone, a bare expression
 abbrev pub around : List Rec → Image
 around nodes =
     build
     record {
-      texts = "" ∷ "a" ∷ "ab" ∷ "b" ∷ "ab" ∷ [];
+      texts = "" ∷ "a" ∷ "ab" ∷ "b" ∷ "ab" ∷ "Ã©" ∷ "Ã¨" ∷ [];
       lists = 0 ∷ [];
       expressions = nodes;
       statements = made 65 (num 5 ∷ num (length nodes - 1) ∷ []) ∷ [];

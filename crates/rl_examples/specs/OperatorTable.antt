@@ -6,9 +6,10 @@ use mathlib.Core.Bool.{true, false}
 use mathlib.Core.List.{List, [], _∷_, map}
 use mathlib.Core.Option.{none}
 use lib.IntN.{pos, negsuc}
-use Rattle.rl_spec.specs.Image.{num}
+use Rattle.rl_spec.specs.Image.{num, pair}
+use Rattle.rl_spec.specs.Run.{update}
 use Rattle.rl_examples.specs.MarkedImages.{made, string, bool, float, binary, unary, grouping}
-use Rattle.rl_examples.specs.NodeRows.{whole, aFloat, aNan, text, truth, null, gives, faults, Row, binaries, unaries, node, actual, expected, literal, number, negative, int, minus, bits, yes, no, folds, lacks, less, same, greater, alike, unlike, incomparable, noArithmetic, folding, evaluating}
+use Rattle.rl_examples.specs.NodeRows.{whole, aFloat, aNan, text, truth, null, gives, faults, another, Row, binaries, unaries, node, actual, expected, literal, number, negative, int, minus, bits, yes, no, folds, lacks, less, same, greater, alike, unlike, incomparable, noArithmetic, folding, evaluating}
 
 unfoldable pub rows : List Row
 rows =
@@ -62,6 +63,10 @@ rows =
     ∷ binaries (string 2) (string 3) noArithmetic less
     -- "b" and ""
     ∷ binaries (string 3) (string 0) noArithmetic greater
+    -- "é" and "b", "b" and "é", "è" and "é"
+    ∷ binaries (string 5) (string 3) noArithmetic greater
+    ∷ binaries (string 3) (string 5) noArithmetic less
+    ∷ binaries (string 6) (string 5) noArithmetic less
     -- two truth values
     ∷ binaries (bool 0) (bool 0) noArithmetic alike
     ∷ binaries (bool 0) (bool 1) noArithmetic unlike
@@ -124,6 +129,22 @@ rows =
     ∷ lacks (literal 29 65) 1
     ∷ lacks (literal 30 1) 3
     ∷ lacks (made 31 (num 2 ∷ num 1 ∷ num 0 ∷ num 0 ∷ [])) 1
+    -- other kinds: lists, an EnumVariant, both lambdas; an Assign of a name that is not known, an OkLiteral, an ErrorLiteral, a Cast
+    ∷ lacks (made 35 (num 2 ∷ pair 0 0 ∷ [])) 1
+    ∷ lacks (made 36 (num 2 ∷ pair 0 0 ∷ [])) 1
+    ∷ lacks (made 37 (num 2 ∷ pair 0 0 ∷ [])) 1
+    ∷ lacks (made 38 (num 2 ∷ pair 0 0 ∷ [])) 1
+    ∷ lacks (made 55 (num 2 ∷ num 1 ∷ num 1 ∷ [])) 1
+    ∷ lacks (made 56 (num 2 ∷ num 0 ∷ [])) 1
+    ∷ lacks (made 57 (num 2 ∷ num 0 ∷ [])) 1
+    ∷ node (number 7 ∷ made 39 (num 2 ∷ num 1 ∷ num 0 ∷ []) ∷ []) none (faults 3) 3
+    ∷ node (number 7 ∷ made 49 (num 2 ∷ num 0 ∷ []) ∷ []) none another 3
+    ∷ node (number 7 ∷ made 48 (num 2 ∷ num 0 ∷ []) ∷ []) none (faults 1) 2
+    ∷ node (number 7 ∷ made 46 (num 2 ∷ num 0 ∷ num 0 ∷ []) ∷ []) none (faults 1) 2
+    -- the operators 13 and 63
+    ∷ node (number 1 ∷ number 2 ∷ binary 0 13 1 ∷ []) none (faults 4) 4
+    ∷ node (number 1 ∷ number 2 ∷ binary 0 63 1 ∷ []) none (faults 4) 4
+    ∷ node (number 7 ∷ unary 63 0 ∷ []) none (faults 4) 3
     -- an operand that does not fold: left, right, of `-`. A Grouping
     ∷ node (literal 21 5 ∷ number 1 ∷ binary 0 1 1 ∷ []) none (faults 1) 3
     ∷ node (literal 21 5 ∷ number 1 ∷ binary 1 1 0 ∷ []) none (faults 1) 4
@@ -133,5 +154,5 @@ rows =
 
 -- THEOREM: they are folded and run so
 pub operators-so : map actual rows ≡ map expected rows
-unfolding folding evaluating rows
+unfolding folding evaluating update rows
 operators-so = refl
