@@ -7,6 +7,7 @@ pub mod FunctionExamples
 -- ---- small images, and what lowering makes of them
 pub mod MarkedImages
 pub mod LowerExamples
+pub mod CopyExamples
 pub mod LowerLimitExamples
 -- ---- tables: the numbers of causes, and words
 pub mod NumberTable

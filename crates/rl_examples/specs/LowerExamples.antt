@@ -37,16 +37,16 @@ use Rattle.rl_examples.specs.MarkedImages.{bool, identifier, clause, tex
 -- ---- records
 
 -- a record with the span 9, the function's
-abbrev new : ℕ → List Field → Rec
+abbrev pub new : ℕ → List Field → Rec
 new k fs = made k (num 9 ∷ fs)
 
 -- body, requires, ensures; without parameters. 0 or 1 for the result flag.
-abbrev function : ℕ → Field → Field → Field → Rec
+abbrev pub function : ℕ → Field → Field → Field → Rec
 function result body requires ensures =
     made 82 (num 0 ∷ num 9 ∷ pair 0 0 ∷ num result ∷ body ∷ requires ∷ ensures ∷ [])
 
 -- texts, list entries, nodes, statements, clauses, and the one function
-abbrev image : List String → List ℕ → List Rec → List Rec → List Rec → Rec → Image
+abbrev pub image : List String → List ℕ → List Rec → List Rec → List Rec → Rec → Image
 image texts lists expressions statements clauses function =
     build
     record {
@@ -254,7 +254,7 @@ unfolding lowering
 two-arms-rebuilt = refl
 
 -- the texts of an image from the n-th on
-abbrev textsFrom : ℕ → Option Image → List (List ℕ)
+abbrev pub textsFrom : ℕ → Option Image → List (List ℕ)
 textsFrom n none = []
 textsFrom n (some im) = map (textOf im) (drop n (upFrom 0 (sizeOf im Texts)))
 
@@ -264,16 +264,16 @@ pub two-arms-temporaries : textsFrom 2 (lowered two-arms 0)
 unfolding lowering
 two-arms-temporaries = refl
 
--- ---- a copy: a MapLiteral of an Identifier and a StructLiteral of the same Identifier and a Lambda
-
-abbrev nodesFrom : ℕ → Option Image → List Rec
+-- the nodes and the list entries of an image from the n-th on
+abbrev pub nodesFrom : ℕ → Option Image → List Rec
 nodesFrom n none = []
 nodesFrom n (some im) = drop n (recordsOf im Expressions)
 
-abbrev entriesFrom : ℕ → Option Image → List ℕ
+abbrev pub entriesFrom : ℕ → Option Image → List ℕ
 entriesFrom n none = []
 entriesFrom n (some im) = map (entryOf im) (drop n (upFrom 0 (sizeOf im Lists)))
 
+-- a MapLiteral of an Identifier and a StructLiteral of the same Identifier and a Lambda (CopyExamples)
 abbrev pub requires-map : Image
 requires-map =
     image
@@ -283,18 +283,6 @@ requires-map =
     []
     (clause 3 0 ∷ [])
     (function 0 (pair 0 0) (pair 0 1) (pair 0 0))
-
--- the Identifier twice, for it stands for copies; the Lambda's id and the fields' names in the new list; the spans of the originals
-pub copied-map : nodesFrom 4 (lowered requires-map 0)
-    ≡ identifier 1 ∷ identifier 1 ∷ made 52 (num 4 ∷ num 0 ∷ pair 6 4 ∷ []) ∷ made 36 (num 5 ∷ pair 10 2 ∷ [])
-    ∷ new 33 (num 5 ∷ num 7 ∷ []) ∷ new 50 (num 0 ∷ []) ∷ new 41 (pair 12 3 ∷ pair 15 1 ∷ []) ∷ []
-unfolding lowering
-copied-map = refl
-
-pub copied-lists : entriesFrom 6 (lowered requires-map 0)
-    ≡ 1 ∷ 5 ∷ 2 ∷ 1 ∷ 4 ∷ 6 ∷ 3 ∷ 4 ∷ 5 ∷ 9 ∷ 0 ∷ 2 ∷ []
-unfolding lowering
-copied-lists = refl
 
 -- ---- refinements, then requires: `flow >= 1` is made right operand first and copied left first, and the body is kept
 
