@@ -1,7 +1,8 @@
 #!/bin/sh
 # Wrong definitions, which the laws, the closed examples or the theorems must refuse. Each edit of tools/definition_edits is made in a copy of
 # rl_spec. Its last line, 'false: CRATE FILE LAW', names a law that is false then. All that CRATE stands on must still be proved and CRATE
-# must not, and the law must be refused for its own sake. That all is proved as it stands is for the gate to say.
+# must not, and the law must be refused for its own sake. That all is proved as it stands is for the gate to say. With a name it tries that
+# edit alone.
 set -eu
 cd "$(dirname "$0")/.."
 new=$(mktemp -d)
@@ -59,18 +60,18 @@ EOF
     fi
 }
 
-# two at a time, in the order of their names
-failed=0 pid=''
-finish() { # NAME
-    wait "$pid" || failed=1
-    cat "$new/$1.out"
-}
+if [ $# -eq 1 ]; then
+    try "$1"
+    exit
+fi
+
+# two at a time, those that ask the theorems first, since they take the longest; what they say is shown in the order of their names
+failed=0
+{
+    grep -l '^false: rl_theorems' tools/definition_edits/*.edit || :
+    grep -L '^false: rl_theorems' tools/definition_edits/*.edit
+} | sed 's|.*/||; s|\.edit$||' | xargs -P 2 -I NAME sh -c 'sh tools/definition_edits.sh NAME >"$0/NAME.out" 2>&1' "$new" || failed=1
 for edit in tools/definition_edits/*.edit; do
-    name=$(basename "$edit" .edit)
-    try "$name" >"$new/$name.out" 2>&1 &
-    next=$!
-    [ -z "$pid" ] || finish "$last"
-    pid=$next last=$name
+    cat "$new/$(basename "$edit" .edit).out"
 done
-finish "$last"
 exit "$failed"

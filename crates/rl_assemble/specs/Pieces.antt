@@ -3,7 +3,7 @@ use Prim.Native.Nat.{ℕ, _+_, _-_, _*_, _<_}
 use mathlib.Core.Path.{_≡_}
 use mathlib.Core.Bool.{cond}
 use mathlib.Core.List.{List, _++_}
-use lib.Dec.{eqb, ltb}
+use lib.Dec.{eqb}
 use lib.ListN.{length, getD, take, drop}
 use Rattle.rl_spec.specs.declared.Counts.{Counts}
 use Rattle.rl_spec.specs.declared.Interval.{Interval}
@@ -99,8 +99,3 @@ pub record Source (im : Image) (s p : List ℕ) (c : Counts) : Type 0 where
   pub bytes : s ≡ encode im
   pub counts-are : c ≡ counts im
   pub starts : 0 < c .statements → getD p (c .expressions) 0 ≡ placeOf im Statements
-
--- an image's bytes at the front of a slice, and their number; nothing and 0 where they are more than 65,535
-pub record Given (im : Image) (out : List ℕ) (n : ℕ) (after : List ℕ) : Type 0 where
-  pub number : n ≡ cond (ltb 65535 (length (encode im))) 0 (length (encode im))
-  pub bytes : after ≡ cond (ltb 65535 (length (encode im))) out (encode im ++ drop (length (encode im)) out)

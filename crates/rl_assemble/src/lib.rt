@@ -10,13 +10,15 @@ use rl_spec::Counts;
 use rl_spec::Interval;
 use rl_text_out::put_text;
 ghost use mathlib.Core.Path.{_≡_};
+ghost use mathlib.Core.Bool.{true};
 ghost use Prim.Native.Nat.{_+_, _*_, _≤_, _<_};
 ghost use lib.ListN.{length};
 ghost use Rattle.rl_spec.specs.declared.Section.the-variants.{Functions};
 ghost use Rattle.rl_spec.specs.Image.{Image, pair, bytesOf, sizeOf};
-ghost use Rattle.rl_spec.specs.Lower.{withBody};
+ghost use Rattle.rl_spec.specs.Lower.{withBody, fitting};
 ghost use Rattle.rl_context.specs.Additions.{New, grown, Counted, Kept};
-ghost use Rattle.rl_assemble.specs.Pieces.{Puts, Source, Given, newCounts, newHeader, newText, newTexts, newLists, newTrees, newRest, newBytes, newLength, expressionsAt, statementsAt, bodyAt, both};
+ghost use Rattle.rl_assemble.specs.Written.{Written};
+ghost use Rattle.rl_assemble.specs.Pieces.{Puts, Source, newCounts, newHeader, newText, newTexts, newLists, newTrees, newRest, newBytes, newLength, expressionsAt, statementsAt, bodyAt, both};
 ghost use Rattle.rl_assemble.specs.Pieces as pieces;
 
 // ---- pieces, one after the other; each function answers the place after what it put
@@ -256,8 +258,13 @@ fn put_image(
     put_rest(out, e, image, parameters, body, list)
 }
 
-// The lowered image's bytes, from the image's and from what lowering has added; answers their number, or 0 and puts nothing where they
-// are more than 65,535.
+// The number of an image's bytes, or that it would pass a limit.
+pub enum Assembled {
+    Length(usize),
+    PastLimit,
+}
+
+// The lowered image's bytes, from the image's and from what lowering has added; nothing is put where they are more than 65,535.
 pub fn assemble(
     image: &[u8],
     starts: &[u16],
@@ -267,14 +274,15 @@ pub fn assemble(
     function: u16,
     list: Interval,
     out: &mut [u8],
-) -> usize
-    ensures { λ r. ⌜ ((im : Image) (new : New) → Source im (now (image .entry)) (now (starts .entry)) counts → Counted im new ctx → Kept im new (now (scratch .entry)) → function < sizeOf im Functions → 65535 ≤ length (now (out .entry)) → Given (withBody (grown im new) function (pair (list .first) (list .count))) (now (out .entry)) r (now (out .exit))) ⌝ }
+) -> Assembled
+    ensures { λ r. ⌜ ((im : Image) (new : New) → Source im (now (image .entry)) (now (starts .entry)) counts → Counted im new ctx → Kept im new (now (scratch .entry)) → function < sizeOf im Functions → 65535 ≤ length (now (out .entry)) → Written (fitting true (withBody (grown im new) function (pair (list .first) (list .count)))) (now (out .entry)) r (now (out .exit))) ⌝ }
 {
     if 65535 < image.len() {
-        return 0;
+        return Assembled::PastLimit;
     }
     if 65535 < new_length(image, counts, ctx) {
-        return 0;
+        return Assembled::PastLimit;
     }
-    put_image(out, image, starts, counts, ctx, scratch, function, list)
+    let n = put_image(out, image, starts, counts, ctx, scratch, function, list);
+    Assembled::Length(n)
 }

@@ -19,7 +19,7 @@ use Rattle.rl_spec.specs.Tree.{ascii}
 use Rattle.rl_spec.specs.Records.{clauseAt, functionAt}
 use Rattle.rl_spec.specs.Ranges.{upFrom}
 use Rattle.rl_spec.specs.Contracts.{isEmpty}
-use Rattle.rl_spec.specs.Make.{Context, Make, andThen, _>>=_, give, newList, each, flatMap}
+use Rattle.rl_spec.specs.Make.{Context, Make, andThen, _>>=_, give, each, flatMap}
 use Rattle.rl_spec.specs.Lower.{clauseGuard, refinementGuard, ensuredBody, desugarFnContracts, paramsIn, requiresIn, ensuresIn, bodyIn, newBody}
 use Rattle.rl_laws.specs.Found.{size-found}
 use Rattle.rl_images.specs.Images.FunctionFields.{function-fits}
@@ -28,14 +28,14 @@ use Rattle.rl_context.specs.declared.Ctx.{Ctx}
 use Rattle.rl_context.specs.Additions.{none-new, grown, Live}
 use Rattle.rl_context.specs.Does.{State, at, nothing, all, Does, Listed}
 use Rattle.rl_context.proofs.Composed.{Keeps, does-then, does-same, does-list}
-use Rattle.rl_images.specs.Lowering.Adds.{Adds, adds-bind, adds-give, adds-cond, adds-each, adds-list}
+use Rattle.rl_images.specs.Lowering.Adds.{Adds, adds-bind, adds-give, adds-cond, adds-each}
 use Rattle.rl_context.proofs.StaysOver.{keeps-more, keeps-all}
 use Rattle.rl_images.specs.Lowering.AddsLower.{adds-clause, adds-ensured, adds-desugar}
 use Rattle.rl_context.specs.Guards.{Gathers, clausesIn, ConditionsIn}
 use Rattle.rl_context.proofs.Conditions.{required-in, ensured-in}
 use Rattle.rl_transform.specs.Transforms.{Ready}
 use Rattle.rl_transform.proofs.Loops.{entries-in}
-use Rattle.rl_bodies.specs.Bodies.{Fresh, refinedIn, entriesIn, Waits, BodyFits, restIn}
+use Rattle.rl_bodies.specs.Bodies.{Fresh, refinedIn, desugaredIn, entriesIn, Waits, BodyFits, restIn}
 use Rattle.rl_bodies.proofs.Lasts.{not-empty}
 use Rattle.rl_bodies.proofs.Nothing.{grown-none}
 
@@ -163,25 +163,26 @@ module _ (s p : List ℕ) (c : Counts) (f : ℕ) (ctx : Ctx) (fresh : Fresh (ima
       flatMap (λ q. refinementGuard texts (q .name) (q .refinement)) (paramsIn of f)
       >>= λ x. required >>= λ y. rest >>= λ z. give (x ++ y ++ z)
 
-  same-body : (x : Context) (ws : List ℕ) → Live of 0 x ws ctx scratch waiting → newBody of f x ≡ (guarded of >>= newList) x
-  unfolding newBody desugarFnContracts
-  same-body x ws l = ap (λ im. (guarded im >>= newList) x) (same-image x ws l)
-
-  keeps-body : Keeps (nothing {A = Unit {0}}) (λ _. newBody of f) nothing
-  unfolding newBody
-  keeps-body = keeps-more nothing (λ _. adds-bind (adds-desugar _ _ _ _) adds-list)
+  same-desugared : (x : Context) (ws : List ℕ) → Live of 0 x ws ctx scratch waiting → desugaredIn of f x ≡ guarded of x
+  unfolding desugarFnContracts
+  same-desugared x ws l = ap (λ im. guarded im x) (same-image x ws l)
 
   -- THE LAW
-  pub body-done : (g : Function) → ((q : List ℕ) → g ≡ functionAt (imageFound s q c) f) → (t u v w : State) (first : ℕ) (list : Interval) →
-      first ≡ ctx .waiting → Gathers of 0 (refinedIn of f) (at ctx scratch waiting) t →
+  pub desugared : (g : Function) → ((q : List ℕ) → g ≡ functionAt (imageFound s q c) f) → (t u v : State) →
+      Gathers of 0 (refinedIn of f) (at ctx scratch waiting) t →
       Gathers of 0 (each (clauseGuard (ascii "requires violated")) (clausesIn of (g .required))) t u →
-      Gathers of 0 (restIn of (g .body) (g .ensured)) u v → Listed first v list w →
-      Does of 0 0 nothing (newBody of f) (at ctx scratch waiting) (pair (list .first) (list .count)) w
-  body-done g e t u v w first list same x y z listed =
-      does-same (newBody of f) keeps-body same-body
-      (does-list first same
-      (does-three (adds-each (adds-clause _) (requiresIn of f)) (adds-cond (isEmpty (ensuresIn of f)) (adds-give (bodyIn of f)) (adds-ensured (ensuresIn of f) (bodyIn of f)))
-      (x .1)
-      (subst (λ (h : Function). Does of 0 0 all (each (clauseGuard (ascii "requires violated")) (clausesIn of (h .required))) t (y .0) u) (e p) (y .1))
-      (subst (λ (h : Function). Does of 0 0 all (restIn of (h .body) (h .ensured)) u (z .0) v) (e p) (z .1)))
-      listed)
+      Gathers of 0 (restIn of (g .body) (g .ensured)) u v → Gathers of 0 (desugaredIn of f) (at ctx scratch waiting) v
+  desugared g e t u v x y z = (
+    x .0 ++ (y .0 ++ z .0),
+    does-same (desugaredIn of f) (keeps-more all (λ _. adds-desugar _ _ _ _)) same-desugared
+        (does-three (adds-each (adds-clause _) (requiresIn of f)) (adds-cond (isEmpty (ensuresIn of f)) (adds-give (bodyIn of f)) (adds-ensured (ensuresIn of f) (bodyIn of f)))
+        (x .1)
+        (subst (λ (h : Function). Does of 0 0 all (each (clauseGuard (ascii "requires violated")) (clausesIn of (h .required))) t (y .0) u) (e p) (y .1))
+        (subst (λ (h : Function). Does of 0 0 all (restIn of (h .body) (h .ensured)) u (z .0) v) (e p) (z .1))),
+  )
+
+pub body-done : (im : Image) (f : ℕ) (ctx : Ctx) (scratch waiting : List ℕ) (v w : State) (first : ℕ) (list : Interval) → first ≡ ctx .waiting →
+    Gathers im 0 (desugaredIn im f) (at ctx scratch waiting) v → Listed first v list w →
+    Does im 0 0 nothing (newBody im f) (at ctx scratch waiting) (pair (list .first) (list .count)) w
+unfolding newBody
+body-done im f ctx scratch waiting v w first list same d listed = does-list first same (d .1) listed

@@ -14,7 +14,7 @@ use Rattle.rl_spec.specs.Ranges.{numbersIn}
 use Rattle.rl_spec.specs.Contracts.{paramOf, isEmpty}
 use Rattle.rl_spec.specs.Records.{functionAt}
 use Rattle.rl_spec.specs.Make.{Make, give, flatMap}
-use Rattle.rl_spec.specs.Lower.{lastOf, ensuredBody}
+use Rattle.rl_spec.specs.Lower.{lastOf, ensuredBody, desugarFnContracts, paramsIn, requiresIn, ensuresIn, bodyIn}
 use Rattle.rl_context.specs.declared.Ctx.{Ctx}
 use Rattle.rl_context.specs.Does.{State, all, Does}
 use Rattle.rl_context.specs.Guards.{guardFor, clausesIn}
@@ -22,6 +22,10 @@ use Rattle.rl_context.specs.Guards.{guardFor, clausesIn}
 -- the guards of a function's refined parameters
 abbrev pub refinedIn : Image → ℕ → Make (List ℕ)
 refinedIn im f = flatMap (guardFor im) (map (paramOf im) (numbersIn (functionAt im f .params)))
+
+-- the statements of a function's new body
+abbrev pub desugaredIn : Image → ℕ → Make (List ℕ)
+desugaredIn im f = desugarFnContracts (paramsIn im f) (bodyIn im f) (requiresIn im f) (ensuresIn im f)
 
 -- the entries of a list, as they are
 abbrev pub entriesIn : Image → Interval → List ℕ

@@ -1,4 +1,4 @@
-// The new body of a function: rl-resolver's desugar_fn_contracts.
+// The new body of a function.
 use rl_arena::kind_at;
 use rl_arena::statement_start;
 use rl_bytes::u16_at;
@@ -23,7 +23,7 @@ ghost use Rattle.rl_schema.specs.Codes.{table};
 ghost use Rattle.rl_context.specs.Does.{Does, nothing, at};
 ghost use Rattle.rl_context.specs.Guards.{Gathers, clausesIn};
 ghost use Rattle.rl_transform.specs.Transforms.{Ready};
-ghost use Rattle.rl_bodies.specs.Bodies.{Fresh, refinedIn, entriesIn, Waits, BodyFits, endsBare, restIn};
+ghost use Rattle.rl_bodies.specs.Bodies.{Fresh, refinedIn, desugaredIn, entriesIn, Waits, BodyFits, endsBare, restIn};
 
 // The guards of the function's refined parameters; they wait then.
 fn refinement_guards(
@@ -198,8 +198,9 @@ fn rest(
     )
 }
 
-// The new body list of a function. `text` is scratch, for the texts of refinements: what it holds then is left open.
-pub fn new_body(
+// The statements of the function's new body; they wait then. `text` is scratch, for the texts of refinements: what it holds then is left
+// open.
+fn desugar_fn_contracts(
     image: &[u8],
     starts: &[u16],
     counts: Counts,
@@ -209,11 +210,10 @@ pub fn new_body(
     scratch: &mut [u8],
     waiting: &mut [u16],
     ctx: Ctx,
-) -> MadeList
-    ensures { λ r. ⌜ (now (rows .entry) ≡ table → function < counts .functions → 16385 ≡ length (now (text .entry)) → WellFormed (imageFound (now (image .entry)) (now (starts .entry)) counts) → Fresh (imageFound (now (image .entry)) (now (starts .entry)) counts) ctx → Does (imageFound (now (image .entry)) (now (starts .entry)) counts) 0 0 nothing (newBody (imageFound (now (image .entry)) (now (starts .entry)) counts) function) (at ctx (now (scratch .entry)) (now (waiting .entry))) (pair (r .list .first) (r .list .count)) (at (r .ctx) (now (scratch .exit)) (now (waiting .exit)))) ⌝ }
+) -> Ctx
+    ensures { λ r. ⌜ (now (rows .entry) ≡ table → function < counts .functions → 16385 ≡ length (now (text .entry)) → WellFormed (imageFound (now (image .entry)) (now (starts .entry)) counts) → Fresh (imageFound (now (image .entry)) (now (starts .entry)) counts) ctx → Gathers (imageFound (now (image .entry)) (now (starts .entry)) counts) 0 (desugaredIn (imageFound (now (image .entry)) (now (starts .entry)) counts) function) (at ctx (now (scratch .entry)) (now (waiting .entry))) (at r (now (scratch .exit)) (now (waiting .exit)))) ⌝ }
 {
     let f = function_at(image, counts, function);
-    let first = ctx.waiting;
     let refined = refinement_guards(image, counts, function, text, scratch, waiting, ctx);
     let clauses = f.required;
     let required = refined.clause_guards(
@@ -228,7 +228,7 @@ pub fn new_body(
     );
     let body = f.body;
     let ensured = f.ensured;
-    let done = rest(
+    rest(
         image,
         starts,
         counts,
@@ -238,6 +238,34 @@ pub fn new_body(
         scratch,
         waiting,
         required,
+    )
+}
+
+// The new body list of a function. `text` is scratch: what it holds then is left open.
+pub fn new_body(
+    image: &[u8],
+    starts: &[u16],
+    counts: Counts,
+    rows: &[u64],
+    function: u16,
+    text: &mut [u8],
+    scratch: &mut [u8],
+    waiting: &mut [u16],
+    ctx: Ctx,
+) -> MadeList
+    ensures { λ r. ⌜ (now (rows .entry) ≡ table → function < counts .functions → 16385 ≡ length (now (text .entry)) → WellFormed (imageFound (now (image .entry)) (now (starts .entry)) counts) → Fresh (imageFound (now (image .entry)) (now (starts .entry)) counts) ctx → Does (imageFound (now (image .entry)) (now (starts .entry)) counts) 0 0 nothing (newBody (imageFound (now (image .entry)) (now (starts .entry)) counts) function) (at ctx (now (scratch .entry)) (now (waiting .entry))) (pair (r .list .first) (r .list .count)) (at (r .ctx) (now (scratch .exit)) (now (waiting .exit)))) ⌝ }
+{
+    let first = ctx.waiting;
+    let done = desugar_fn_contracts(
+        image,
+        starts,
+        counts,
+        rows,
+        function,
+        text,
+        scratch,
+        waiting,
+        ctx,
     );
     done.new_list(scratch, waiting, first)
 }

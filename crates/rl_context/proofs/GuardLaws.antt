@@ -2,19 +2,17 @@
 -- Assumes nothing.
 use Prim.Native.Nat.{ℕ, suc, _+_, _-_, _≤_, _<_}
 use mathlib.Core.Path.{_≡_, refl, ap, ap₂, sym, _∙_, subst}
-use mathlib.Core.Bool.{cond}
 use mathlib.Core.List.{List, [], _∷_, map}
 use native.Mathlib.Omega.{arith}
-use lib.Dec.{eqb}
 use lib.ListN.{length}
-use borrow.Author.Tests.{ne-eqb}
 use Rattle.rl_spec.specs.declared.Clause.{Clause}
+use Rattle.rl_spec.specs.declared.Optional.the-variants.{None, Some}
 use Rattle.rl_spec.specs.declared.Interval.{Interval}
 use Rattle.rl_spec.specs.Image.{num, Image}
 use Rattle.rl_spec.specs.Records.{clauseAt}
 use Rattle.rl_spec.specs.Ranges.{upFrom}
 use Rattle.rl_spec.specs.Make.{Make, give, each}
-use Rattle.rl_spec.specs.Lower.{expr, strLit, deepCloneExpr, violation, onlyIf, guard, msgExpr, clauseGuard}
+use Rattle.rl_spec.specs.Lower.{expr, strLit, deepCloneExpr, violation, onlyIf, guard, msgExprBy, msgExpr, clauseGuard}
 use Rattle.rl_schema.specs.Codes.{table}
 use Rattle.rl_context.specs.Does.{State, nothing, Does, Pushes}
 use Rattle.rl_context.proofs.Composed.{does-bind, does-give, does-push, does-each}
@@ -37,13 +35,11 @@ guard-does pred msg d e =
     (keeps-more nothing (λ copy. adds-bind (adds-expr 33 (num 5 ∷ num copy ∷ [])) (λ neg. adds-bind (adds-violation msg) (λ stm. adds-only-if neg stm)))) e
 
 module _ {im : Image} {k : ℕ} {s : State} (clause : Clause) (default : List ℕ) where
-  pub message-default : {t : State} {m : ℕ} → clause .message ≡ 65535 → Does im k k nothing (strLit default) s m t → Does im k k nothing (msgExpr clause default) s m t
-  message-default {t} {m} e d = subst (λ b. Does im k k nothing (cond b (strLit default) (give (clause .message))) s m t) (sym (ap (λ n. eqb n 65535) e)) d
+  pub message-default : {t : State} {m : ℕ} → clause .message ≡ None → Does im k k nothing (strLit default) s m t → Does im k k nothing (msgExpr clause default) s m t
+  message-default {t} {m} e d = subst (λ o. Does im k k nothing (msgExprBy o default) s m t) (sym e) d
 
-  pub message-own : (clause .message ≡ 65535 → ⊥) → Does im k k nothing (msgExpr clause default) s (clause .message) s
-  message-own n =
-      subst (λ b. Does im k k nothing (cond b (strLit default) (give (clause .message))) s (clause .message) s) (sym (ne-eqb (clause .message) 65535 n))
-      (does-give im k (clause .message) s)
+  pub message-own : (n : ℕ) → clause .message ≡ Some n → Does im k k nothing (msgExpr clause default) s n s
+  message-own n e = subst (λ o. Does im k k nothing (msgExprBy o default) s n s) (sym e) (does-give im k n s)
 
 pub clause-does : {im : Image} {s t u : State} {m a : ℕ} (default : List ℕ) (clause : Clause) → Makes im (msgExpr clause default) s m t → Makes im (guard (clause .condition) m) t a u →
     Makes im (clauseGuard default clause) s a u

@@ -8,7 +8,9 @@ use Rattle.rl_spec.specs.declared.Section.the-variants.{Statements}
 use Rattle.rl_spec.specs.declared.Interval.{Interval}
 use Rattle.rl_spec.specs.Schema.{sortOf, schema, fieldsIn, fieldsOf}
 use Rattle.rl_spec.specs.Image.{Field, num, pair, Rec, Image}
-use Rattle.rl_spec.specs.Make.{Make, _>>=_, resultFlag, append, made, newText, newList, stmt, newStmt, absent}
+use Rattle.rl_spec.specs.declared.Optional.the-variants.{None}
+use Rattle.rl_spec.specs.Ranges.{optionalField}
+use Rattle.rl_spec.specs.Make.{Make, _>>=_, resultFlag, append, made, newText, newList, stmt, newStmt}
 use Rattle.rl_spec.specs.Lower.{ident, errLit, unwrapCall, violation, onlyIf, declare, returnOf}
 use Rattle.rl_encode.specs.Words.{wordFields, wordRecord}
 use Rattle.rl_context.specs.Does.{State, nothing, Does}
@@ -82,13 +84,13 @@ branch-record : (span condition w : ℕ) (body : Interval) → Word w body →
 unfolding wordRecord wordFields fieldsOf fieldsIn schema sortOf
 branch-record span condition w body e = ap (λ p. made 69 (num span ∷ num condition ∷ p ∷ num 0 ∷ [])) e
 
-pub only-if-does : {im : Image} {s t u v : State} {b a : ℕ} (condition stm : ℕ) (body : Interval) (w : ℕ) → Does im 0 0 nothing (newList (stm ∷ [])) s (pair (body .first) (body .count)) t →
-    Word w body →
+pub only-if-does : {im : Image} {s t u v : State} {b a : ℕ} (condition stm : ℕ) (body : Interval) (w x : ℕ) → Does im 0 0 nothing (newList (stm ∷ [])) s (pair (body .first) (body .count)) t →
+    Word w body → num x ≡ optionalField None →
     Does im 0 0 nothing (append Statements (wordRecord 69 (t .ctx .span ∷ condition ∷ w ∷ 0 ∷ []) ∷ [])) t b u →
-    Does im 0 0 nothing (append Statements (wordRecord 68 (u .ctx .span ∷ b ∷ 65535 ∷ []) ∷ [])) u a v → Does im 0 0 nothing (onlyIf condition stm) s a v
+    Does im 0 0 nothing (append Statements (wordRecord 68 (u .ctx .span ∷ b ∷ x ∷ []) ∷ [])) u a v → Does im 0 0 nothing (onlyIf condition stm) s a v
 unfolding onlyIf wordRecord wordFields fieldsOf fieldsIn schema sortOf
-only-if-does {t = t} condition stm body w d e f g =
+only-if-does {t = t} {u = u} {b = b} condition stm body w x d e o f g =
     does-bind d
-    (keeps-more nothing (λ p. adds-bind (adds-new 69 (num condition ∷ p ∷ num 0 ∷ [])) (λ branch. adds-new 68 (num branch ∷ absent ∷ []))))
-    (does-bind (does-stmt 69 _ _ (branch-record (t .ctx .span) condition w body e) f) (keeps-more nothing (λ branch. adds-new 68 (num branch ∷ absent ∷ [])))
-    (does-stmt 68 _ _ refl g))
+    (keeps-more nothing (λ p. adds-bind (adds-new 69 (num condition ∷ p ∷ num 0 ∷ [])) (λ branch. adds-new 68 (num branch ∷ optionalField None ∷ []))))
+    (does-bind (does-stmt 69 _ _ (branch-record (t .ctx .span) condition w body e) f) (keeps-more nothing (λ branch. adds-new 68 (num branch ∷ optionalField None ∷ [])))
+    (does-stmt 68 _ _ (ap (λ z. made 68 (num (u .ctx .span) ∷ num b ∷ z ∷ [])) o) g))

@@ -6,6 +6,7 @@ use rl_records::clause_at;
 use rl_spec::Clause;
 use rl_spec::Counts;
 use rl_spec::Interval;
+use rl_spec::Optional;
 ghost use mathlib.Core.Path.{_≡_};
 ghost use mathlib.Core.List.{List};
 ghost use Prim.Native.Nat.{ℕ, _<_};
@@ -18,16 +19,14 @@ ghost use Rattle.rl_context.specs.Does.{Does, nothing, at};
 ghost use Rattle.rl_context.specs.Guards.{Makes, Gathers, guardOf, clausesIn, ConditionsIn};
 
 impl Ctx {
-    // A clause's own message, which is shared; 65,535 for none.
+    // A clause's own message, which is shared, or the default.
     pub fn msg_expr(self, scratch: &mut [u8], clause: Clause, default: &[u8]) -> Made
         ensures { λ r. ⌜ ((im : Image) (k : ℕ) (w : List ℕ) → Does im k k nothing (msgExpr clause (now (default .entry))) (at self (now (scratch .entry)) w) (r .index) (at (r .ctx) (now (scratch .exit)) w)) ⌝ }
     {
-        if clause.message == 65535 {
-            return self.str_lit(scratch, default);
-        }
-        Made {
-            ctx: self,
-            index: clause.message,
+        let message = clause.message;
+        match message {
+            Optional::Some(index) => Made { ctx: self, index },
+            Optional::None => self.str_lit(scratch, default),
         }
     }
 

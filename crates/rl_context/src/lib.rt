@@ -9,6 +9,8 @@ mod wrapping;
 
 pub use copy::deep_clone_expr;
 pub use copy::word_of;
+pub use nodes::list_word;
+pub use nodes::optional_word;
 pub use refinements::Predicate;
 use rl_bytes::put;
 use rl_bytes::word_at;
@@ -85,8 +87,8 @@ fn put_entries(scratch: &mut [u8], waiting: &[u16], at: usize, first: usize, cou
 }
 
 impl Ctx {
-    // A limit would be passed.
-    pub fn stopped(mut self) -> Made
+    // A limit would be passed: what else is answered is left open.
+    fn stopped(mut self) -> Made
         ensures { λ r. ⌜ r .ctx .full ≡ true ⌝ }
     {
         self.full = true;

@@ -3,10 +3,12 @@ use crate::Ctx;
 use crate::Made;
 use crate::MadeList;
 use rl_spec::Interval;
+use rl_spec::Optional;
 ghost use mathlib.Core.Path.{_≡_};
 ghost use mathlib.Core.List.{List, [], _∷_};
 ghost use Prim.Native.Nat.{ℕ, _-_, _/_, _%_};
 ghost use Rattle.rl_spec.specs.Image.{Image, num, pair};
+ghost use Rattle.rl_spec.specs.Ranges.{optionalField};
 ghost use Rattle.rl_spec.specs.Make.{newText, newList, newStmt};
 ghost use Rattle.rl_spec.specs.Lower.{expr, ident, strLit, errLit, resCall, unwrapCall, isErrCall, violation, onlyIf, declare, returnOf};
 ghost use Rattle.rl_spec.specs.Schema.{fieldsOf};
@@ -16,10 +18,20 @@ ghost use Rattle.rl_context.specs.Does.{Does, nothing, one, at};
 ghost use Rattle.rl_context.specs.Paths.{resPath};
 
 // A list, as a word of a record.
-fn list_word(list: Interval) -> u64
+pub fn list_word(list: Interval) -> u64
     ensures { λ r. ⌜ pair (r % 65536) (r / 65536) ≡ pair (list .first) (list .count) ⌝ }
 {
     (list.first as u64) + 65536 * (list.count as u64)
+}
+
+// An index or none, as a field of a record.
+pub fn optional_word(index: Optional) -> u16
+    ensures { λ r. ⌜ num r ≡ optionalField index ⌝ }
+{
+    match index {
+        Optional::Some(n) => n,
+        Optional::None => 65535,
+    }
 }
 
 impl Ctx {
@@ -171,7 +183,8 @@ impl Ctx {
         let words = [ctx.span as u64, condition as u64, list_word(body.list), 0];
         let branch = ctx.new_statement(scratch, 69, 0x05_16_0e_03, &words);
         let next = branch.ctx;
-        let whole = [next.span as u64, branch.index as u64, 65535];
+        let other = optional_word(Optional::None) as u64;
+        let whole = [next.span as u64, branch.index as u64, other];
         next.new_statement(scratch, 68, 0x11_10_03, &whole)
     }
 }

@@ -181,7 +181,8 @@ impl Ctx {
         s.ctx.push(waiting, s.index)
     }
 
-    // The guard of a function's parameter, by its number; its text is put into a lent buffer, longer than any text that there is room for.
+    // The guard of a function's parameter, by its number. `room` is scratch for its text, longer than any that the image takes: what it holds
+    // then is left open.
     pub fn refinement_guard(
         self,
         image: &[u8],

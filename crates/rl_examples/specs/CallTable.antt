@@ -28,7 +28,7 @@ use Rattle.rl_examples.specs.ContractRows.{whole, argument, reported, pr
 -- f(x > 9), f(x > 1), f(x); g(x) requires x != 5, g(x) ensures false; h(x > 9, y > 1); k(x); l(x, y > 1); n(x, x) and p(y, x) require
 -- x != 5; each else "five". q() requires false; r() requires 5; t() requires false else Err("five"); u() requires both. The calls' names,
 -- but for the last four, are texts of their own
-abbrev named-alike : Image
+abbrev pub named-alike : Image
 named-alike =
     build
     record {
@@ -131,10 +131,10 @@ pub record Values : Type 0 where
 abbrev of : ℕ → ℕ → ℕ → RunAnswer → Values
 of f n number answer = record { function = f; count = n; number = number; answer = answer }
 
-abbrev answered : RunAnswer → ℕ × RunAnswer
+abbrev pub answered : RunAnswer → ℕ × RunAnswer
 answered a = (runNumber a, a)
 
-abbrev run : Values → RunAnswer
+abbrev pub run : Values → RunAnswer
 run v =
     runOf (encode sixteen) 8192 (v .function)
     (record { values = map (λ n. argument (whole n)) (upFrom 1 16); count = v .count }) 1000

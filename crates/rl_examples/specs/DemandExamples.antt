@@ -1,10 +1,10 @@
--- A closed instance of each of the three demands, so that what does not meet one of them is refused by the law that states it.
+-- Single closed instances, of one image each, which shut out 01's "Worthless versions". They are not the demands, which are stated of all
+-- bytes in rl_theorems.
 -- Assumes nothing.
 use Prim.Native.Nat.{ℕ}
 use mathlib.Core.Path.{_≡_, refl}
 use mathlib.Core.Bool.{cond}
 use mathlib.Core.List.{List, [], _∷_, map}
-use mathlib.Core.Option.{some}
 use lib.Dec.{ltb}
 use lib.IntN.{pos}
 use lib.ListN.{replicate}
@@ -22,35 +22,35 @@ use Rattle.rl_spec.specs.Lower.{lowered}
 use Rattle.rl_spec.specs.Lowerer.{anyOver, tooTall, lowerOf, lowerNumber}
 use Rattle.rl_spec.specs.Runner.{allHave, runOf, runNumber}
 use Rattle.rl_examples.specs.MarkedImages.{made, string, identifier, binary, plus, compare, less, parameter, clause, function, build, lastNode, flow}
-use Rattle.rl_examples.specs.LowerExamples.{requires-identifier, requires-lowered, lowering, decoding, running}
+use Rattle.rl_examples.specs.LowerExamples.{lowering, decoding, running}
 use Rattle.rl_examples.specs.NodeRows.{number, folding, evaluating}
 use Rattle.rl_examples.specs.ContractRows.{whole, argument, Ends, reported, readAs, loweredAs, proving}
 
--- ---- DEMAND 1, refused is only what has a cause: the printer's image is accepted, its last node folded, its calls proved, its function
--- lowered and run, each from its bytes
+-- ---- "refuses each image or call": the printer's image is accepted, its last node folded, its calls proved, its function lowered and run,
+-- each from its bytes
 
-abbrev one : Arguments
+abbrev pub one : Arguments
 one = record { values = replicate 16 (argument (whole 1)); count = 1 }
 
-pub demand-one : numberIn (answerOf (encode flow) 8192) ∷ foldNumber (foldOf (encode flow) 8192 (lastNode flow))
+pub flow-not-refused : numberIn (answerOf (encode flow) 8192) ∷ foldNumber (foldOf (encode flow) 8192 (lastNode flow))
     ∷ proveNumber (proveOf (encode flow) 8192 0 4) ∷ proveNumber (proveAllOf (encode flow) 8192 8)
     ∷ lowerNumber (lowerOf (encode flow) 8192 0 65535) ∷ runNumber (runOf (encode flow) 8192 0 one 1000) ∷ [] ≡ 0 ∷ 0 ∷ 0 ∷ 0 ∷ 0 ∷ 0 ∷ []
 unfolding lowering decoding running folding evaluating proving imageOf sectionsIn recordsIn recordIn nextAt endAt fieldsAt widthsOf foldOf reportEntries callEntries allEntries proveOf proveAllOf tooTall anyOver heights heightsFrom tallestChild tallestEntry lowerOf allHave runOf
-demand-one = refl
+flow-not-refused = refl
 
--- ---- DEMAND 2, the Rust's reports and the Rust's lowered body: those of the printer's example, as entries and as texts, and marked case 10
+-- ---- "never reports": the reports of the printer's image, as entries and as texts
 
-pub demand-two : (allEntries flow 2 0 ≡ 0 ∷ 7 ∷ 0 ∷ 0 ∷ 1 ∷ 9 ∷ 1 ∷ 0 ∷ [])
+pub flow-reported : (allEntries flow 2 0 ≡ 0 ∷ 7 ∷ 0 ∷ 0 ∷ 1 ∷ 9 ∷ 1 ∷ 0 ∷ [])
     × (reported flow 0 ≡ ascii "contract violation (proven at compile time): refinement failed: flow >= 1" ∷ [])
     × (reported flow 1 ≡ ascii "contract violation (proven at compile time): flow id range" ∷ [])
-    × (lowered requires-identifier 0 ≡ some requires-lowered)
 unfolding lowering running folding proving reportEntries callEntries allEntries
-demand-two = (refl, refl, refl, refl)
+flow-reported = (refl, refl, refl)
 
--- ---- DEMAND 3, the lowered body runs as the contracts are read, step by step
+-- ---- "hands the body back unlowered; wraps only the first return", "says Spent before any step; makes up the steps": on four values and
+-- with every budget up to 30, the contracts of one function with two returns are read, and its lowered body runs, as written down
 
 -- f(x), requires x > 0 else "positive", ensures ret < 10: if (x == 5) { return x } return x + x
-abbrev twice : Image
+abbrev pub twice : Image
 twice =
     build
     record {
@@ -88,13 +88,13 @@ cases =
     ∷ []
 
 -- the budgets 0 to 30; Spent with all of a budget that is too small
-abbrev throughout : (ℕ → Ends) → List Ends
+abbrev pub throughout : (ℕ → Ends) → List Ends
 throughout f = map f (upFrom 0 31)
 
-abbrev expected : Case → List Ends
+abbrev pub expected : Case → List Ends
 expected c = throughout (λ budget. cond (ltb budget (c .steps)) (spent, budget) (c .outcome, c .steps))
 
-pub demand-three : (map (λ (c : Case). throughout (readAs twice (argument (whole (c .x)) ∷ []))) cases ≡ map expected cases)
+pub twice-ends-so : (map (λ (c : Case). throughout (readAs twice (argument (whole (c .x)) ∷ []))) cases ≡ map expected cases)
     × (map (λ (c : Case). throughout (loweredAs (lowered twice 0) (argument (whole (c .x)) ∷ []))) cases ≡ map expected cases)
 unfolding lowering running folding evaluating proving cases
-demand-three = (refl, refl)
+twice-ends-so = (refl, refl)

@@ -18,7 +18,7 @@ abbrev resultFunction : Rec
 resultFunction = made 82 (num 0 ∷ num 0 ∷ pair 1 2 ∷ num 1 ∷ pair 0 0 ∷ pair 0 0 ∷ pair 0 0 ∷ [])
 
 -- g(x), then f(y, x), a result function
-abbrev two : Image
+abbrev pub two : Image
 two =
     build
     record {
@@ -32,10 +32,10 @@ two =
       calls = [];
     }
 
-abbrev named : (ℕ → Text) → (ℕ → List Text) → List (List Text)
+abbrev pub named : (ℕ → Text) → (ℕ → List Text) → List (List Text)
 named name params = (name 0 ∷ params 0) ∷ (name 1 ∷ params 1) ∷ []
 
-abbrev expected : List (List Text)
+abbrev pub expected : List (List Text)
 expected = (ascii "g" ∷ ascii "x" ∷ []) ∷ (ascii "f" ∷ ascii "y" ∷ ascii "x" ∷ []) ∷ []
 
 -- as their contracts are read

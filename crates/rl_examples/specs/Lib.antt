@@ -7,10 +7,18 @@ pub mod FunctionExamples
 -- ---- small images, and what lowering makes of them
 pub mod MarkedImages
 pub mod LowerExamples
+pub mod LowerRecords
 pub mod CopyExamples
 pub mod LowerLimitExamples
 -- ---- tables: the numbers of causes, and words
 pub mod NumberTable
+-- ---- tables: images in bytes
+pub mod ByteRows
+pub mod KindBytes
+pub mod FieldRows
+pub mod FieldBytes
+pub mod LimitBytes
+pub mod RefusalBytes
 -- ---- tables: operators and literals; floats; refinements and the texts of clauses; callees and values
 pub mod NodeRows
 pub mod OperatorTable
@@ -23,5 +31,7 @@ pub mod FunctionRows
 pub mod RunnerRows
 pub mod RunnerTable
 pub mod ReadingTable
--- ---- a closed instance of each demand
+-- ---- single instances, which shut out 01's "Worthless versions"
 pub mod DemandExamples
+-- ---- what the printer writes
+pub mod PrinterExamples

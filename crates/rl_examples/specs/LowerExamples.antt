@@ -21,7 +21,7 @@ use Rattle.rl_spec.specs.Records.{paramAt, clauseAt, functionAt}
 use Rattle.rl_spec.specs.Ranges.{upFrom}
 use Rattle.rl_spec.specs.Contracts.{paramOf, clauseOf, contractsOf, anyRefined}
 use Rattle.rl_spec.specs.Message.{decimalBy, decimal}
-use Rattle.rl_spec.specs.Make.{each, flatMap, append, appendBytes, made, newText, newList, stmt, absent}
+use Rattle.rl_spec.specs.Make.{each, flatMap, append, appendBytes, made, newText, newList, stmt}
 use Rattle.rl_spec.specs.Lower.{expr, ident, strLit, errLit, resCall, cloneEntries, cloneFields, deepCloneExpr, violation, onlyIf, guard, declare, returnOf, wrapAs, wrapReturn, refinePredicate, transformBranch, transformArm, transformStatement, wrapTrailing, desugarFnContracts, hasContracts, newBody, fitting, loweredBy, lowered}
 use Rattle.rl_spec.specs.Values as value
 use Rattle.rl_spec.specs.Values.{sameText, compareValues, bang}
@@ -90,7 +90,7 @@ requires-lowered =
     (3 ∷ 4 ∷ 5 ∷ 4 ∷ 0 ∷ 2 ∷ [])
     (identifier 1 ∷ new 25 (num 2 ∷ []) ∷ identifier 1 ∷ new 33 (num 5 ∷ num 2 ∷ []) ∷ new 50 (num 1 ∷ [])
     ∷ new 41 (pair 0 3 ∷ pair 3 1 ∷ []) ∷ [])
-    (new 65 (num 5 ∷ []) ∷ new 69 (num 3 ∷ pair 4 1 ∷ num 0 ∷ []) ∷ new 68 (num 1 ∷ absent ∷ []) ∷ [])
+    (new 65 (num 5 ∷ []) ∷ new 69 (num 3 ∷ pair 4 1 ∷ num 0 ∷ []) ∷ new 68 (num 1 ∷ num 65535 ∷ []) ∷ [])
     (clause 0 65535 ∷ [])
     (function 0 (pair 5 1) (pair 0 1) (pair 0 0))
 
@@ -124,9 +124,9 @@ returns-lowered =
     -- the message, the copy, its negation, err(message), and the temp that is returned
     ∷ new 25 (num 13 ∷ []) ∷ identifier 1 ∷ new 33 (num 5 ∷ num 9 ∷ []) ∷ new 50 (num 8 ∷ []) ∷ new 30 (num 14 ∷ []) ∷ [])
     (made 66 (num 5 ∷ num 1 ∷ []) ∷ new 64 (num 2 ∷ num 0 ∷ num 1 ∷ num 0 ∷ []) ∷ new 66 (num 5 ∷ [])
-    ∷ new 69 (num 4 ∷ pair 5 1 ∷ num 0 ∷ []) ∷ new 68 (num 3 ∷ absent ∷ [])
+    ∷ new 69 (num 4 ∷ pair 5 1 ∷ num 0 ∷ []) ∷ new 68 (num 3 ∷ num 65535 ∷ [])
     ∷ new 64 (num 12 ∷ num 0 ∷ num 7 ∷ num 0 ∷ []) ∷ new 66 (num 11 ∷ []) ∷ new 69 (num 10 ∷ pair 10 1 ∷ num 0 ∷ [])
-    ∷ new 68 (num 7 ∷ absent ∷ []) ∷ new 66 (num 12 ∷ []) ∷ [])
+    ∷ new 68 (num 7 ∷ num 65535 ∷ []) ∷ new 66 (num 12 ∷ []) ∷ [])
     (clause 2 65535 ∷ [])
     (function 1 (pair 11 5) (pair 0 0) (pair 0 1))
 
@@ -160,10 +160,10 @@ loop-and-last-lowered =
     ∷ new 41 (pair 12 3 ∷ pair 15 1 ∷ []) ∷ new 30 (num 15 ∷ []) ∷ [])
     (made 67 (num 5 ∷ []) ∷ made 71 (num 6 ∷ pair 0 1 ∷ []) ∷ made 65 (num 7 ∷ num 0 ∷ [])
     ∷ new 64 (num 2 ∷ num 0 ∷ num 2 ∷ num 0 ∷ []) ∷ new 64 (num 4 ∷ num 0 ∷ num 3 ∷ num 0 ∷ []) ∷ new 65 (num 7 ∷ [])
-    ∷ new 69 (num 5 ∷ pair 7 1 ∷ num 0 ∷ []) ∷ new 68 (num 6 ∷ absent ∷ []) ∷ new 66 (num 8 ∷ [])
+    ∷ new 69 (num 5 ∷ pair 7 1 ∷ num 0 ∷ []) ∷ new 68 (num 6 ∷ num 65535 ∷ []) ∷ new 66 (num 8 ∷ [])
     ∷ made 71 (num 6 ∷ pair 8 4 ∷ [])
     ∷ new 64 (num 9 ∷ num 0 ∷ num 0 ∷ num 0 ∷ []) ∷ new 64 (num 11 ∷ num 0 ∷ num 9 ∷ num 0 ∷ []) ∷ new 65 (num 13 ∷ [])
-    ∷ new 69 (num 11 ∷ pair 16 1 ∷ num 0 ∷ []) ∷ new 68 (num 13 ∷ absent ∷ []) ∷ new 66 (num 14 ∷ []) ∷ [])
+    ∷ new 69 (num 11 ∷ pair 16 1 ∷ num 0 ∷ []) ∷ new 68 (num 13 ∷ num 65535 ∷ []) ∷ new 66 (num 14 ∷ []) ∷ [])
     (clause 1 0 ∷ [])
     (function 0 (pair 17 5) (pair 0 0) (pair 0 1))
 
@@ -171,7 +171,7 @@ pub loop-and-last-whole : lowered loop-and-last 0 ≡ some loop-and-last-lowered
 unfolding lowering
 loop-and-last-whole = refl
 
--- ---- statements, list entries and a body, under `ensures ret` with the message node 0
+-- ---- more images. Statements, list entries and a body, under `ensures ret` with the message node 0
 
 abbrev pub under-ensures : List Rec → List ℕ → Field → Image
 under-ensures statements lists body =
@@ -184,85 +184,42 @@ under-ensures statements lists body =
     (function 0 body (pair 0 0) (pair 0 1))
 
 -- the statements of an image from the n-th on
-abbrev statementsFrom : ℕ → Option Image → List Rec
+abbrev pub statementsFrom : ℕ → Option Image → List Rec
 statementsFrom n none = []
 statementsFrom n (some im) = drop n (recordsOf im Statements)
 
--- a return in a conditional whose else branch is a conditional with a return: the else branch, statement 2, is left alone; the branch
--- is rebuilt with needs_scope false
+-- a return in a conditional whose else branch is a conditional with a return
 abbrev pub else-conditional : Image
 else-conditional =
     under-ensures
-    (made 66 (num 5 ∷ num 0 ∷ []) ∷ made 69 (num 6 ∷ num 0 ∷ pair 0 1 ∷ num 1 ∷ []) ∷ made 68 (num 7 ∷ num 1 ∷ absent ∷ [])
+    (made 66 (num 5 ∷ num 0 ∷ []) ∷ made 69 (num 6 ∷ num 0 ∷ pair 0 1 ∷ num 1 ∷ []) ∷ made 68 (num 7 ∷ num 1 ∷ num 65535 ∷ [])
     ∷ made 68 (num 8 ∷ num 1 ∷ num 2 ∷ []) ∷ [])
     (0 ∷ 3 ∷ []) (pair 1 1)
 
-pub else-left-alone : statementsFrom 4 (lowered else-conditional 0)
-    ≡ new 64 (num 2 ∷ num 0 ∷ num 0 ∷ num 0 ∷ []) ∷ new 64 (num 4 ∷ num 0 ∷ num 2 ∷ num 0 ∷ []) ∷ new 65 (num 6 ∷ [])
-    ∷ new 69 (num 4 ∷ pair 6 1 ∷ num 0 ∷ []) ∷ new 68 (num 7 ∷ absent ∷ []) ∷ new 66 (num 7 ∷ [])
-    ∷ made 69 (num 6 ∷ num 0 ∷ pair 7 4 ∷ num 0 ∷ []) ∷ made 68 (num 8 ∷ num 10 ∷ num 2 ∷ []) ∷ []
-unfolding lowering
-else-left-alone = refl
-
--- a return in either branch of a conditional, `if (false) { return false } else { return false }`: both branches are rebuilt
+-- a return in either branch of a conditional, `if (false) { return false } else { return false }`
 abbrev pub else-returns : Image
 else-returns =
     image
     ("f" ∷ "ret" ∷ [])
     (0 ∷ 3 ∷ [])
     (bool 0 ∷ identifier 1 ∷ [])
-    (made 66 (num 5 ∷ num 0 ∷ []) ∷ made 69 (num 6 ∷ num 0 ∷ pair 0 1 ∷ num 1 ∷ []) ∷ made 69 (num 7 ∷ absent ∷ pair 0 1 ∷ num 1 ∷ [])
+    (made 66 (num 5 ∷ num 0 ∷ []) ∷ made 69 (num 6 ∷ num 0 ∷ pair 0 1 ∷ num 1 ∷ []) ∷ made 69 (num 7 ∷ num 65535 ∷ pair 0 1 ∷ num 1 ∷ [])
     ∷ made 68 (num 8 ∷ num 1 ∷ num 2 ∷ []) ∷ [])
     (clause 1 0 ∷ [])
     (function 0 (pair 1 1) (pair 0 0) (pair 0 1))
 
-pub else-rebuilt : statementsFrom 17 (lowered else-returns 0)
-    ≡ made 69 (num 7 ∷ absent ∷ pair 16 4 ∷ num 0 ∷ []) ∷ made 68 (num 8 ∷ num 10 ∷ num 17 ∷ []) ∷ []
-unfolding lowering
-else-rebuilt = refl
-
--- loops of each kind without a return: rebuilt, with their spans, texts, nodes and inner statement, and a list each; nothing else is new
-pub rebuilt-loops : lowered (under-ensures
-    (made 77 (num 5 ∷ []) ∷ made 70 (num 6 ∷ num 0 ∷ pair 0 1 ∷ []) ∷ made 72 (num 7 ∷ num 0 ∷ num 0 ∷ num 1 ∷ pair 0 1 ∷ [])
-    ∷ made 73 (num 8 ∷ num 1 ∷ num 0 ∷ pair 0 1 ∷ []) ∷ made 74 (num 9 ∷ num 1 ∷ num 0 ∷ pair 0 0 ∷ []) ∷ [])
-    (0 ∷ 1 ∷ 2 ∷ 3 ∷ 4 ∷ []) (pair 1 4)) 0
-    ≡ some (under-ensures
-    (made 77 (num 5 ∷ []) ∷ made 70 (num 6 ∷ num 0 ∷ pair 0 1 ∷ []) ∷ made 72 (num 7 ∷ num 0 ∷ num 0 ∷ num 1 ∷ pair 0 1 ∷ [])
-    ∷ made 73 (num 8 ∷ num 1 ∷ num 0 ∷ pair 0 1 ∷ []) ∷ made 74 (num 9 ∷ num 1 ∷ num 0 ∷ pair 0 0 ∷ [])
-    ∷ made 70 (num 6 ∷ num 0 ∷ pair 5 1 ∷ []) ∷ made 72 (num 7 ∷ num 0 ∷ num 0 ∷ num 1 ∷ pair 6 1 ∷ [])
-    ∷ made 73 (num 8 ∷ num 1 ∷ num 0 ∷ pair 7 1 ∷ []) ∷ made 74 (num 9 ∷ num 1 ∷ num 0 ∷ pair 8 0 ∷ []) ∷ [])
-    (0 ∷ 1 ∷ 2 ∷ 3 ∷ 4 ∷ 0 ∷ 0 ∷ 0 ∷ 5 ∷ 6 ∷ 7 ∷ 8 ∷ []) (pair 8 4))
-unfolding lowering
-rebuilt-loops = refl
-
--- a match of two arms that share a return: each arm is finished before the next, and has a temporary of its own
+-- a match of two arms that share a return
 abbrev pub two-arms : Image
 two-arms =
     under-ensures
-    (made 66 (num 5 ∷ num 0 ∷ []) ∷ made 76 (num 6 ∷ num 0 ∷ pair 0 1 ∷ []) ∷ made 76 (num 7 ∷ absent ∷ pair 0 1 ∷ [])
+    (made 66 (num 5 ∷ num 0 ∷ []) ∷ made 76 (num 6 ∷ num 0 ∷ pair 0 1 ∷ []) ∷ made 76 (num 7 ∷ num 65535 ∷ pair 0 1 ∷ [])
     ∷ made 75 (num 8 ∷ num 1 ∷ pair 1 2 ∷ []) ∷ [])
     (0 ∷ 1 ∷ 2 ∷ 3 ∷ []) (pair 3 1)
-
-pub two-arms-kinds : kinds Statements (lowered two-arms 0)
-    ≡ 66 ∷ 76 ∷ 76 ∷ 75 ∷ 64 ∷ 64 ∷ 65 ∷ 69 ∷ 68 ∷ 66 ∷ 76 ∷ 64 ∷ 64 ∷ 65 ∷ 69 ∷ 68 ∷ 66 ∷ 76 ∷ 75 ∷ []
-unfolding lowering
-two-arms-kinds = refl
-
-pub two-arms-rebuilt : statementsFrom 17 (lowered two-arms 0)
-    ≡ made 76 (num 7 ∷ absent ∷ pair 18 4 ∷ []) ∷ made 75 (num 8 ∷ num 1 ∷ pair 22 2 ∷ []) ∷ []
-unfolding lowering
-two-arms-rebuilt = refl
 
 -- the texts of an image from the n-th on
 abbrev pub textsFrom : ℕ → Option Image → List (List ℕ)
 textsFrom n none = []
 textsFrom n (some im) = map (textOf im) (drop n (upFrom 0 (sizeOf im Texts)))
-
-pub two-arms-temporaries : textsFrom 2 (lowered two-arms 0)
-    ≡ map ascii ("__ensure_ret_0" ∷ "__ensure_ret_0" ∷ "ret" ∷ "std" ∷ "res" ∷ "result_unwrap" ∷ "__ensure_ret_0"
-    ∷ "__ensure_ret_1" ∷ "__ensure_ret_1" ∷ "ret" ∷ "std" ∷ "res" ∷ "result_unwrap" ∷ "__ensure_ret_1" ∷ [])
-unfolding lowering
-two-arms-temporaries = refl
 
 -- the nodes and the list entries of an image from the n-th on
 abbrev pub nodesFrom : ℕ → Option Image → List Rec
@@ -284,30 +241,7 @@ requires-map =
     (clause 3 0 ∷ [])
     (function 0 (pair 0 0) (pair 0 1) (pair 0 0))
 
--- ---- refinements, then requires: `flow >= 1` is made right operand first and copied left first, and the body is kept
-
-pub flow-nodes : nodesFrom 7 (lowered flow 0)
-    ≡ made 17 (num 2 ∷ num 1 ∷ []) ∷ made 30 (num 2 ∷ num 3 ∷ []) ∷ made 32 (num 2 ∷ num 8 ∷ num 11 ∷ num 7 ∷ [])
-    ∷ made 25 (num 2 ∷ num 4 ∷ [])
-    ∷ made 30 (num 2 ∷ num 3 ∷ []) ∷ made 17 (num 2 ∷ num 1 ∷ []) ∷ made 32 (num 2 ∷ num 11 ∷ num 11 ∷ num 12 ∷ [])
-    ∷ made 33 (num 2 ∷ num 5 ∷ num 13 ∷ []) ∷ made 50 (num 2 ∷ num 10 ∷ []) ∷ made 41 (num 2 ∷ pair 3 3 ∷ pair 6 1 ∷ [])
-    ∷ made 30 (num 3 ∷ num 1 ∷ []) ∷ made 17 (num 3 ∷ num 4096 ∷ []) ∷ made 32 (num 3 ∷ num 17 ∷ num 8 ∷ num 18 ∷ [])
-    ∷ made 33 (num 2 ∷ num 5 ∷ num 19 ∷ []) ∷ made 50 (num 2 ∷ num 3 ∷ []) ∷ made 41 (num 2 ∷ pair 8 3 ∷ pair 11 1 ∷ []) ∷ []
-unfolding lowering
-flow-nodes = refl
-
-pub flow-texts : textsFrom 3 (lowered flow 0)
-    ≡ map ascii ("flow" ∷ "refinement failed: flow >= 1" ∷ "std" ∷ "res" ∷ "result_unwrap" ∷ "std" ∷ "res" ∷ "result_unwrap" ∷ [])
-unfolding lowering
-flow-texts = refl
-
--- two guards, and the return as it was
-pub flow-body : entriesFrom 13 (lowered flow 0) ≡ 3 ∷ 6 ∷ 0 ∷ []
-unfolding lowering
-flow-body = refl
-
--- ---- without contracts the image is unchanged
-
+-- without contracts
 abbrev pub no-contracts : Image
 no-contracts =
     image
@@ -318,12 +252,7 @@ no-contracts =
     []
     (function 1 (pair 0 1) (pair 0 0) (pair 0 0))
 
-pub unchanged : lowered no-contracts 0 ≡ some no-contracts
-unfolding lowering
-unchanged = refl
-
--- ---- one function of two: the other one stays, and this one keeps all but its body
-
+-- two functions, of which the second has a contract
 abbrev pub two-functions : Image
 two-functions =
     build
@@ -342,10 +271,58 @@ abbrev functionsIn : Option Image → List Rec
 functionsIn none = []
 functionsIn (some im) = recordsOf im Functions
 
-pub second-lowered : functionsIn (lowered two-functions 1)
-    ≡ function 0 (pair 0 0) (pair 0 0) (pair 0 0) ∷ function 1 (pair 1 1) (pair 0 1) (pair 0 0) ∷ []
+-- ---- what is made of them, in the part that tells
+
+pub record Lowerings : Type 0 where
+  -- the else branch, statement 2, is left alone; the branch is rebuilt with needs_scope false
+  pub else-left-alone : statementsFrom 4 (lowered else-conditional 0)
+      ≡ new 64 (num 2 ∷ num 0 ∷ num 0 ∷ num 0 ∷ []) ∷ new 64 (num 4 ∷ num 0 ∷ num 2 ∷ num 0 ∷ []) ∷ new 65 (num 6 ∷ [])
+      ∷ new 69 (num 4 ∷ pair 6 1 ∷ num 0 ∷ []) ∷ new 68 (num 7 ∷ num 65535 ∷ []) ∷ new 66 (num 7 ∷ [])
+      ∷ made 69 (num 6 ∷ num 0 ∷ pair 7 4 ∷ num 0 ∷ []) ∷ made 68 (num 8 ∷ num 10 ∷ num 2 ∷ []) ∷ []
+  -- both branches are rebuilt
+  pub else-rebuilt : statementsFrom 17 (lowered else-returns 0)
+      ≡ made 69 (num 7 ∷ num 65535 ∷ pair 16 4 ∷ num 0 ∷ []) ∷ made 68 (num 8 ∷ num 10 ∷ num 17 ∷ []) ∷ []
+  -- loops of each kind without a return: rebuilt, with their spans, texts, nodes and inner statement, and a list each; nothing else is new
+  pub rebuilt-loops : lowered (under-ensures
+      (made 77 (num 5 ∷ []) ∷ made 70 (num 6 ∷ num 0 ∷ pair 0 1 ∷ []) ∷ made 72 (num 7 ∷ num 0 ∷ num 0 ∷ num 1 ∷ pair 0 1 ∷ [])
+      ∷ made 73 (num 8 ∷ num 1 ∷ num 0 ∷ pair 0 1 ∷ []) ∷ made 74 (num 9 ∷ num 1 ∷ num 0 ∷ pair 0 0 ∷ []) ∷ [])
+      (0 ∷ 1 ∷ 2 ∷ 3 ∷ 4 ∷ []) (pair 1 4)) 0
+      ≡ some (under-ensures
+      (made 77 (num 5 ∷ []) ∷ made 70 (num 6 ∷ num 0 ∷ pair 0 1 ∷ []) ∷ made 72 (num 7 ∷ num 0 ∷ num 0 ∷ num 1 ∷ pair 0 1 ∷ [])
+      ∷ made 73 (num 8 ∷ num 1 ∷ num 0 ∷ pair 0 1 ∷ []) ∷ made 74 (num 9 ∷ num 1 ∷ num 0 ∷ pair 0 0 ∷ [])
+      ∷ made 70 (num 6 ∷ num 0 ∷ pair 5 1 ∷ []) ∷ made 72 (num 7 ∷ num 0 ∷ num 0 ∷ num 1 ∷ pair 6 1 ∷ [])
+      ∷ made 73 (num 8 ∷ num 1 ∷ num 0 ∷ pair 7 1 ∷ []) ∷ made 74 (num 9 ∷ num 1 ∷ num 0 ∷ pair 8 0 ∷ []) ∷ [])
+      (0 ∷ 1 ∷ 2 ∷ 3 ∷ 4 ∷ 0 ∷ 0 ∷ 0 ∷ 5 ∷ 6 ∷ 7 ∷ 8 ∷ []) (pair 8 4))
+  -- each arm is finished before the next, and has a temporary of its own
+  pub two-arms-kinds : kinds Statements (lowered two-arms 0)
+      ≡ 66 ∷ 76 ∷ 76 ∷ 75 ∷ 64 ∷ 64 ∷ 65 ∷ 69 ∷ 68 ∷ 66 ∷ 76 ∷ 64 ∷ 64 ∷ 65 ∷ 69 ∷ 68 ∷ 66 ∷ 76 ∷ 75 ∷ []
+  pub two-arms-rebuilt : statementsFrom 17 (lowered two-arms 0)
+      ≡ made 76 (num 7 ∷ num 65535 ∷ pair 18 4 ∷ []) ∷ made 75 (num 8 ∷ num 1 ∷ pair 22 2 ∷ []) ∷ []
+  pub two-arms-temporaries : textsFrom 2 (lowered two-arms 0)
+      ≡ map ascii ("__ensure_ret_0" ∷ "__ensure_ret_0" ∷ "ret" ∷ "std" ∷ "res" ∷ "result_unwrap" ∷ "__ensure_ret_0"
+      ∷ "__ensure_ret_1" ∷ "__ensure_ret_1" ∷ "ret" ∷ "std" ∷ "res" ∷ "result_unwrap" ∷ "__ensure_ret_1" ∷ [])
+  -- refinements, then requires: `flow >= 1` is made right operand first and copied left first
+  pub flow-nodes : nodesFrom 7 (lowered flow 0)
+      ≡ made 17 (num 2 ∷ num 1 ∷ []) ∷ made 30 (num 2 ∷ num 3 ∷ []) ∷ made 32 (num 2 ∷ num 8 ∷ num 11 ∷ num 7 ∷ [])
+      ∷ made 25 (num 2 ∷ num 4 ∷ [])
+      ∷ made 30 (num 2 ∷ num 3 ∷ []) ∷ made 17 (num 2 ∷ num 1 ∷ []) ∷ made 32 (num 2 ∷ num 11 ∷ num 11 ∷ num 12 ∷ [])
+      ∷ made 33 (num 2 ∷ num 5 ∷ num 13 ∷ []) ∷ made 50 (num 2 ∷ num 10 ∷ []) ∷ made 41 (num 2 ∷ pair 3 3 ∷ pair 6 1 ∷ [])
+      ∷ made 30 (num 3 ∷ num 1 ∷ []) ∷ made 17 (num 3 ∷ num 4096 ∷ []) ∷ made 32 (num 3 ∷ num 17 ∷ num 8 ∷ num 18 ∷ [])
+      ∷ made 33 (num 2 ∷ num 5 ∷ num 19 ∷ []) ∷ made 50 (num 2 ∷ num 3 ∷ []) ∷ made 41 (num 2 ∷ pair 8 3 ∷ pair 11 1 ∷ []) ∷ []
+  pub flow-texts : textsFrom 3 (lowered flow 0)
+      ≡ map ascii ("flow" ∷ "refinement failed: flow >= 1" ∷ "std" ∷ "res" ∷ "result_unwrap" ∷ "std" ∷ "res" ∷ "result_unwrap" ∷ [])
+  -- two guards, and the return as it was
+  pub flow-body : entriesFrom 13 (lowered flow 0) ≡ 3 ∷ 6 ∷ 0 ∷ []
+  -- without contracts the image is unchanged
+  pub unchanged : lowered no-contracts 0 ≡ some no-contracts
+  -- the other function stays, and this one keeps all but its body
+  pub second-lowered : functionsIn (lowered two-functions 1)
+      ≡ function 0 (pair 0 0) (pair 0 0) (pair 0 0) ∷ function 1 (pair 1 1) (pair 0 1) (pair 0 0) ∷ []
+
+-- THEOREM
+pub lowerings-so : Lowerings
 unfolding lowering
-second-lowered = refl
+lowerings-so = record { else-left-alone = refl; else-rebuilt = refl; rebuilt-loops = refl; two-arms-kinds = refl; two-arms-rebuilt = refl; two-arms-temporaries = refl; flow-nodes = refl; flow-texts = refl; flow-body = refl; unchanged = refl; second-lowered = refl }
 
 -- ---- what the reader and the runner make of them
 
@@ -354,28 +331,28 @@ unfolding answerOf readOf headerOf countsFrom countsOf bodyOf endOf sectionsFrom
 decoding = tt
 
 -- the reader's number for a lowered image, 14 where there is none
-abbrev readBy : Option Image → ℕ
+abbrev pub readBy : Option Image → ℕ
 readBy none = 14
 readBy (some im) = numberIn (answerOf (encode im) 8192)
 
-abbrev lowerable : List Image
+abbrev pub lowerable : List Image
 lowerable = requires-identifier ∷ returns-ok ∷ loop-and-last ∷ two-arms ∷ requires-map ∷ flow ∷ []
 
 -- they are accepted
-pub accepted : map (λ im. readBy (lowered im 0)) lowerable ≡ 0 ∷ 0 ∷ 0 ∷ 0 ∷ 0 ∷ 0 ∷ []
+pub lowerable-accepted : map (λ im. readBy (lowered im 0)) lowerable ≡ 0 ∷ 0 ∷ 0 ∷ 0 ∷ 0 ∷ 0 ∷ []
 unfolding lowering decoding
-accepted = refl
+lowerable-accepted = refl
 
 unfoldable pub running : Unit {0}
 unfolding clauseOf contractsOf sameText compareValues bang formBy callForm isResPath exprTree unaryValue binaryValue statementBy itemTree find update eval checks turns reading.stmt reading.body reading.branchOr reading.orElse top runFunction reading.reading mapExpr mapStmt mapBody mapBranch mapElse refinementChecks contractFunction
 running = tt
 
 -- the run of a function's body, and the reading of its contracts
-abbrev run : Option Image → List (Value (List ℕ)) → ℕ → Outcome (List ℕ) × ℕ
+abbrev pub run : Option Image → List (Value (List ℕ)) → ℕ → Outcome (List ℕ) × ℕ
 run none vs budget = (fault 0, 0)
 run (some im) vs budget = used budget (runFunction (λ t. t) (contractFunction im 0) vs budget)
 
-abbrev read : Image → List (Value (List ℕ)) → ℕ → Outcome (List ℕ) × ℕ
+abbrev pub read : Image → List (Value (List ℕ)) → ℕ → Outcome (List ℕ) × ℕ
 read im vs budget = used budget (reading.reading (λ t. t) (ascii "ret") (contractFunction im 0) vs budget)
 
 abbrev int : ℕ → Value (List ℕ)

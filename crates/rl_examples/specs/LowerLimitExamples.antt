@@ -15,7 +15,7 @@ use Rattle.rl_examples.specs.LowerExamples.{lowering}
 
 -- what is made at n records of a section, or n text bytes
 
-abbrev filled : ℕ → ℕ → ℕ → ℕ → ℕ → Context
+abbrev pub filled : ℕ → ℕ → ℕ → ℕ → ℕ → Context
 filled bytes texts lists expressions statements =
     record {
       image =
@@ -33,7 +33,7 @@ filled bytes texts lists expressions statements =
     }
 
 -- the number of what is made
-abbrev answered : {A : Type 0} → Option (A × Context) → Option A
+abbrev pub answered : {A : Type 0} → Option (A × Context) → Option A
 answered none = none
 answered (some r) = some (r .0)
 
@@ -56,7 +56,7 @@ unfolding lowering
 too-many = (refl, refl, refl, refl, refl)
 
 -- the sixth: 4,096 ResolvedIdentifiers of 15 bytes, a header of 23, and text bytes
-abbrev sized : ℕ → Image
+abbrev pub sized : ℕ → Image
 sized bytes =
     record {
       arena = 1;

@@ -1,4 +1,4 @@
--- The numbers of 01's table, one for each cause; and the words of an answer and of a value.
+-- The numbers of 01's table, one for each cause; the words of an answer and of a value; and what the other tables write rows with.
 -- Assumes nothing.
 use Prim.Native.Nat.{ℕ}
 use mathlib.Core.Path.{_≡_, refl}
@@ -13,6 +13,8 @@ use Rattle.rl_spec.specs.declared.Plain.the-variants.{Null, Const}
 use Rattle.rl_spec.specs.declared.Value.{Value}
 use Rattle.rl_spec.specs.declared.Value.the-variants.{Plain, Ok, Err}
 use Rattle.rl_spec.specs.Read.{numberOf, packed}
+use Rattle.rl_spec.specs.Tree.{ascii}
+use Rattle.rl_spec.specs.Ranges.{upFrom}
 use Rattle.rl_spec.specs.Words.{bits64}
 use Rattle.rl_spec.specs.Runner.{valueSort, valuePayload}
 
@@ -56,7 +58,7 @@ pub packed-so : packed (Refused BadText 300) ≡ 25769804076
 packed-so = refl
 
 -- values with their two words: the sort, 0 Null, 1 Int, 3 Str, 4 Bool, 8 more in an Ok, 16 more in an Err; and the payload
-abbrev values : List Value
+abbrev pub values : List Value
 values =
     Plain Null
     ∷ Plain (Const (Int (pos 5)))
@@ -73,3 +75,17 @@ sorts-so = refl
 
 pub payloads-so : map valuePayload values ≡ 0 ∷ 5 ∷ 18446744073709551615 ∷ 7 ∷ 1 ∷ 0 ∷ 0 ∷ 5 ∷ 7 ∷ []
 payloads-so = refl
+
+-- ---- what rows are written with: the bytes of a text, two's complement, and numbers in a row
+
+pub ascii-so : ascii "az AZ __ 09 >=<!: (i)" ≡ 97 ∷ 122 ∷ 32 ∷ 65 ∷ 90 ∷ 32 ∷ 95 ∷ 95 ∷ 32 ∷ 48 ∷ 57 ∷ 32 ∷ 62 ∷ 61 ∷ 60 ∷ 33 ∷ 58 ∷ 32 ∷ 40 ∷ 105 ∷ 41 ∷ []
+unfolding ascii
+ascii-so = refl
+
+pub bits-so : map bits64 (pos 0 ∷ pos 9223372036854775807 ∷ negsuc 0 ∷ negsuc 9223372036854775807 ∷ [])
+    ≡ 0 ∷ 9223372036854775807 ∷ 18446744073709551615 ∷ 9223372036854775808 ∷ []
+bits-so = refl
+
+pub row-so : upFrom 3 4 ≡ 3 ∷ 4 ∷ 5 ∷ 6 ∷ []
+unfolding upFrom
+row-so = refl

@@ -1,15 +1,23 @@
--- Operators and literals, by computation: what each operator byte makes of two literals of any two sorts, and of one literal; and what
--- each kind of literal is.
+-- Operators and literals, by computation: what each operator byte from 1 to 12 makes of two literals of any two sorts, and of one literal;
+-- that the others, 13 to 63, make nothing of literals of which some of the twelve make something; and what each kind of literal is.
 -- Assumes nothing.
 use mathlib.Core.Path.{_≡_, refl}
 use mathlib.Core.Bool.{true, false}
-use mathlib.Core.List.{List, [], _∷_, map}
+use mathlib.Core.List.{List, [], _∷_, _++_, map}
 use mathlib.Core.Option.{none}
 use lib.IntN.{pos, negsuc}
 use Rattle.rl_spec.specs.Image.{num, pair}
+use Rattle.rl_spec.specs.Ranges.{upFrom}
 use Rattle.rl_spec.specs.Run.{update}
 use Rattle.rl_examples.specs.MarkedImages.{made, string, bool, float, binary, unary, grouping}
 use Rattle.rl_examples.specs.NodeRows.{whole, aFloat, aNan, text, truth, null, gives, faults, another, Row, binaries, unaries, node, actual, expected, literal, number, negative, int, minus, bits, yes, no, folds, lacks, less, same, greater, alike, unlike, incomparable, noArithmetic, folding, evaluating}
+
+-- the operator bytes 13 to 63 have no value: of two numbers, of one, of a truth value
+abbrev pub otherTokens : List Row
+otherTokens =
+    map (λ op. node (number 1 ∷ number 2 ∷ binary 0 op 1 ∷ []) none (faults 4) 4) (upFrom 13 51)
+    ++ map (λ op. node (number 7 ∷ unary op 0 ∷ []) none (faults 4) 3) (upFrom 13 51)
+    ++ map (λ op. node (bool 1 ∷ unary op 0 ∷ []) none (faults 4) 3) (upFrom 13 51)
 
 unfoldable pub rows : List Row
 rows =
@@ -141,16 +149,12 @@ rows =
     ∷ node (number 7 ∷ made 49 (num 2 ∷ num 0 ∷ []) ∷ []) none another 3
     ∷ node (number 7 ∷ made 48 (num 2 ∷ num 0 ∷ []) ∷ []) none (faults 1) 2
     ∷ node (number 7 ∷ made 46 (num 2 ∷ num 0 ∷ num 0 ∷ []) ∷ []) none (faults 1) 2
-    -- the operators 13 and 63
-    ∷ node (number 1 ∷ number 2 ∷ binary 0 13 1 ∷ []) none (faults 4) 4
-    ∷ node (number 1 ∷ number 2 ∷ binary 0 63 1 ∷ []) none (faults 4) 4
-    ∷ node (number 7 ∷ unary 63 0 ∷ []) none (faults 4) 3
     -- an operand that does not fold: left, right, of `-`. A Grouping
     ∷ node (literal 21 5 ∷ number 1 ∷ binary 0 1 1 ∷ []) none (faults 1) 3
     ∷ node (literal 21 5 ∷ number 1 ∷ binary 1 1 0 ∷ []) none (faults 1) 4
     ∷ node (literal 21 5 ∷ unary 2 0 ∷ []) none (faults 1) 3
     ∷ node (number 7 ∷ grouping 0 ∷ []) (int 7) (gives (whole (pos 7))) 3
-    ∷ []
+    ∷ otherTokens
 
 -- THEOREM: they are folded and run so
 pub operators-so : map actual rows ≡ map expected rows

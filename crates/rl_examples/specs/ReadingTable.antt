@@ -49,7 +49,7 @@ abbrev above : Rec
 above = made 80 (num x ∷ num 0 ∷ num 1 ∷ num 4 ∷ num y ∷ [])
 
 -- checks that hold
-abbrev held : List Row
+abbrev pub held : List Row
 held =
     entry 0 [] [] [] [] returnedNull 0
     ∷ entry 0 (parameter x ∷ []) [] (int 0 ∷ []) [] returnedNull 0
@@ -290,12 +290,19 @@ abbrev goesOn : {T A : Type 0} → Result T A → Bool
 goesOn (got a env n) = true
 goesOn (ended o n) = false
 
-abbrev pub passes : Row → ℕ → Bool
-passes r b =
+abbrev pub enters : Row → ℕ → Bool
+enters r b =
     goesOn
     (entering (λ t. t) (contractFunction (r .image) (r .function)) (map (mapValue (textOf (r .image))) (r .values)) [] b)
 
-pub enters-so : map (λ r. map (passes r) (r .budgets)) (held ++ notBool ++ failed)
-    ≡ map (λ r. map (λ b. not (ltb b (r .steps))) (r .budgets)) held ++ map (λ r. map (λ b. false) (r .budgets)) (notBool ++ failed)
+-- the budget is the row's steps or more
+abbrev pub fromStepsOn : Row → ℕ → Bool
+fromStepsOn r b = not (ltb b (r .steps))
+
+abbrev pub notHeld : List Row
+notHeld = notBool ++ failed
+
+pub enters-so : map (λ r. map (enters r) (r .budgets)) (held ++ notHeld)
+    ≡ map (λ r. map (fromStepsOn r) (r .budgets)) held ++ map (λ r. map (λ b. false) (r .budgets)) notHeld
 unfolding readings
 enters-so = refl

@@ -133,7 +133,8 @@ fn head_of(form: Form, classes: &[u16], names: &[u64], count: u16, n: u16) -> He
     }
 }
 
-// Folds the n-th expression under the first `count` names. The promise is about a memory that is right for these names.
+// Folds the n-th expression under the first `count` names. The promise is about a memory that is right for these names: it is so then too,
+// and what else it holds is left open.
 pub fn const_eval(
     image: &[u8],
     starts: &[u16],

@@ -1,6 +1,7 @@
--- ---- tests and ranges
+-- ---- tests, ranges, an index or none
 pub mod Tests
 pub mod Within
+pub mod Optionals
 -- ---- records that are found, the trees of an image and their heights
 pub mod Found
 pub mod Descend

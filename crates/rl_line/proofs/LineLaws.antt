@@ -8,14 +8,13 @@ use Rattle.rl_spec.specs.declared.Cause.{Cause}
 use Rattle.rl_spec.specs.declared.Counts.{Counts}
 use Rattle.rl_spec.specs.declared.Violation.{Violation}
 use Rattle.rl_spec.specs.Read.{numberOf}
-use mathlib.Core.Option.{Option·map}
-use Rattle.rl_spec.specs.Image.{Image, textOf}
+use Rattle.rl_spec.specs.Image.{Image}
 use Rattle.rl_spec.specs.Found.{imageFound}
 use Rattle.rl_spec.specs.Tree.{ascii}
-use Rattle.rl_spec.specs.Message.{decimal, opening, defaultText, ownText, orDefault, messageBy}
+use Rattle.rl_spec.specs.Message.{decimal, opening, defaultText, messageWith, messageBy}
+use Rattle.rl_spec.specs.Printed.{refusedLine, lineWith, lineOf}
 use Rattle.rl_text_out.specs.Put.{withText, afterText}
 use Rattle.rl_text_out.proofs.Joined.{after-after, with-with, room-holds}
-use Rattle.rl_line.specs.Line.{refusedLine, lineWith, lineOf}
 
 -- ---- a text after another
 
@@ -61,12 +60,12 @@ module _ (im : Image) (f : ℕ) (v : Violation) where
   default = defaultText im f v
 
   message-is : (room u d m : List ℕ) (n : ℕ) → length default ≤ length room → Puts room 0 default u n → d ≡ take n (drop 0 u)
-      → m ≡ orDefault (Option·map (textOf im) (ownText im f v)) d → m ≡ messageBy im f v
+      → m ≡ messageWith im f v d → m ≡ messageBy im f v
   unfolding messageBy
-  message-is room u d m n h a e g = g ∙ ap (orDefault (Option·map (textOf im) (ownText im f v))) (e ∙ room-holds room default u n h (a .0) (a .1))
+  message-is room u d m n h a e g = g ∙ ap (messageWith im f v) (e ∙ room-holds room default u n h (a .0) (a .1))
 
   line-is : (room u d m : List ℕ) (call span n : ℕ) → length default ≤ length room → Puts room 0 default u n → d ≡ take n (drop 0 u)
-      → m ≡ orDefault (Option·map (textOf im) (ownText im f v)) d → lineWith call span m ≡ lineOf im f call span v
+      → m ≡ messageWith im f v d → lineWith call span m ≡ lineOf im f call span v
   unfolding lineOf
   line-is room u d m call span n h a e g = ap (lineWith call span) (message-is room u d m n h a e g)
 
@@ -81,7 +80,7 @@ module _ (s : List ℕ) (c : Counts) (p : List ℕ) (f : ℕ) (v : Violation) (c
   abbrev HasRoom : Type 0
   HasRoom = length (defaultText im f v) ≤ length room
 
-  pub puts-report : PutsDefault → d ≡ take n (drop 0 u) → m ≡ orDefault (Option·map (textOf im) (ownText im f v)) d → Puts out 0 (lineWith call span m) w r
+  pub puts-report : PutsDefault → d ≡ take n (drop 0 u) → m ≡ messageWith im f v d → Puts out 0 (lineWith call span m) w r
       → (HasRoom → r ≡ afterText out 0 (lineOf im f call span v))
       × ((HasRoom → w ≡ withText out 0 (lineOf im f call span v)) × (u ≡ withText room 0 (defaultText im f v)))
   puts-report a e g k = (λ h. k .0 ∙ ap (afterText out 0) (line h), (λ h. k .1 ∙ ap (withText out 0) (line h), a .1 p))

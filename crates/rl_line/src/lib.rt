@@ -13,8 +13,8 @@ ghost use Prim.Native.Nat.{_≤_};
 ghost use lib.ListN.{length};
 ghost use Rattle.rl_spec.specs.Found.{imageFound};
 ghost use Rattle.rl_spec.specs.Message.{defaultText};
+ghost use Rattle.rl_spec.specs.Printed.{refusedLine, lineWith, lineOf};
 ghost use Rattle.rl_text_out.specs.Put.{afterText, withText};
-ghost use Rattle.rl_line.specs.Line.{refusedLine, lineWith, lineOf};
 
 // refused N at P
 pub fn refused_line(cause: Cause, place: usize, out: &mut [u8]) -> usize

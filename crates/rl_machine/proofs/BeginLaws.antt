@@ -7,6 +7,8 @@ use mathlib.Core.List.{List}
 use native.Mathlib.Omega.{arith}
 use Rattle.rl_spec.specs.declared.Counts.{Counts}
 use Rattle.rl_spec.specs.declared.Interval.{Interval}
+use Rattle.rl_spec.specs.declared.Optional.{Optional}
+use Rattle.rl_spec.specs.declared.Optional.the-variants.{None, Some}
 use Rattle.rl_spec.specs.declared.Outcome.{Outcome}
 use Rattle.rl_spec.specs.declared.Outcome.the-variants.{Returned, Fault}
 use Rattle.rl_spec.specs.declared.Plain.the-variants.{Null}
@@ -18,7 +20,7 @@ use Rattle.rl_spec.specs.Found.{imageFound}
 use Rattle.rl_spec.specs.Run as run
 use Rattle.rl_spec.specs.Run.{eval, bind}
 use Rattle.rl_spec.specs.Reading.{stmt}
-use Rattle.rl_spec.specs.Tree.{below, exprTree}
+use Rattle.rl_spec.specs.Tree.{below, exprTree, optionalTree}
 use Rattle.rl_spec.specs.Statement.{Stmt, declaration, return, returnAlone, break, continue, otherStatement, aStatement, asStatement, statementOf, itemBy, itemTree}
 use Rattle.rl_laws.specs.Tests.{by-ltb}
 use Rattle.rl_laws.specs.Descend.{item-is, under-earlier, under-later, below-earlier, below-later}
@@ -28,7 +30,7 @@ use Rattle.rl_machine.specs.declared.types.Flow.the-variants.{Onward, Br
 use Rattle.rl_machine.specs.declared.types.Frame.the-variants.{Test, Declare, Discard, Return}
 use Rattle.rl_machine.specs.declared.types.State.{State}
 use Rattle.rl_machine.specs.declared.types.State.the-variants.{Next, Tested, Compound, Push, Ends}
-use Rattle.rl_machine.specs.Machine.{treeUnder, itemUnder, asReturn, lastAs, begunRun, compound, guarded, conditionIf, Low, Room, Means, Begins, Follows, weight}
+use Rattle.rl_machine.specs.Machine.{treeUnder, itemUnder, asReturn, lastAs, begunRun, compound, guarded, Low, Room, Means, Begins, Follows, weight}
 use Rattle.rl_machine.proofs.Results.{then-then, through}
 
 under-low : (im : Image) (n : ℕ) → Low im → exprHeight (treeUnder im 65536 n) ≤ 68
@@ -37,19 +39,19 @@ under-low im n low = by-ltb n 65536 (λ h. rw (below-earlier im 65536 n h) (low 
 
 -- ---- a list
 
-abbrev pub First : Bool → ℕ → State → Type 0
-First conditional n r =
-    ((im : Image) → Means im r (λ base rest k. guarded im (conditionIf im conditional n) rest)) × ((im : Image) (bound : ℕ) → Low im → Room im bound 0 r)
+abbrev pub First : Optional → State → Type 0
+First c r =
+    ((im : Image) → Means im r (λ base rest k. guarded im (optionalTree im c) rest)) × ((im : Image) (bound : ℕ) → Low im → Room im bound 0 r)
 
-module _ (b : Bool) (n : ℕ) where
-  pub first-condition : n < 65536 → (r : State) → b ≡ true → r ≡ Push Test n 65536 → First b n r
-  first-condition h r e f =
+module _ (c : Optional) where
+  pub first-condition : (n : ℕ) → n < 65536 → (r : State) → c ≡ Some n → r ≡ Push Test n 65536 → First c r
+  first-condition n h r e f =
       rw (e, f) (
         λ im base rest k env m. rw (below-earlier im 65536 n h) (sym (then-then (eval (textOf im) (exprTree im n) env m) _ _)),
         λ im b low. (omega (arith, under-low im n low), tt),
       )
 
-  pub first-plain : b ≡ false → First b n (Tested true)
+  pub first-plain : c ≡ None → First c (Tested true)
   first-plain e = rw e (λ im base rest k env m. refl, λ im b low. tt)
 
 -- ---- after a statement
@@ -109,7 +111,7 @@ module _ (x : StatementForm) (s : ℕ) (last : Bool) where
   unfolding stmt
   begin-continue e = (λ im g base rest k env n. rw (as-made im form.Continue continue g e refl refl) refl, λ im b below low. tt)
 
-  pub begin-conditional : (branch orElse : ℕ) → x ≡ form.Conditional branch orElse → Begun (Compound s)
+  pub begin-conditional : (branch : ℕ) (orElse : Optional) → x ≡ form.Conditional branch orElse → Begun (Compound s)
   begin-conditional branch orElse e = (λ im g. holds im s last _ (made im s (form.Conditional branch orElse) (g ∙ e)) refl refl, λ im b below low. below)
 
   pub begin-while : (n : ℕ) (list : Interval) → x ≡ form.While n list → Begun (Compound s)
@@ -119,7 +121,7 @@ module _ (x : StatementForm) (s : ℕ) (last : Bool) where
   begin-loop list e = (λ im g. holds im s last _ (made im s (form.Loop list) (g ∙ e)) refl refl, λ im b below low. below)
 
   module _ (r : State) where
-    pub begin-branch : (n : ℕ) (list : Interval) → x ≡ form.Branch n list → r ≡ Ends (Over (Fault 1)) → Begun r
+    pub begin-branch : (n : Optional) (list : Interval) → x ≡ form.Branch n list → r ≡ Ends (Over (Fault 1)) → Begun r
     unfolding stmt
     begin-branch n list e f = rw f (λ im g base rest k env m. rw (as-made im (form.Branch n list) otherStatement g e refl refl) refl, λ im b below low. tt)
 

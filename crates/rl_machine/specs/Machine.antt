@@ -2,7 +2,7 @@
 use Prim.Native.Nat.{ℕ, suc, _+_, _<_, _≤_}
 use mathlib.Core.Path.{_≡_}
 use mathlib.Core.Bool.{Bool, true, false}
-use mathlib.Core.Option.{Option, none, some}
+use mathlib.Core.Option.{Option}
 use lib.ListN.{length}
 use Rattle.rl_spec.specs.declared.Outcome.{Outcome}
 use Rattle.rl_spec.specs.declared.Outcome.the-variants as outcome
@@ -104,11 +104,6 @@ module _ (im : Image) where
   -- a body in a scope, where its condition holds
   abbrev pub guarded : Option (Expr ℕ) → Body ℕ → Run ℕ Flow
   guarded c b = taken (textOf im) c >>= λ t. tested t (λ env n. leaving (length env) (bodyRun b env n))
-
-  -- a condition, or none
-  abbrev pub conditionIf : Bool → ℕ → Option (Expr ℕ)
-  conditionIf true n = some (exprTree im n)
-  conditionIf false n = none
 
   -- base is how many bindings stay when the list ends, rest has the statements that are left
   module _ (base : ℕ) (rest : Body ℕ) where

@@ -5,6 +5,7 @@ use crate::types::Frame;
 use crate::types::State;
 use rl_records::statement_at;
 use rl_spec::Counts;
+use rl_spec::Optional;
 use rl_spec::Outcome;
 use rl_spec::Plain;
 use rl_spec::StatementForm;
@@ -12,9 +13,10 @@ use rl_spec::Value;
 ghost use mathlib.Core.Path.{_≡_};
 ghost use Prim.Native.Nat.{ℕ, _<_, _≤_};
 ghost use Rattle.rl_spec.specs.Image.{Image};
+ghost use Rattle.rl_spec.specs.Tree.{optionalTree};
 ghost use Rattle.rl_spec.specs.Statement.{asStatement, itemTree, statementOf};
 ghost use Rattle.rl_spec.specs.Found.{imageFound};
-ghost use Rattle.rl_machine.specs.Machine.{Means, Room, Low, lastAs, itemUnder, conditionIf, guarded, Begins, Follows, weight};
+ghost use Rattle.rl_machine.specs.Machine.{Means, Room, Low, lastAs, itemUnder, guarded, Begins, Follows, weight};
 
 // An expression of a statement.
 fn evaluate(frame: Frame, node: u16) -> State
@@ -28,14 +30,14 @@ fn evaluate(frame: Frame, node: u16) -> State
 }
 
 // A list begins with its condition, or with its first statement.
-pub fn condition_first(conditional: bool, node: u16) -> State
-    ensures { λ r. ⌜ ((im : Image) → Means im r (λ base rest k. guarded im (conditionIf im conditional node) rest)) ⌝ }
+pub fn condition_first(condition: Optional) -> State
+    ensures { λ r. ⌜ ((im : Image) → Means im r (λ base rest k. guarded im (optionalTree im condition) rest)) ⌝ }
     ensures { λ r. ⌜ ((im : Image) (bound : ℕ) → Low im → Room im bound 0 r) ⌝ }
 {
-    if conditional {
-        return evaluate(Frame::Test, node);
+    match condition {
+        Optional::Some(node) => evaluate(Frame::Test, node),
+        Optional::None => State::Tested(true),
     }
-    State::Tested(true)
 }
 
 // What the statement s of a form begins with, once its step is charged. The last bare expression of a body gives the value.

@@ -3,15 +3,16 @@
 use Prim.Native.Nat.{ℕ, _+_}
 use mathlib.Core.Path.{_≡_, refl, ap, _∙_}
 use mathlib.Core.List.{List, [], _∷_}
-use mathlib.Core.Option.{Option, none, some, Option·map}
+use mathlib.Core.Option.{Option, none, some}
 use types.Run.{OneOf, miss}
 use denote.Enum.Declared.{tagOf}
-use borrow.Author.Tests.{ne-eqb}
 use Rattle.rl_spec.specs.declared.ConstVal.{ConstVal}
 use Rattle.rl_spec.specs.declared.ConstVal.the-variants as kind
 use Rattle.rl_spec.proofs.ConstVal as const-val
 use Rattle.rl_spec.specs.declared.Counts.{Counts}
 use Rattle.rl_spec.specs.declared.Clause.{Clause}
+use Rattle.rl_spec.specs.declared.Optional.{Optional}
+use Rattle.rl_spec.specs.declared.Optional.the-variants.{None, Some}
 use Rattle.rl_spec.specs.declared.Folded.{Folded}
 use Rattle.rl_spec.specs.declared.Folded.the-variants.{Value, Nothing}
 use Rattle.rl_spec.specs.declared.Form.{Form}
@@ -21,14 +22,11 @@ use Rattle.rl_spec.specs.declared.Function.{Function}
 use Rattle.rl_spec.specs.declared.Violation.{Violation}
 use Rattle.rl_spec.specs.declared.Violation.the-variants.{Refinement, Requires}
 use Rattle.rl_spec.specs.Image.{Image, textOf}
-use Rattle.rl_spec.specs.Tree.{Expr, treeBy, formOf}
+use Rattle.rl_spec.specs.Tree.{Expr, treeBy, formOf, optionalTree}
 use Rattle.rl_spec.specs.Records.{clauseAt, functionAt}
-use Rattle.rl_spec.specs.Contracts.{messageNode, clauseOf}
 use Rattle.rl_spec.specs.Found.{imageFound}
-use Rattle.rl_spec.specs.Message.{stringIn, ownString, ownText, orDefault}
+use Rattle.rl_spec.specs.Message.{stringIn, ownString, clauseMessage, messageWith}
 use Rattle.rl_laws.specs.Descend.{tree-is}
-use Rattle.rl_message.specs.declared.OwnText.{OwnText}
-use Rattle.rl_message.specs.declared.OwnText.the-variants.{Text, Default}
 use Rattle.rl_message.specs.Own.{textOption}
 
 -- ---- the text of a String
@@ -67,32 +65,32 @@ module _ (f : Form) (v : Folded) (e : f ≡ form.Literal v) where
 
 -- ---- the text of a message's node
 
-module _ (im : Image) (n : ℕ) where
-  pub no-message : n ≡ 65535 → none ≡ ownString (messageNode im n)
+module _ (im : Image) (m : Optional) where
+  pub no-message : m ≡ None → none ≡ ownString (optionalTree im m)
   no-message e = rw e refl
 
-  pub a-message : (n ≡ 65535 → ⊥) → (f : Form) (r : Option ℕ) → f ≡ formOf im n → StringOf f r → r ≡ ownString (messageNode im n)
-  a-message h f r e g = rw (ne-eqb n 65535 h, tree-is im n, ← e) (g im _)
+  pub a-message : (n : ℕ) → m ≡ Some n → (f : Form) (r : Option ℕ) → f ≡ formOf im n → StringOf f r → r ≡ ownString (optionalTree im m)
+  a-message n h f r e g = rw (h, tree-is im n, ← e) (g im _)
 
--- ---- the text of a violation
+-- ---- the text of a clause
+
+module _ (s : List ℕ) (c : Counts) (p d : List ℕ) (clause : Clause) (own : Optional)
+    (e : textOption own ≡ ownString (optionalTree (imageFound s p c) (clause .message))) where
+  pub by-own : (t : ℕ) (r : List ℕ) → own ≡ Some t → ((q : List ℕ) → r ≡ textOf (imageFound s q c) t) → r ≡ clauseMessage (imageFound s p c) clause d
+  by-own t r h g = rw (← e, h) (g p)
+
+  pub by-default : own ≡ None → d ≡ clauseMessage (imageFound s p c) clause d
+  by-default h = rw (← e, h) refl
+
+-- ---- the message of a violation
 
 module _ (s : List ℕ) (c : Counts) (f : ℕ) where
   pub clause-is : (n : ℕ) (g : Function) (k : Clause) → ((p : List ℕ) → g ≡ functionAt (imageFound s p c) f) → ((p : List ℕ) → k ≡ clauseAt (imageFound s p c) (g .required .first + n)) → (p : List ℕ) → k ≡ clauseAt (imageFound s p c) (functionAt (imageFound s p c) f .required .first + n)
   clause-is n g k e h p = h p ∙ ap (λ (x : Function). clauseAt (imageFound s p c) (x .required .first + n)) (e p)
 
-  module _ (p : List ℕ) (v : Violation) where
-    pub by-refinement : (n : ℕ) → v ≡ Refinement n → none ≡ ownText (imageFound s p c) f v
+  module _ (p d : List ℕ) (v : Violation) where
+    pub by-refinement : (n : ℕ) → v ≡ Refinement n → d ≡ messageWith (imageFound s p c) f v d
     by-refinement n e = rw e refl
 
-    pub by-requires : (n : ℕ) (k : Clause) (r : Option ℕ) → v ≡ Requires n → ((q : List ℕ) → k ≡ clauseAt (imageFound s q c) (functionAt (imageFound s q c) f .required .first + n)) → r ≡ ownString (messageNode (imageFound s p c) (k .message)) → r ≡ ownText (imageFound s p c) f v
-    unfolding clauseOf
+    pub by-requires : (n : ℕ) (k : Clause) (r : List ℕ) → v ≡ Requires n → ((q : List ℕ) → k ≡ clauseAt (imageFound s q c) (functionAt (imageFound s q c) f .required .first + n)) → r ≡ clauseMessage (imageFound s p c) k d → r ≡ messageWith (imageFound s p c) f v d
     by-requires n k r e g h = rw (e, ← g p) h
-
--- ---- the message
-
-module _ (s : List ℕ) (c : Counts) (p d : List ℕ) (o : Option ℕ) (own : OwnText) (e : textOption own ≡ o) where
-  pub by-own : (t : ℕ) (r : List ℕ) → own ≡ Text t → ((q : List ℕ) → r ≡ textOf (imageFound s q c) t) → r ≡ orDefault (Option·map (textOf (imageFound s p c)) o) d
-  by-own t r h g = rw (← e, h) (g p)
-
-  pub by-default : own ≡ Default → d ≡ orDefault (Option·map (textOf (imageFound s p c)) o) d
-  by-default h = rw (← e, h) refl

@@ -1,9 +1,9 @@
--- A clause's own text, by its index. Assumes nothing.
+-- A text by its index, or none. Assumes nothing.
 use Prim.Native.Nat.{ℕ}
 use mathlib.Core.Option.{Option, none, some}
-use Rattle.rl_message.specs.declared.OwnText.{OwnText}
-use Rattle.rl_message.specs.declared.OwnText.the-variants.{Text, Default}
+use Rattle.rl_spec.specs.declared.Optional.{Optional}
+use Rattle.rl_spec.specs.declared.Optional.the-variants.{None, Some}
 
-abbrev pub textOption : OwnText → Option ℕ
-textOption (Text t) = some t
-textOption Default = none
+abbrev pub textOption : Optional → Option ℕ
+textOption None = none
+textOption (Some t) = some t

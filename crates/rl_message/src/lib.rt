@@ -4,9 +4,3 @@ mod own;
 
 pub use defaults::default_text;
 pub use own::message;
-
-// A text of the image by its index, or the default.
-enum OwnText {
-    Text(u16),
-    Default,
-}

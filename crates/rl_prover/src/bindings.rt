@@ -53,7 +53,8 @@ pub fn smaller(a: u16, b: u16) -> u16
     if a < b { a } else { b }
 }
 
-// Folds each argument under the names bound so far, and binds its parameter.
+// Folds each argument under the names bound so far, and binds its parameter. The memory is scratch: it stays right for the names, and what
+// else it holds then is left open.
 pub fn bind_arguments(
     image: &[u8],
     starts: &[u16],

@@ -137,7 +137,8 @@ fn fails_clause(
     ))
 }
 
-// Reports the refinements that arguments fail, each argument folded under all names.
+// Reports the refinements that arguments fail, each argument folded under all names. The memory is scratch: it stays right for them, and what
+// else it holds then is left open.
 pub fn report_refinements(
     image: &[u8],
     starts: &[u16],
@@ -181,7 +182,7 @@ pub fn report_refinements(
     at
 }
 
-// Reports the requires that are false under all names.
+// Reports the requires that are false under all names. The memory is scratch here too.
 pub fn report_requires(
     image: &[u8],
     starts: &[u16],

@@ -20,11 +20,13 @@ use Rattle.rl_spec.specs.declared.RefineOperand.the-variants.{Integer, Str, Boo
 use Rattle.rl_spec.specs.declared.ParamRefinement.{ParamRefinement}
 use Rattle.rl_spec.specs.declared.ParamRefinement.the-variants.{Unrefined, Refined}
 use Rattle.rl_spec.specs.declared.Interval.{Interval}
+use Rattle.rl_spec.specs.declared.Optional.{Optional}
+use Rattle.rl_spec.specs.declared.Optional.the-variants.{Some}
 use Rattle.rl_spec.specs.Bytes.{numAt, u16At, u32At}
 use Rattle.rl_spec.specs.Schema.{sortOf, schema, fieldsIn, fieldsOf}
-use Rattle.rl_spec.specs.Image.{pair, fieldsAt}
+use Rattle.rl_spec.specs.Image.{num, pair, fieldsAt}
 use Rattle.rl_spec.specs.Tree.{signed}
-use Rattle.rl_spec.specs.Ranges.{interval}
+use Rattle.rl_spec.specs.Ranges.{interval, optional}
 use Rattle.rl_spec.specs.Records.{refineOp, refineOperand, refinementBy, paramAt, clauseAt, functionAt, callAt}
 use Rattle.rl_spec.specs.Found.{callsAt, functionsAt, clausesAt, parametersAt, recordAs, recordFound, imageFound}
 use Rattle.rl_laws.specs.Found.{record-found, record-missing}
@@ -78,7 +80,7 @@ module _ (s : List ℕ) (c : Counts) (i : ℕ) where
   unfolding paramAt
   param-none h p = rw (record-missing s p c Parameters i h) refl
 
-  pub clause-none : c .clauses ≤ i → (p : List ℕ) → record { condition = 0; message = 0 } ≡ clauseAt (imageFound s p c) i
+  pub clause-none : c .clauses ≤ i → (p : List ℕ) → record { condition = 0; message = Some 0 } ≡ clauseAt (imageFound s p c) i
   unfolding clauseAt
   clause-none h p = rw (record-missing s p c Clauses i h) refl
 
@@ -91,7 +93,7 @@ module _ (s : List ℕ) (c : Counts) (i : ℕ) where
     unfolding paramAt recordFound recordAs fieldsAt fieldsOf fieldsIn schema sortOf
     param-is h b name op sort x r e f g k l p = rw (record-found s p c Parameters i h, ← b, l, k, g, f, e) (simp (one, two))
 
-    pub clause-is : i < c .clauses → at ≡ clausesAt s c → (condition message : ℕ) → condition ≡ u16At s (at + i * 5 + 1) → message ≡ u16At s (at + i * 5 + 1 + 2) → (p : List ℕ) → record { condition = condition; message = message } ≡ clauseAt (imageFound s p c) i
+    pub clause-is : i < c .clauses → at ≡ clausesAt s c → (condition : ℕ) (message : Optional) → condition ≡ u16At s (at + i * 5 + 1) → message ≡ optional (num (u16At s (at + i * 5 + 1 + 2))) → (p : List ℕ) → record { condition = condition; message = message } ≡ clauseAt (imageFound s p c) i
     unfolding clauseAt recordFound recordAs fieldsAt fieldsOf fieldsIn schema sortOf
     clause-is h b condition message e f p = rw (record-found s p c Clauses i h, ← b, f, e) (simp two)
 

@@ -7,14 +7,15 @@ use lib.ListN.{getD}
 use borrow.Author.Tests.{ne-eqb}
 use Rattle.rl_spec.specs.declared.Counts.{Counts}
 use Rattle.rl_spec.specs.declared.Interval.{Interval}
+use Rattle.rl_spec.specs.declared.Optional.{Optional}
 use Rattle.rl_spec.specs.declared.Section.the-variants.{Statements}
 use Rattle.rl_spec.specs.declared.StatementForm.{StatementForm}
 use Rattle.rl_spec.specs.declared.StatementForm.the-variants.{Declaration, Expression, Return, ReturnAlone, Conditional, Branch, While, Loop, Break, Continue, Other}
 use Rattle.rl_spec.specs.Bytes.{u16At}
 use Rattle.rl_spec.specs.Schema.{sortOf, schema, fieldsIn, fieldsOf}
-use Rattle.rl_spec.specs.Image.{pair, fieldsAt}
+use Rattle.rl_spec.specs.Image.{num, pair, fieldsAt}
 use Rattle.rl_spec.specs.Statement.{statementBy, statementOf}
-use Rattle.rl_spec.specs.Ranges.{interval}
+use Rattle.rl_spec.specs.Ranges.{interval, optional}
 use Rattle.rl_spec.specs.Found.{recordAs, recordFound, imageFound}
 use Rattle.rl_laws.specs.Found.{record-found, record-missing}
 use Rattle.rl_bytes.proofs.Laws.{two}
@@ -62,18 +63,19 @@ module _ (s : List ℕ) where
         unfolding statementBy recordAs fieldsAt fieldsOf fieldsIn schema sortOf
         form-declaration q g = rw (← e, q, ← two s at, ← two s (at + 2 + 4), ← f, ← g) refl
 
-        pub form-conditional : k ≡ 68 → y ≡ u16At s (at + 2) → Conditional x y ≡ form
+      module _ (o : Optional) where
+        pub form-conditional : k ≡ 68 → o ≡ optional (num (u16At s (at + 2))) → Conditional x o ≡ form
         unfolding statementBy recordAs fieldsAt fieldsOf fieldsIn schema sortOf
-        form-conditional q g = rw (← e, q, ← two s at, ← two s (at + 2), ← f, ← g) refl
+        form-conditional q g = rw (← e, q, ← two s at, ← two s (at + 2), ← f, g) refl
 
       module _ (list : Interval) (g : list ≡ listAt (at + 2)) where
-        pub form-branch : k ≡ 69 → Branch x list ≡ form
-        unfolding statementBy recordAs fieldsAt fieldsOf fieldsIn schema sortOf
-        form-branch q = rw (← e, q, ← two s at, ← f, g) refl
-
         pub form-while : k ≡ 70 → While x list ≡ form
         unfolding statementBy recordAs fieldsAt fieldsOf fieldsIn schema sortOf
         form-while q = rw (← e, q, ← two s at, ← f, g) refl
+
+    pub form-branch : k ≡ 69 → (o : Optional) → o ≡ optional (num (u16At s at)) → (list : Interval) → list ≡ listAt (at + 2) → Branch o list ≡ form
+    unfolding statementBy recordAs fieldsAt fieldsOf fieldsIn schema sortOf
+    form-branch q o f list g = rw (← e, q, ← two s at, f, g) refl
 
     pub form-other : (k ≡ 64 → ⊥) → (k ≡ 65 → ⊥) → (k ≡ 66 → ⊥) → (k ≡ 67 → ⊥) → (k ≡ 68 → ⊥) → (k ≡ 69 → ⊥) → (k ≡ 70 → ⊥) → (k ≡ 71 → ⊥) → (k ≡ 77 → ⊥) → (k ≡ 78 → ⊥) → Other ≡ form
     unfolding statementBy recordAs

@@ -1,13 +1,15 @@
 -- Laws for texts and list entries.
 -- Assumes nothing.
 use Prim.Native.Nat.{ℕ, _+_, _*_, _≤_, _<_}
-use mathlib.Core.Path.{_≡_, sym, _∙_}
+use mathlib.Core.Path.{_≡_, refl, sym, _∙_}
 use mathlib.Core.List.{List}
 use lib.ListN.{take, drop}
+use borrow.Author.Tests.{ne-eqb}
 use Rattle.rl_spec.specs.declared.Counts.{Counts}
+use Rattle.rl_spec.specs.declared.Optional.the-variants.{None, Some}
 use Rattle.rl_spec.specs.Bytes.{u16At}
-use Rattle.rl_spec.specs.Image.{pair, entryOf, textOf}
-use Rattle.rl_spec.specs.Ranges.{interval}
+use Rattle.rl_spec.specs.Image.{num, pair, entryOf, textOf}
+use Rattle.rl_spec.specs.Ranges.{interval, optional}
 use Rattle.rl_spec.specs.Found.{imageFound}
 use Rattle.rl_laws.specs.Found.{entry-found, entry-missing, text-found, text-missing}
 
@@ -26,3 +28,9 @@ module _ (s : List ℕ) (c : Counts) where
 
 pub interval-is : (s : List ℕ) (at first count : ℕ) → first ≡ u16At s at → count ≡ u16At s (at + 2) → record { first = first; count = count } ≡ interval (pair (u16At s at) (u16At s (at + 2)))
 interval-is s at first count e f = cc
+
+pub optional-none : (n : ℕ) (s : List ℕ) (at : ℕ) → n ≡ u16At s at → n ≡ 65535 → None ≡ optional (num (u16At s at))
+optional-none n s at e h = rw (← e, h) refl
+
+pub optional-some : (n : ℕ) (s : List ℕ) (at : ℕ) → n ≡ u16At s at → (n ≡ 65535 → ⊥) → Some n ≡ optional (num (u16At s at))
+optional-some n s at e h = rw (← e, ne-eqb n 65535 h) refl

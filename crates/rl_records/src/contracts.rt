@@ -1,5 +1,6 @@
 // Parameters, clauses, functions and calls: records of one width each, at the end of the image.
 use crate::texts::interval_at;
+use crate::texts::optional_at;
 use rl_bytes::byte_at;
 use rl_bytes::u16_at;
 use rl_bytes::u32_at;
@@ -9,6 +10,7 @@ use rl_spec::Clause;
 use rl_spec::Counts;
 use rl_spec::Function;
 use rl_spec::Interval;
+use rl_spec::Optional;
 use rl_spec::Param;
 use rl_spec::ParamRefinement;
 use rl_spec::RefineOp;
@@ -123,13 +125,14 @@ pub fn clause_at(image: &[u8], counts: Counts, i: u32) -> Clause
     if most <= i {
         return Clause {
             condition: 0,
-            message: 0,
+            message: Optional::Some(0),
         };
     }
     let at = clauses_at(image, counts) + (i as usize) * 5 + 1;
+    let message = optional_at(image, at + 2);
     Clause {
         condition: u16_at(image, at),
-        message: u16_at(image, at + 2),
+        message,
     }
 }
 

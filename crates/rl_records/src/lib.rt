@@ -15,4 +15,5 @@ pub use contracts::parameters_at;
 pub use forms::form_at;
 pub use statements::statement_at;
 pub use texts::entry_at;
+pub use texts::optional_at;
 pub use texts::text_at;

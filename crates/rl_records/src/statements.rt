@@ -1,5 +1,6 @@
 // The forms of statements.
 use crate::texts::interval_at;
+use crate::texts::optional_at;
 use rl_bytes::byte_at;
 use rl_bytes::u16_at;
 use rl_bytes::word_at;
@@ -25,10 +26,10 @@ fn statement_in(image: &[u8], start: u16) -> StatementForm
         67 => StatementForm::ReturnAlone,
         68 => StatementForm::Conditional {
             branch: u16_at(image, at),
-            other: u16_at(image, at + 2),
+            other: optional_at(image, at + 2),
         },
         69 => StatementForm::Branch {
-            condition: u16_at(image, at),
+            condition: optional_at(image, at),
             body: interval_at(image, at + 2),
         },
         70 => StatementForm::While {

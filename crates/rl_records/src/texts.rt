@@ -4,12 +4,13 @@ use rl_bytes::second_u16;
 use rl_bytes::u16_at;
 use rl_spec::Counts;
 use rl_spec::Interval;
+use rl_spec::Optional;
 ghost use mathlib.Core.Path.{_≡_};
 ghost use mathlib.Core.List.{List};
 ghost use Prim.Native.Nat.{ℕ, _+_};
 ghost use Rattle.rl_spec.specs.Bytes.{u16At};
-ghost use Rattle.rl_spec.specs.Image.{pair, entryOf, textOf};
-ghost use Rattle.rl_spec.specs.Ranges.{interval};
+ghost use Rattle.rl_spec.specs.Image.{num, pair, entryOf, textOf};
+ghost use Rattle.rl_spec.specs.Ranges.{interval, optional};
 ghost use Rattle.rl_spec.specs.Found.{imageFound};
 
 // The k-th list entry.
@@ -46,4 +47,15 @@ pub fn interval_at(image: &[u8], at: usize) -> Interval
         first: u16_at(image, at),
         count: second_u16(image, at),
     }
+}
+
+// The index at a place; 65,535 means none.
+pub fn optional_at(image: &[u8], at: usize) -> Optional
+    ensures { λ r. ⌜ r ≡ optional (num (u16At (now (image .entry)) at)) ⌝ }
+{
+    let n = u16_at(image, at);
+    if n == 65535 {
+        return Optional::None;
+    }
+    Optional::Some(n)
 }

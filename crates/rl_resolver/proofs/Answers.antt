@@ -41,7 +41,9 @@ use Rattle.rl_assemble.proofs.Accepted.{accepted-source}
 use Rattle.rl_admission.specs.declared.Admission.{Admission}
 use Rattle.rl_admission.specs.declared.Admission.the-variants.{Admitted, Refused}
 use Rattle.rl_admission.specs.Lowering.{tallIn, loweringAdmission, loweringOr}
-use Rattle.rl_resolver.specs.Written.{Written}
+use Rattle.rl_assemble.specs.declared.Assembled.{Assembled}
+use Rattle.rl_assemble.specs.declared.Assembled.the-variants.{Length, PastLimit}
+use Rattle.rl_assemble.specs.Written.{Written}
 
 -- ---- what an admission says
 
@@ -67,11 +69,15 @@ all-held true true d h = absurd (subst IsRefused h tt)
 all-held true false true h = absurd (subst IsRefused h tt)
 all-held true false false h = (refl, refl)
 
--- ---- an image has bytes
+-- ---- what was put
 
-encode-some : (im : Image) → length (encode im) ≡ 0 → ⊥
-unfolding encode
-encode-some im e = omega (arith, e)
+abbrev IsPast : Assembled → Type 0
+IsPast (Length n) = ⊥
+IsPast PastLimit = Unit {0}
+
+abbrev lengthIn : Assembled → ℕ
+lengthIn (Length n) = n
+lengthIn PastLimit = 0
 
 module _ (s : List ℕ) (k f room : ℕ) (out : List ℕ) (cleared : out ≡ replicate room 0) (a : Answer) (e : a ≡ answerOf s k) where
   abbrev lowering : Lowering
@@ -178,25 +184,25 @@ module _ (s : List ℕ) (k f room : ℕ) (out : List ℕ) (cleared : out ≡ rep
           result-is : (y : Option Image) → lowered (imageOf s) f ≡ y → lowering ≡ orLimit y
           result-is y q = by-admission ∙ ap (λ v. loweringOr v result) d ∙ ap orLimit q
 
-          module _ (n : ℕ) (o : List ℕ) (written : Written (lowered (imageFound s p c) f) out n o) where
-            there : Written (lowered (imageOf s) f) (replicate room 0) n o
-            there = subst (λ l. Written (lowered (imageOf s) f) l n o) cleared (subst (λ (im : Image). Written (lowered im f) out n o) same-image written)
+          module _ (r : Assembled) (o : List ℕ) (written : Written (lowered (imageFound s p c) f) out r o) where
+            there : Written (lowered (imageOf s) f) (replicate room 0) r o
+            there = subst (λ l. Written (lowered (imageOf s) f) l r o) cleared (subst (λ (im : Image). Written (lowered im f) out r o) same-image written)
 
-            none-made : (y : Option Image) → lowered (imageOf s) f ≡ y → Written y (replicate room 0) n o → n ≡ 0 → (w : List ℕ) → w ≡ replicate k 0 →
+            none-made : (y : Option Image) → lowered (imageOf s) f ≡ y → Written y (replicate room 0) r o → r ≡ PastLimit → (w : List ℕ) → w ≡ replicate k 0 →
                 Ends (answer.Refused LimitPassed 0) o w
             none-made none q t b w v = ends-refused LimitPassed 0 (result-is none q) o w (t .bytes) v
-            none-made (some im) q t b w v = absurd (encode-some im (sym (t .number) ∙ b))
+            none-made (some im) q t b w v = absurd (subst IsPast (sym b ∙ t .number) tt)
 
-            one-made : (y : Option Image) → lowered (imageOf s) f ≡ y → Written y (replicate room 0) n o → (n ≡ 0 → ⊥) → (w : List ℕ) → w ≡ workOf s k →
+            one-made : (y : Option Image) → lowered (imageOf s) f ≡ y → Written y (replicate room 0) r o → (n : ℕ) → r ≡ Length n → (w : List ℕ) → w ≡ workOf s k →
                 Ends (answer.Lowered n) o w
-            one-made none q t b w v = absurd (b (t .number))
-            one-made (some im) q t b w v =
-                subst (λ (m : ℕ). Ends (answer.Lowered m) o w) (sym (t .number))
+            one-made none q t n b w v = absurd (subst IsPast (sym (t .number) ∙ b) tt)
+            one-made (some im) q t n b w v =
+                subst (λ (m : ℕ). Ends (answer.Lowered m) o w) (ap lengthIn (sym (t .number) ∙ b))
                 (ends (made im) (result-is (some im) q) o w
                 (t .bytes ∙ ap (λ (l : List ℕ). encode im ++ l) (drop-replicate (length (encode im)) room 0)) v)
 
-            pub limit-passed : n ≡ 0 → (m : ℕ) (w : List ℕ) → m ≡ k → w ≡ replicate m 0 → Ends (answer.Refused LimitPassed 0) o w
+            pub limit-passed : r ≡ PastLimit → (m : ℕ) (w : List ℕ) → m ≡ k → w ≡ replicate m 0 → Ends (answer.Refused LimitPassed 0) o w
             limit-passed b m w i v = none-made (lowered (imageOf s) f) refl there b w (cleared-work m w i v)
 
-            pub image-made : (n ≡ 0 → ⊥) → (w : List ℕ) → w ≡ workOf s k → Ends (answer.Lowered n) o w
-            image-made b w v = one-made (lowered (imageOf s) f) refl there b w v
+            pub image-made : (n : ℕ) → r ≡ Length n → (w : List ℕ) → w ≡ workOf s k → Ends (answer.Lowered n) o w
+            image-made n b w v = one-made (lowered (imageOf s) f) refl there n b w v

@@ -2,18 +2,16 @@
 -- Assumes nothing.
 use Prim.Native.Nat.{ℕ, _+_, _≤_, _<_}
 use mathlib.Core.Path.{_≡_, refl, ap, sym, subst, _∙_}
-use mathlib.Core.Bool.{Bool, true, false, cond}
+use mathlib.Core.Bool.{Bool, true, false}
 use mathlib.Core.List.{List, [], _∷_, _++_}
 use mathlib.Core.Option.{Option, none, some}
 use native.Mathlib.Omega.{arith}
-use lib.Dec.{ltb}
 use lib.ListN.{length, drop, replicate, length-append, length-map, length-set}
-use borrow.Author.Tests.{ltb-false}
 use Rattle.rl_spec.specs.declared.Counts.{Counts}
 use Rattle.rl_spec.specs.declared.Interval.{Interval}
 use Rattle.rl_spec.specs.declared.Section.the-variants.{Lists, Functions}
 use Rattle.rl_spec.specs.Schema.{limits}
-use Rattle.rl_spec.specs.Image.{Field, num, pair, Image, recordsOf, sizeOf, encode}
+use Rattle.rl_spec.specs.Image.{Field, num, pair, Image, recordsOf, sizeOf}
 use Rattle.rl_spec.specs.Found.{imageFound}
 use Rattle.rl_spec.specs.Records.{functionAt}
 use Rattle.rl_spec.specs.Make.{Context, made}
@@ -27,10 +25,12 @@ use Rattle.rl_context.specs.Does.{at, nothing, Over, Ends, Does}
 use Rattle.rl_context.proofs.Composed.{ends-live}
 use Rattle.rl_images.specs.Lowering.Adds.{adds-later}
 use Rattle.rl_images.specs.Lowering.AddsLower.{adds-desugar}
-use Rattle.rl_assemble.specs.Pieces.{Source, Given}
-use Rattle.rl_assemble.proofs.Laws.{after-front, with-front}
+use Rattle.rl_assemble.specs.declared.Assembled.{Assembled}
+use Rattle.rl_assemble.specs.declared.Assembled.the-variants.{Length, PastLimit}
+use Rattle.rl_assemble.specs.Pieces.{Source}
+use Rattle.rl_assemble.specs.Written.{Written}
+use Rattle.rl_assemble.proofs.Laws.{after-front, with-front, written-none, written-all}
 use Rattle.rl_resolver.specs.Begun.{begun}
-use Rattle.rl_resolver.specs.Written.{Written}
 use Rattle.rl_resolver.proofs.Beginning.{live-begun}
 
 -- ---- a limit was passed
@@ -51,21 +51,6 @@ none-of : {A : Type 0} {P : A → Context → Type 0} {o : Option (A × Context)
 none-of stops k = refl
 none-of (gives {a} {c} p) k = absurd (k a c refl p)
 
--- ---- what is written
-
-written-none : (out : List ℕ) → Written none out 0 out
-written-none out = record { number = refl; bytes = refl; few = omega arith }
-
-written-by : (im : Image) (out : List ℕ) (n : ℕ) (end : List ℕ) (b : Bool) → ltb 65535 (length (encode im)) ≡ b → n ≡ cond b 0 (length (encode im)) →
-    end ≡ cond b out (encode im ++ drop (length (encode im)) out) → Written (cond b none (some im)) out n end
-written-by im out n end true e p q = record { number = p; bytes = q; few = omega (arith, p) }
-written-by im out n end false e p q =
-    record { number = p; bytes = q; few = omega (arith, p, ltb-false 65535 (length (encode im)) e) }
-
-written-given : (im : Image) (out : List ℕ) (n : ℕ) (end : List ℕ) → Given im out n end → Written (fitting true im) out n end
-unfolding fitting
-written-given im out n end g = written-by im out n end (ltb 65535 (length (encode im))) refl (g .number) (g .bytes)
-
 -- ---- the image with the new body
 
 module _ (s p : List ℕ) (c : Counts) (f : ℕ) (src : Source (imageFound s p c) s p c) (l : f < c .functions) (out : List ℕ)
@@ -73,7 +58,7 @@ module _ (s p : List ℕ) (c : Counts) (f : ℕ) (src : Source (imageFound s p c
   abbrev im : Image
   im = imageFound s p c
 
-  abbrev Finishes : ℕ → List ℕ → Type 0
+  abbrev Finishes : Assembled → List ℕ → Type 0
   Finishes n end = Written (finished true f (newBody im f (start im f))) out n end
 
   module _ (ctx₀ : Ctx) (is : (q : List ℕ) → ctx₀ ≡ begun c (functionAt (imageFound s q c) f)) (list : Interval) (ctx : Ctx) (scratch waiting : List ℕ)
@@ -84,43 +69,38 @@ module _ (s p : List ℕ) (c : Counts) (f : ℕ) (src : Source (imageFound s p c
         (subst (λ (x : Ctx). Ends im 0 nothing [] (some (tt, start im f)) tt (at x (replicate 186496 0) (replicate 4096 0))) (sym (is p))
         (ends-live refl (live-begun s p c f src)))
 
-    pub body-full : ctx .full ≡ true → Finishes 0 out
+    pub body-full : ctx .full ≡ true → Finishes PastLimit out
     body-full e =
-        subst (λ o. Written (finished true f o) out 0 out)
+        subst (λ o. Written (finished true f o) out PastLimit out)
         (sym (none-of (ends .full e) (λ a x q o. given-is (within-limit im f (eight-sections im (src .well-formed))) q o)))
         (written-none out)
 
     functions-are : f < sizeOf im Functions
     functions-are = subst (λ (x : Counts). f < x .functions) (src .counts-are) l
 
-    pub body-put : ctx .full ≡ false → (n : ℕ) (end : List ℕ) →
+    pub body-put : ctx .full ≡ false → (n : Assembled) (end : List ℕ) →
         ((im : Image) (new : New) → Source im s p c → Counted im new ctx → Kept im new scratch → f < sizeOf im Functions → 65535 ≤ length out →
-        Given (withBody (grown im new) f (pair (list .first) (list .count))) out n end) →
+        Written (fitting true (withBody (grown im new) f (pair (list .first) (list .count)))) out n end) →
         Finishes n end
     body-put e n end given =
         let v = ends .live e in
         let w = v .live in
         let g = given im (w .new) src (w .counted) (w .kept) functions-are room in
         subst (λ o. Written (finished true f o) out n end) (sym (v .is))
-        (subst (λ (x : Context). Written (fitting true (withBody (x .image) f (pair (list .first) (list .count)))) out n end) (sym (w .context))
-        (written-given (withBody (grown im (w .new)) f (pair (list .first) (list .count))) out n end g))
+        (subst (λ (x : Context). Written (fitting true (withBody (x .image) f (pair (list .first) (list .count)))) out n end) (sym (w .context)) g)
 
   -- ---- the lowered image
 
   module _ (b : Bool) (e : (q : List ℕ) → b ≡ hasContracts (imageFound s q c) f) where
-    pub lowered-body : b ≡ true → (n : ℕ) (end : List ℕ) → Finishes n end → Written (lowered im f) out n end
+    pub lowered-body : b ≡ true → (n : Assembled) (end : List ℕ) → Finishes n end → Written (lowered im f) out n end
     unfolding loweredBy
     lowered-body t n end w = rw (← e p, t) w
 
-    pub lowered-same : b ≡ false → (n : ℕ) (end : List ℕ) → n ≡ afterText out 0 s → end ≡ withText out 0 s → Written (lowered im f) out n end
+    pub lowered-same : b ≡ false → (n : ℕ) (end : List ℕ) → n ≡ afterText out 0 s → end ≡ withText out 0 s → Written (lowered im f) out (Length n) end
     unfolding loweredBy
     lowered-same t n end h g =
         let few : length s ≤ 65535 = omega (arith, ap length (src .bytes), src .well-formed .size) in
         let number : n ≡ length s = h ∙ after-front out s (omega arith) in
         let bytes : end ≡ s ++ drop (length s) out = g ∙ with-front out s (omega arith) in
         rw (← e p, t)
-        (record {
-          number = number ∙ ap length (src .bytes);
-          bytes = bytes ∙ ap (λ (x : List ℕ). x ++ drop (length x) out) (src .bytes);
-          few = omega arith;
-        })
+        (written-all im out n end (number ∙ ap length (src .bytes)) (bytes ∙ ap (λ (x : List ℕ). x ++ drop (length x) out) (src .bytes)) (src .well-formed .size))

@@ -1,6 +1,7 @@
 // Reading, the checks, the lowered image.
 use rl_admission::Admission;
 use rl_admission::admit_lowering;
+use rl_assemble::Assembled;
 use rl_assemble::assemble;
 use rl_ast::read_starts;
 use rl_bodies::new_body;
@@ -27,7 +28,7 @@ ghost use Rattle.rl_spec.specs.Lower.{hasContracts, newBody, start, finished, l
 ghost use Rattle.rl_spec.specs.Lowerer.{lowerOf, lowerAnswer, lowerNumber, lowerOut};
 ghost use Rattle.rl_assemble.specs.Pieces.{Source};
 ghost use Rattle.rl_resolver.specs.Begun as specs;
-ghost use Rattle.rl_resolver.specs.Written.{Written};
+ghost use Rattle.rl_assemble.specs.Written.{Written};
 
 // Requires, ensures, or a refined parameter.
 fn has_contracts(image: &[u8], counts: Counts, function: u16) -> bool
@@ -74,7 +75,7 @@ fn put_finished(
     counts: Counts,
     function: u16,
     out: &mut [u8],
-) -> usize
+) -> Assembled
     requires { ⌜ Source (imageFound (now image) (now starts) counts) (now image) (now starts) counts ⌝ }
     requires { ⌜ function < counts .functions ⌝ }
     requires { ⌜ 65535 ≤ length (now out) ⌝ }
@@ -99,19 +100,19 @@ fn put_finished(
     let end = made.ctx;
     let list = made.list;
     if end.full {
-        return 0;
+        return Assembled::PastLimit;
     }
     assemble(image, starts, counts, end, &scratch, function, list, out)
 }
 
-// The lowered image's bytes; answers their number, or 0 and puts nothing where a limit would be passed.
+// The lowered image's bytes; nothing is put where a limit would be passed.
 fn put_lowered(
     image: &[u8],
     starts: &[u16; 6144],
     counts: Counts,
     function: u16,
     out: &mut [u8],
-) -> usize
+) -> Assembled
     requires { ⌜ Source (imageFound (now image) (now starts) counts) (now image) (now starts) counts ⌝ }
     requires { ⌜ function < counts .functions ⌝ }
     requires { ⌜ 65535 ≤ length (now out) ⌝ }
@@ -120,7 +121,8 @@ fn put_lowered(
     if has_contracts(image, counts, function) {
         return put_finished(image, starts, counts, function, out);
     }
-    put_text(out, 0, image)
+    let n = put_text(out, 0, image);
+    Assembled::Length(n)
 }
 
 // Lowers a function's contracts into plain guards: the image's bytes with this function's body replaced. 11 for a function that is not
@@ -144,15 +146,17 @@ pub fn lower(image: &[u8], work: &mut [u16], function: u32, out: &mut [u8]) -> L
                     LowerAnswer::Refused { cause, place: 0 }
                 }
                 Admission::Admitted => {
-                    let n = put_lowered(image, &starts, counts, function as u16, out);
-                    if n == 0 {
-                        clear(work);
-                        return LowerAnswer::Refused {
-                            cause: Cause::LimitPassed,
-                            place: 0,
-                        };
+                    let put = put_lowered(image, &starts, counts, function as u16, out);
+                    match put {
+                        Assembled::Length(n) => LowerAnswer::Lowered(n as u32),
+                        Assembled::PastLimit => {
+                            clear(work);
+                            LowerAnswer::Refused {
+                                cause: Cause::LimitPassed,
+                                place: 0,
+                            }
+                        }
                     }
-                    LowerAnswer::Lowered(n as u32)
                 }
             }
         }

@@ -12,6 +12,7 @@ use Rattle.rl_spec.specs.declared.ConstVal.{ConstVal}
 use Rattle.rl_spec.specs.declared.ConstVal.the-variants.{Int, Float, Str, Bool as Truth}
 use Rattle.rl_spec.specs.declared.Counts.{Counts}
 use Rattle.rl_spec.specs.declared.Interval.{Interval}
+use Rattle.rl_spec.specs.declared.Optional.the-variants.{None}
 use Rattle.rl_spec.specs.declared.Outcome.{Outcome}
 use Rattle.rl_spec.specs.declared.Outcome.the-variants.{Returned, Stopped, Fault, Spent}
 use Rattle.rl_spec.specs.declared.Plain.{Plain}
@@ -186,7 +187,7 @@ module _ (s p : List ℕ) (c : Counts) (bytes : (i : ℕ) → Fits w8 (getD s i 
   abbrev im : Image
   im = imageFound s p c
 
-  body-ran : (list : Interval) (e : Held) (budget : ℕ) (r : Ran) → Runs (listRun im 65536 true false false 0 list) e budget r
+  body-ran : (list : Interval) (e : Held) (budget : ℕ) (r : Ran) → Runs (listRun im 65536 true false None list) e budget r
       → finish budget (top (textOf im) plainly (bodyTree im list) (bounds e) budget)
       ≡ (outcomeOf (outcomeAfter (r .flow)), budget - r .left)
   body-ran list e budget r h =
@@ -199,7 +200,7 @@ module _ (s p : List ℕ) (c : Counts) (bytes : (i : ℕ) → Fits w8 (getD s i 
   pub function-ran : (f : ℕ) (x : Function) (args : Arguments) (budget : ℕ) (e : Held) (r : Ran) (o : Outcome)
       → ((q : List ℕ) → x ≡ functionAt (imageFound s q c) f) → args .count ≤ 16 → args .count ≡ functionAt im f .params .count
       → ((q : List ℕ) → args .count ≤ 16 → x .params .count ≤ args .count → BindsAll (imageFound s q c) (x .params) args e)
-      → Runs (listRun im 65536 true false false 0 (x .body)) e budget r → o ≡ outcomeAfter (r .flow)
+      → Runs (listRun im 65536 true false None (x .body)) e budget r → o ≡ outcomeAfter (r .flow)
       → Answered o (budget - r .left) ≡ ranIn im f (given args) budget
   unfolding ranIn runFunction plainFunction
   function-ran f x args budget e r o k l m b h d =

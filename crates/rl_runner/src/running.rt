@@ -10,6 +10,7 @@ use rl_records::function_at;
 use rl_spec::Answer;
 use rl_spec::Arguments;
 use rl_spec::Counts;
+use rl_spec::Optional;
 use rl_spec::Outcome;
 use rl_spec::Plain;
 use rl_spec::RunAnswer;
@@ -68,8 +69,7 @@ fn run_function(
         65536,
         true,
         false,
-        false,
-        0,
+        Optional::None,
         body,
         env,
         budget,

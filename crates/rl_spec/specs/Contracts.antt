@@ -3,7 +3,6 @@ use Prim.Native.Nat.{ℕ, zero, suc}
 use mathlib.Core.Bool.{Bool, true, false, not, cond, _&&_, _||_}
 use mathlib.Core.List.{List, [], _∷_, map}
 use mathlib.Core.Option.{Option, none, some}
-use lib.Dec.{eqb}
 use lib.IntN.{ℤ}
 use Rattle.rl_spec.specs.declared.Section.the-variants.{Functions}
 use Rattle.rl_spec.specs.declared.RefineOperand as operand
@@ -13,7 +12,7 @@ use Rattle.rl_spec.specs.declared.ParamRefinement.the-variants.{Unrefine
 use Rattle.rl_spec.specs.Image.{Image, sizeOf, entryOf, textOf}
 use Rattle.rl_spec.specs.Values.{RefineOp, sameText}
 use Rattle.rl_spec.specs.Folded.{opOf}
-use Rattle.rl_spec.specs.Tree.{Expr, exprTree}
+use Rattle.rl_spec.specs.Tree.{Expr, exprTree, optionalTree}
 use Rattle.rl_spec.specs.Ranges.{numbersIn}
 use Rattle.rl_spec.specs.Records.{paramAt, clauseAt, functionAt, callAt}
 
@@ -54,15 +53,11 @@ refinementOf (Refined o x) = some (record { op = opOf o; operand = operandOf x }
 unfoldable pub paramOf : Image → ℕ → Param ℕ
 paramOf im i = record { name = paramAt im i .name; refinement = refinementOf (paramAt im i .refinement) }
 
--- 65,535 for no message
-abbrev pub messageNode : Image → ℕ → Option (Expr ℕ)
-messageNode im n = cond (eqb n 65535) none (some (exprTree im n))
-
 unfoldable pub clauseOf : Image → ℕ → ContractClause ℕ
 clauseOf im i =
     record {
       condition = exprTree im (clauseAt im i .condition);
-      message = messageNode im (clauseAt im i .message);
+      message = optionalTree im (clauseAt im i .message);
     }
 
 unfoldable pub contractsOf : Image → ℕ → FnContracts ℕ

@@ -11,6 +11,8 @@ use Rattle.rl_spec.specs.declared.Target.{Target}
 use Rattle.rl_spec.specs.declared.Target.the-variants.{Text, Expression, Statement, Branch, ElseBranch, Arm}
 use Rattle.rl_spec.specs.declared.Sort.{Sort}
 use Rattle.rl_spec.specs.declared.Sort.the-variants.{Raw, Byte, Scalar, Part, One, Maybe, Many, Range, OperandSort, Operand}
+use Rattle.rl_spec.specs.declared.Optional.{Optional}
+use Rattle.rl_spec.specs.declared.Optional.the-variants.{None, Some}
 use Rattle.rl_spec.specs.declared.Clause.{Clause}
 use Rattle.rl_spec.specs.Schema.{sortOf, fieldsOf}
 use Rattle.rl_spec.specs.Image.{Field, num, Rec, Image, recordsOf, recordOf, fieldOf, first, entryOf, textOf, encode}
@@ -18,11 +20,11 @@ use Rattle.rl_spec.specs.Values.{RefineOp, gt, ge, lt, le, eq, ne}
 use Rattle.rl_spec.specs.Tree.{ascii, number, descend}
 use Rattle.rl_spec.specs.Words.{bits64}
 use Rattle.rl_spec.specs.Records.{clauseAt, functionAt}
-use Rattle.rl_spec.specs.Ranges.{numbersIn}
+use Rattle.rl_spec.specs.Ranges.{optional, optionalField, numbersIn}
 use Rattle.rl_spec.specs.Contracts.{RefineOperand, integer, str, bool, param, ParamRefinement, Param, paramOf, anyRefined, isEmpty}
 use Rattle.rl_spec.specs.Mapped.{mapRefinement}
 use Rattle.rl_spec.specs.Message.{decimal, refinementText}
-use Rattle.rl_spec.specs.Make.{Context, Make, _>>=_, give, imageSoFar, resultFlag, takeTemp, each, flatMap, withRecords, append, made, newText, newList, stmt, newStmt, absent, entriesOf}
+use Rattle.rl_spec.specs.Make.{Context, Make, _>>=_, give, imageSoFar, resultFlag, takeTemp, each, flatMap, withRecords, append, made, newText, newList, stmt, newStmt, entriesOf}
 
 -- ---- Ctx: expr to msg_expr. The texts of a new record come before it, those of a path before its list.
 
@@ -57,8 +59,12 @@ abbrev pub isErrCall : ℕ → Make ℕ
 isErrCall = resCall (ascii "is_err")
 
 -- a clause's own message is shared, not copied
+abbrev pub msgExprBy : Optional → List ℕ → Make ℕ
+msgExprBy None default = strLit default
+msgExprBy (Some n) default = give n
+
 abbrev pub msgExpr : Clause → List ℕ → Make ℕ
-msgExpr clause default = cond (eqb (clause .message) 65535) (strLit default) (give (clause .message))
+msgExpr clause default = msgExprBy (clause .message) default
 
 -- ---- deep_clone_expr: the children field by field, then the node with its kind, its span and what else it has. No kind has a node
 -- behind a list of nodes, so the list comes after all the children.
@@ -126,7 +132,7 @@ unfoldable pub onlyIf : ℕ → ℕ → Make ℕ
 onlyIf condition s = do
   body ← newList (s ∷ [])
   branch ← newStmt 69 (num condition ∷ body ∷ num 0 ∷ [])
-  newStmt 68 (num branch ∷ absent ∷ [])
+  newStmt 68 (num branch ∷ optionalField None ∷ [])
 
 -- operator 5 is Bang
 unfoldable pub guard : ℕ → ℕ → Make ℕ
@@ -224,8 +230,9 @@ module _ (walk : ℕ → Make (List ℕ)) where
   unfoldable pub transformBranch : ℕ → Make ℕ
   transformBranch s = imageSoFar >>= λ im. transformBranchBy s (recordOf im Statements s)
 
-  abbrev pub transformElse : ℕ → Make ℕ
-  transformElse s = cond (eqb s 65535) (give s) (transformBranch s)
+  abbrev pub transformElse : Optional → Make Optional
+  transformElse None = give None
+  transformElse (Some s) = transformBranch s >>= λ n. give (Some n)
 
   -- an arm is finished before the next one is begun
   abbrev pub transformArmBy : Rec → Make ℕ
@@ -237,8 +244,8 @@ module _ (walk : ℕ → Make (List ℕ)) where
   abbrev pub conditional : Rec → Make ℕ
   conditional r = do
     branch ← transformBranch (number r 1)
-    other ← transformElse (number r 2)
-    stmt 68 (number r 0) (num branch ∷ num other ∷ [])
+    other ← transformElse (optional (fieldOf r 2))
+    stmt 68 (number r 0) (num branch ∷ optionalField other ∷ [])
 
   abbrev pub match : Rec → Make ℕ
   match r = do

@@ -124,10 +124,6 @@ stmt kind span fields = append Statements (made kind (num span ∷ fields) ∷ [
 abbrev pub newStmt : ℕ → List Field → Make ℕ
 newStmt kind fields ctx = stmt kind (ctx .span) fields ctx
 
--- 65,535 for none
-abbrev pub absent : Field
-absent = num 65535
-
 -- the entries of a list
 abbrev pub entriesOf : Image → Field → List ℕ
 entriesOf im list = map (entryOf im) (numbersIn (interval list))

@@ -5,15 +5,16 @@ use mathlib.Core.List.{List, [], _∷_, _++_}
 use mathlib.Core.Option.{Option, none, some, Option·map}
 use lib.Dec.{ltb}
 use lib.IntN.{ℤ, pos, negsuc}
+use Rattle.rl_spec.specs.declared.Clause.{Clause}
 use Rattle.rl_spec.specs.declared.Violation.{Violation}
 use Rattle.rl_spec.specs.declared.Violation.the-variants.{Refinement, Requires}
 use Rattle.rl_spec.specs.Image.{Image, textOf}
 use Rattle.rl_spec.specs.Values as value
 use Rattle.rl_spec.specs.Values.{ConstVal, RefineOp, gt, ge, lt, le, eq, ne}
-use Rattle.rl_spec.specs.Tree.{Expr, null, literal, identifier, unary, binary, grouping, assign, okLiteral, errLiteral, isErr, resultUnwrap, other, ascii}
-use Rattle.rl_spec.specs.Records.{functionAt}
+use Rattle.rl_spec.specs.Tree.{Expr, null, literal, identifier, unary, binary, grouping, assign, okLiteral, errLiteral, isErr, resultUnwrap, other, ascii, optionalTree}
+use Rattle.rl_spec.specs.Records.{clauseAt, functionAt}
 use Rattle.rl_spec.specs.Mapped.{Text, mapParam}
-use Rattle.rl_spec.specs.Contracts.{RefineOperand, integer, str, bool, param, ParamRefinement, Param, paramOf, clauseOf, calleeOf}
+use Rattle.rl_spec.specs.Contracts.{RefineOperand, integer, str, bool, param, ParamRefinement, Param, paramOf, calleeOf}
 
 -- ---- decimal digits; a number of 64 bits has at most 20
 
@@ -57,7 +58,7 @@ refinementText name (some r) =
 abbrev pub paramText : Param Text → Text
 paramText p = refinementText (p .name) (p .refinement)
 
--- ---- a clause: its own text, where its message is a String
+-- ---- clause_message: the clause's own text, where its message is a String
 
 abbrev pub stringOf : {T : Type 0} → Option (ConstVal T) → Option T
 stringOf none = none
@@ -84,23 +85,26 @@ abbrev pub ownString : {T : Type 0} → Option (Expr T) → Option T
 ownString none = none
 ownString (some e) = stringIn e
 
--- ---- a report of a function's contracts
+abbrev pub orDefault : Option Text → Text → Text
+orDefault none text = text
+orDefault (some t) text = t
 
--- the text of its own, by its index, and the default text
-abbrev pub ownText : Image → ℕ → Violation → Option ℕ
-ownText im f (Refinement n) = none
-ownText im f (Requires n) = ownString (clauseOf im (functionAt im f .required .first + n) .message)
+abbrev pub clauseMessage : Image → Clause → Text → Text
+clauseMessage im clause default = orDefault (Option·map (textOf im) (ownString (optionalTree im (clause .message)))) default
+
+-- ---- a report of a function's contracts
 
 abbrev pub defaultText : Image → ℕ → Violation → Text
 defaultText im f (Refinement n) = paramText (mapParam (textOf im) (paramOf im (functionAt im f .params .first + n)))
 defaultText im f (Requires n) = ascii "requires violated"
 
-abbrev pub orDefault : Option Text → Text → Text
-orDefault none text = text
-orDefault (some t) text = t
+-- a refinement has no text of its own
+abbrev pub messageWith : Image → ℕ → Violation → Text → Text
+messageWith im f (Refinement n) default = default
+messageWith im f (Requires n) default = clauseMessage im (clauseAt im (functionAt im f .required .first + n)) default
 
 unfoldable pub messageBy : Image → ℕ → Violation → Text
-messageBy im f v = orDefault (Option·map (textOf im) (ownText im f v)) (defaultText im f v)
+messageBy im f v = messageWith im f v (defaultText im f v)
 
 unfoldable pub opening : List ℕ
 opening = ascii "contract violation (proven at compile time): "

@@ -14,7 +14,7 @@ use Rattle.rl_spec.specs.declared.Clause.{Clause}
 use Rattle.rl_spec.specs.declared.Function.{Function}
 use Rattle.rl_spec.specs.declared.Call.{Call}
 use Rattle.rl_spec.specs.Image.{Rec, Image, recordOf, fieldOf}
-use Rattle.rl_spec.specs.Ranges.{interval}
+use Rattle.rl_spec.specs.Ranges.{interval, optional}
 use Rattle.rl_spec.specs.Tree.{signed, number}
 
 -- 1 Gt, 2 Ge, 3 Lt, 4 Le, 5 Eq, 6 Ne
@@ -36,7 +36,7 @@ paramBy r = record { name = number r 0; refinement = refinementBy (number r 2) (
 
 -- condition, message or none
 abbrev pub clauseBy : Rec → Clause
-clauseBy r = record { condition = number r 0; message = number r 1 }
+clauseBy r = record { condition = number r 0; message = optional (fieldOf r 1) }
 
 -- name, span, parameters, result flag, body, requires, ensures
 abbrev pub functionBy : Rec → Function

@@ -2,15 +2,17 @@
 use Prim.Native.Nat.{ℕ}
 use mathlib.Core.Bool.{cond}
 use mathlib.Core.List.{List, [], _∷_, map}
-use mathlib.Core.Option.{Option, none, some}
+use mathlib.Core.Option.{Option, none}
 use lib.Dec.{eqb}
 use Rattle.rl_spec.specs.declared.Section.the-variants.{Statements}
 use Rattle.rl_spec.specs.declared.Interval.{Interval}
+use Rattle.rl_spec.specs.declared.Optional.{Optional}
+use Rattle.rl_spec.specs.declared.Optional.the-variants.{None, Some}
 use Rattle.rl_spec.specs.declared.StatementForm.{StatementForm}
 use Rattle.rl_spec.specs.declared.StatementForm.the-variants.{Declaration, Expression, Return, ReturnAlone, Conditional, Branch as ABranch, While, Loop, Break, Continue, Other}
 use Rattle.rl_spec.specs.Image.{Rec, Image, recordOf, fieldOf, entryOf}
-use Rattle.rl_spec.specs.Tree.{Expr, number, descend, exprTree}
-use Rattle.rl_spec.specs.Ranges.{interval, numbersIn}
+use Rattle.rl_spec.specs.Tree.{Expr, number, descend, exprTree, optionalTree}
+use Rattle.rl_spec.specs.Ranges.{interval, optional, numbersIn}
 
 infixr 5 _▸_
 mutual
@@ -78,12 +80,9 @@ bodyFrom (x ∷ xs) = asStatement x ▸ bodyFrom xs
 abbrev pub bodyBy : {T : Type 0} → Image → (ℕ → Item T) → Interval → Body T
 bodyBy im item list = bodyFrom (map (λ k. item (entryOf im k)) (numbersIn list))
 
--- 65,535 for none
-abbrev pub conditionBy : Image → ℕ → Option (Expr ℕ)
-conditionBy im n = cond (eqb n 65535) none (some (exprTree im n))
-
-abbrev pub elseBy : {T : Type 0} → (ℕ → Item T) → ℕ → Else T
-elseBy item n = cond (eqb n 65535) noElse (asElse (item n))
+abbrev pub elseBy : {T : Type 0} → (ℕ → Item T) → Optional → Else T
+elseBy item None = noElse
+elseBy item (Some n) = asElse (item n)
 
 -- ---- the form of a record; field 0 is the span
 
@@ -93,8 +92,8 @@ statementBy r =
     (cond (eqb (r .kind) 65) (Expression (number r 1))
     (cond (eqb (r .kind) 66) (Return (number r 1))
     (cond (eqb (r .kind) 67) ReturnAlone
-    (cond (eqb (r .kind) 68) (Conditional (number r 1) (number r 2))
-    (cond (eqb (r .kind) 69) (ABranch (number r 1) (interval (fieldOf r 2)))
+    (cond (eqb (r .kind) 68) (Conditional (number r 1) (optional (fieldOf r 2)))
+    (cond (eqb (r .kind) 69) (ABranch (optional (fieldOf r 1)) (interval (fieldOf r 2)))
     (cond (eqb (r .kind) 70) (While (number r 1) (interval (fieldOf r 2)))
     (cond (eqb (r .kind) 71) (Loop (interval (fieldOf r 1)))
     (cond (eqb (r .kind) 77) Break
@@ -110,7 +109,7 @@ itemBy im (Expression n) item = aStatement (expression (exprTree im n))
 itemBy im (Return n) item = aStatement (return (exprTree im n))
 itemBy im ReturnAlone item = aStatement returnAlone
 itemBy im (Conditional b e) item = aStatement (conditional (asBranch (item b)) (elseBy item e))
-itemBy im (ABranch n list) item = aBranch (branch (conditionBy im n) (bodyBy im item list))
+itemBy im (ABranch n list) item = aBranch (branch (optionalTree im n) (bodyBy im item list))
 itemBy im (While n list) item = aStatement (while (exprTree im n) (bodyBy im item list))
 itemBy im (Loop list) item = aStatement (loop (bodyBy im item list))
 itemBy im Break item = aStatement break

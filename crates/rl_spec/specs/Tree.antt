@@ -4,7 +4,7 @@ use Prim.Native.Char.{code}
 use Prim.Native.String.{String, [] as end, _∷_ as _▸_}
 use mathlib.Core.Bool.{Bool, cond, _&&_}
 use mathlib.Core.List.{List, [], _∷_}
-use mathlib.Core.Option.{Option}
+use mathlib.Core.Option.{Option, none, some}
 use lib.Dec.{ltb, eqb}
 use lib.IntN.{ℤ, pos, negsuc}
 use lib.Ieee.{ofBits, binary32, binary64}
@@ -12,6 +12,8 @@ use Rattle.rl_spec.specs.declared.Section.the-variants.{Expressions}
 use Rattle.rl_spec.specs.declared.ConstVal.the-variants.{Int, Float, Str, Bool as Truth}
 use Rattle.rl_spec.specs.declared.Folded.{Folded}
 use Rattle.rl_spec.specs.declared.Folded.the-variants.{Value, Nothing}
+use Rattle.rl_spec.specs.declared.Optional.{Optional}
+use Rattle.rl_spec.specs.declared.Optional.the-variants.{None, Some}
 use Rattle.rl_spec.specs.declared.Form.{Form}
 use Rattle.rl_spec.specs.declared.Form.the-variants.{Null, Literal, Identifier, Unary, Binary, Grouping, Assign, OkLiteral, ErrLiteral, IsErr, ResultUnwrap, Other}
 use Rattle.rl_spec.specs.Image.{Field, Rec, Image, first, second, recordOf, fieldOf, entryOf, textOf}
@@ -122,3 +124,8 @@ treeBy im Other tree = other
 
 unfoldable pub exprTree : Image → ℕ → Expr ℕ
 exprTree im = descend (λ _. other) (λ i tree. treeBy im (formOf im i) tree)
+
+-- the condition of a branch, the message of a clause
+abbrev pub optionalTree : Image → Optional → Option (Expr ℕ)
+optionalTree im None = none
+optionalTree im (Some n) = some (exprTree im n)

@@ -220,10 +220,16 @@ pub struct Param {
     pub refinement: ParamRefinement,
 }
 
-// A clause's nodes; 65,535 for no message.
+// An index, or none.
+pub enum Optional {
+    None,
+    Some(u16),
+}
+
+// A clause's nodes.
 pub struct Clause {
     pub condition: u16,
-    pub message: u16,
+    pub message: Optional,
 }
 
 // Entries of the lists, or records of a section: the first and the count.
@@ -248,14 +254,14 @@ pub struct Call {
     pub args: Interval,
 }
 
-// What a record of the section of statements is to the runner; its parts by their indices, 65,535 for none.
+// What a record of the section of statements is to the runner; its parts by their indices.
 pub enum StatementForm {
     Declaration { name: u16, value: u16 },
     Expression(u16),
     Return(u16),
     ReturnAlone,
-    Conditional { branch: u16, other: u16 },
-    Branch { condition: u16, body: Interval },
+    Conditional { branch: u16, other: Optional },
+    Branch { condition: Optional, body: Interval },
     While { condition: u16, body: Interval },
     Loop(Interval),
     Break,

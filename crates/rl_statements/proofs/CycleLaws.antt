@@ -1,10 +1,10 @@
 -- Statements and branches by their parts. Assumes nothing.
 use Prim.Native.Nat.{ℕ, _<_}
 use mathlib.Core.Path.{_≡_, refl, ap, _∙_, sym, subst}
-use mathlib.Core.Bool.{Bool, true, false, not}
+use mathlib.Core.Bool.{true, false}
 use native.Mathlib.Omega.{arith}
-use lib.Dec.{eqb}
 use Rattle.rl_spec.specs.declared.Interval.{Interval}
+use Rattle.rl_spec.specs.declared.Optional.{Optional}
 use Rattle.rl_spec.specs.declared.Outcome.the-variants.{Fault}
 use Rattle.rl_spec.specs.Image.{Image}
 use Rattle.rl_spec.specs.Run.{Run, andThen}
@@ -42,22 +42,22 @@ IsOnward Continues = ⊥
 IsOnward Skipped = ⊥
 IsOnward (Over o) = ⊥
 
-pub branch-lower : (im : Image) (limit b : ℕ) (form : BranchForm) → BranchIs im limit b form → (n : ℕ) (list : Interval) → form ≡ branch.Branch n list → b < limit
+pub branch-lower : (im : Image) (limit b : ℕ) (form : BranchForm) → BranchIs im limit b form → (n : Optional) (list : Interval) → form ≡ branch.Branch n list → b < limit
 branch-lower im limit b form h n list e = subst (BranchIs im limit b) e h .0
 
-pub else-lower : (im : Image) (limit other : ℕ) (form : ElseForm) → ElseIs im limit other form → form ≡ else.Conditional → other < limit
-else-lower im limit other form h e = subst (ElseIs im limit other) e h .0
+pub else-lower : (im : Image) (limit : ℕ) (other : Optional) (form : ElseForm) → ElseIs im limit other form → (s : ℕ) → form ≡ else.Conditional s → s < limit
+else-lower im limit other form h s e = subst (ElseIs im limit other) e h .0
 
 module _ (im : Image) (env : Env) (left : ℕ) where
   module _ (limit b : ℕ) (form : BranchForm) (h : BranchIs im limit b form) where
-    pub branch-taken : (n : ℕ) (list : Interval) (r : Ran) → form ≡ branch.Branch n list
-        → Runs (listRun im b false false (not (eqb n 65535)) n list) env left r → Runs (branchRun im limit b) env left r
+    pub branch-taken : (n : Optional) (list : Interval) (r : Ran) → form ≡ branch.Branch n list
+        → Runs (listRun im b false false n list) env left r → Runs (branchRun im limit b) env left r
     branch-taken n list r e q = run-as _ _ env left r (subst (BranchIs im limit b) e h .1) q
 
     pub branch-missing : form ≡ branch.Missing → Held env → Runs (branchRun im limit b) env left (record { flow = Onward; env = env; left = left })
     branch-missing e k = idle (branchRun im limit b) env left Onward (subst (BranchIs im limit b) e h) k
 
-  module _ (limit other : ℕ) (form : ElseForm) (h : ElseIs im limit other form) where
+  module _ (limit : ℕ) (other : Optional) (form : ElseForm) (h : ElseIs im limit other form) where
     -- a flow that was skipped goes on
     unskips : (f : Flow) (r : Ran) → f ≡ unskipped (r .flow)
         → resultOf f (bounds (r .env)) (r .left) ≡ andThen (resultOf (r .flow) (bounds (r .env)) (r .left)) (λ g. resultOf (unskipped g))
@@ -70,31 +70,31 @@ module _ (im : Image) (env : Env) (left : ℕ) where
         go Skipped = refl
         go (Over o) = refl
 
-    pub else-branch : (f : Flow) (r : Ran) → form ≡ else.Branch → f ≡ unskipped (r .flow) → Runs (branchRun im limit other) env left r
+    pub else-branch : (s : ℕ) (f : Flow) (r : Ran) → form ≡ else.Branch s → f ≡ unskipped (r .flow) → Runs (branchRun im limit s) env left r
         → Runs (otherwiseRun im limit other) env left (record { flow = f; env = r .env; left = r .left })
-    else-branch f r e u q =
+    else-branch s f r e u q =
         record {
-          does = unskips f r u ∙ sym (run-then (otherwiseRun im limit other) (branchRun im limit other) _ env left r (subst (ElseIs im limit other) e h) q);
+          does = unskips f r u ∙ sym (run-then (otherwiseRun im limit other) (branchRun im limit s) _ env left r (subst (ElseIs im limit other) e h) q);
           less = q .less;
           held = q .held;
         }
 
-    pub else-conditional : (r : Ran) → form ≡ else.Conditional → Runs (statementRun im other) env left r → Runs (otherwiseRun im limit other) env left r
-    else-conditional r e q = run-as (otherwiseRun im limit other) (statementRun im other) env left r (subst (ElseIs im limit other) e h .1) q
+    pub else-conditional : (s : ℕ) (r : Ran) → form ≡ else.Conditional s → Runs (statementRun im s) env left r → Runs (otherwiseRun im limit other) env left r
+    else-conditional s r e q = run-as (otherwiseRun im limit other) (statementRun im s) env left r (subst (ElseIs im limit other) e h .1) q
 
     pub else-missing : form ≡ else.Missing → Held env → Runs (otherwiseRun im limit other) env left (record { flow = Onward; env = env; left = left })
     else-missing e k = idle (otherwiseRun im limit other) env left Onward (subst (ElseIs im limit other) e h) k
 
   module _ (s : ℕ) (form : CompoundForm) (h : CompoundIs im s form) where
-    abbrev Conditional : ℕ → ℕ → Type 0
+    abbrev Conditional : ℕ → Optional → Type 0
     Conditional b other = form ≡ compound.Conditional b other
 
-    unfolds : (b other : ℕ) (r : Ran) → Conditional b other → Runs (branchRun im s b) env left r
+    unfolds : (b : ℕ) (other : Optional) (r : Ran) → Conditional b other → Runs (branchRun im s b) env left r
         → statementRun im s (bounds env) left ≡ andThen (resultOf (r .flow) (bounds (r .env)) (r .left)) (orElse (otherwiseRun im s other))
     unfolds b other r e q =
         run-then (statementRun im s) (branchRun im s b) (orElse (otherwiseRun im s other)) env left r (subst (CompoundIs im s) e h) q
 
-    pub statement-otherwise : (b other : ℕ) (r q : Ran) → Conditional b other → Runs (branchRun im s b) env left r → r .flow ≡ Skipped
+    pub statement-otherwise : (b : ℕ) (other : Optional) (r q : Ran) → Conditional b other → Runs (branchRun im s b) env left r → r .flow ≡ Skipped
         → Runs (otherwiseRun im s other) (r .env) (r .left) q → Runs (statementRun im s) env left q
     statement-otherwise b other r q e k f o =
         record {
@@ -103,7 +103,7 @@ module _ (im : Image) (env : Env) (left : ℕ) where
           held = o .held;
         }
 
-    pub statement-branch : (b other : ℕ) (r : Ran) → Conditional b other → Runs (branchRun im s b) env left r → unskipped (r .flow) ≡ r .flow
+    pub statement-branch : (b : ℕ) (other : Optional) (r : Ran) → Conditional b other → Runs (branchRun im s b) env left r → unskipped (r .flow) ≡ r .flow
         → Runs (statementRun im s) env left r
     statement-branch b other r e k u =
         record { does = go (r .flow) u ∙ sym (unfolds b other r e k); less = k .less; held = k .held }
@@ -115,9 +115,9 @@ module _ (im : Image) (env : Env) (left : ℕ) where
         go Skipped d = absurd (subst IsOnward d tt)
         go (Over o) d = refl
 
-    pub statement-loop : (conditional : Bool) (n : ℕ) (list : Interval) (r : Ran) → form ≡ compound.Loop conditional n list
-        → Runs (listRun im s false true conditional n list) env left r → Runs (statementRun im s) env left r
-    statement-loop conditional n list r e q = run-as (statementRun im s) _ env left r (subst (CompoundIs im s) e h) q
+    pub statement-loop : (n : Optional) (list : Interval) (r : Ran) → form ≡ compound.Loop n list
+        → Runs (listRun im s false true n list) env left r → Runs (statementRun im s) env left r
+    statement-loop n list r e q = run-as (statementRun im s) _ env left r (subst (CompoundIs im s) e h) q
 
     pub statement-missing : form ≡ compound.Missing → Held env → Runs (statementRun im s) env left (record { flow = Over (Fault 1); env = env; left = left })
     statement-missing e k = idle (statementRun im s) env left (Over (Fault 1)) (subst (CompoundIs im s) e h) k

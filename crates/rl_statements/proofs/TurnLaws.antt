@@ -7,9 +7,10 @@ use mathlib.Core.Option.{Option, none, some}
 use native.Mathlib.Omega.{arith}
 use lib.ListN.{length}
 use Rattle.rl_spec.specs.declared.Interval.{Interval}
+use Rattle.rl_spec.specs.declared.Optional.{Optional}
 use Rattle.rl_spec.specs.declared.Outcome.the-variants.{Spent}
 use Rattle.rl_spec.specs.Image.{Image, textOf}
-use Rattle.rl_spec.specs.Tree.{Expr}
+use Rattle.rl_spec.specs.Tree.{Expr, optionalTree}
 use Rattle.rl_spec.specs.Statement.{Body}
 use Rattle.rl_spec.specs.Run as run
 use Rattle.rl_spec.specs.Run.{Result, got, ended, Run, andThen, leaving, scoped}
@@ -20,7 +21,7 @@ use Rattle.rl_machine.specs.declared.types.Flow.{Flow}
 use Rattle.rl_machine.specs.declared.types.Flow.the-variants.{Onward, Breaks, Continues, Skipped, Over}
 use Rattle.rl_machine.specs.declared.types.State.{State}
 use Rattle.rl_machine.specs.declared.types.State.the-variants.{Ends}
-use Rattle.rl_machine.specs.Machine.{resultOf, flows, guarded, conditionIf, tested, Room, Low, Means}
+use Rattle.rl_machine.specs.Machine.{resultOf, flows, guarded, tested, Room, Low, Means}
 use Rattle.rl_statements.specs.declared.types.Env.{Env}
 use Rattle.rl_statements.specs.declared.types.Waiting.{Waiting}
 use Rattle.rl_statements.specs.declared.types.Turn.{Turn}
@@ -123,16 +124,16 @@ all-of n = omega arith
 unchanged : (e : Env) (n : ℕ) → leaving (e .len) (got Onward (bounds e) n) ≡ got Onward (bounds e) n
 unchanged e n = ap (λ env. got Onward env n) (bounds-left (e .slots) (e .len) (e .len) ∙ ap (boundsIn (e .slots)) (all-of (e .len)))
 
-pub loop-first : (conditional : Bool) (condition : ℕ) → BeginsList true conditional condition (Ends Onward)
-loop-first conditional condition im rest k e n = ap (turned im true (conditionIf im conditional condition) rest) (unchanged e n)
+pub loop-first : (condition : Optional) → BeginsList true condition (Ends Onward)
+loop-first condition im rest k e n = ap (turned im true (optionalTree im condition) rest) (unchanged e n)
 
-pub list-first : (conditional : Bool) (condition : ℕ) (st : State)
-    → ((im : Image) → Means im st (λ base rest k. guarded im (conditionIf im conditional condition) rest)) → BeginsList false conditional condition st
-list-first conditional condition st m im rest k e n = m im (e .len) rest k (bounds e) n
+pub list-first : (condition : Optional) (st : State)
+    → ((im : Image) → Means im st (λ base rest k. guarded im (optionalTree im condition) rest)) → BeginsList false condition st
+list-first condition st m im rest k e n = m im (e .len) rest k (bounds e) n
 
-module _ (im : Image) (whole : Result ℕ Flow) (bound : ℕ) (outermost : Bool) (list : Interval) (budget : ℕ) (looping conditional : Bool) (condition : ℕ) where
+module _ (im : Image) (whole : Result ℕ Flow) (bound : ℕ) (outermost : Bool) (list : Interval) (budget : ℕ) (looping : Bool) (condition : Optional) where
   abbrev c : Option (Expr ℕ)
-  c = conditionIf im conditional condition
+  c = optionalTree im condition
 
   abbrev b : Body ℕ
   b = listLeft im bound outermost list 0
@@ -140,8 +141,8 @@ module _ (im : Image) (whole : Result ℕ Flow) (bound : ℕ) (outermost : Bool)
   abbrev At : Env → ℕ → ℕ → ℕ → List Waiting → ℕ → State → Type 0
   At e left base done fs top st = Stands im (turned im looping c b) whole bound outermost list budget e left base done fs top st
 
-  pub list-begins : (e : Env) (fs : List Waiting) (st : State) → whole ≡ listRun im bound outermost looping conditional condition list (bounds e) budget
-      → BeginsList looping conditional condition st → ((im : Image) (bound : ℕ) → Low im → Room im bound 0 st) → Low im → Held e → length fs ≡ 69 → At e budget (e .len) 0 fs 0 st
+  pub list-begins : (e : Env) (fs : List Waiting) (st : State) → whole ≡ listRun im bound outermost looping condition list (bounds e) budget
+      → BeginsList looping condition st → ((im : Image) (bound : ℕ) → Low im → Room im bound 0 st) → Low im → Held e → length fs ≡ 69 → At e budget (e .len) 0 fs 0 st
   unfolding FramesRoom
   list-begins e fs st w m r l f z =
       record {
@@ -190,7 +191,7 @@ module _ (im : Image) (whole : Result ℕ Flow) (bound : ℕ) (outermost : Bool)
         h = subst (λ x. At e left base done fs top x) e₀ h₀
 
     pub turns-again : (st : State) → (st₀ : State) → At e left base done fs top st₀ → st₀ ≡ (Ends f) → turnAfter looping f ≡ Again → (left ≡ 0 → ⊥)
-        → ((im : Image) → Means im st (λ base rest k. guarded im (conditionIf im conditional condition) rest)) → ((im : Image) (bound : ℕ) → Low im → Room im bound 0 st) → Low im → At (closing e len) (left - 1) base 0 fs 0 st
+        → ((im : Image) → Means im st (λ base rest k. guarded im (optionalTree im condition) rest)) → ((im : Image) (bound : ℕ) → Low im → Room im bound 0 st) → Low im → At (closing e len) (left - 1) base 0 fs 0 st
     unfolding FramesRoom
     turns-again st st₀ h₀ e₀ t p m r l =
         record {

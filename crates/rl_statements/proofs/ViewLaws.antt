@@ -1,24 +1,24 @@
 -- Statements that hold statements: what their parts come to; and how a turn ends. Assumes nothing.
 use Prim.Native.Nat.{ℕ, _+_, _-_, _<_, _≤_}
 use mathlib.Core.Path.{_≡_, refl, ap, _∙_, sym, subst}
-use mathlib.Core.Bool.{Bool, true, false, not, cond}
+use mathlib.Core.Bool.{Bool, true, false}
 use mathlib.Core.List.{List, [], _∷_}
 use mathlib.Core.Option.{none, some}
 use native.Mathlib.Omega.{arith}
-use lib.Dec.{eqb}
 use lib.ListN.{length, drop}
 use types.Run.{OneOf, miss}
 use denote.Enum.Declared.{tagOf}
-use borrow.Author.Tests.{eq-eqb, ne-eqb}
 use Rattle.rl_spec.specs.declared.Counts.{Counts}
 use Rattle.rl_spec.specs.declared.Interval.{Interval}
+use Rattle.rl_spec.specs.declared.Optional.{Optional}
+use Rattle.rl_spec.specs.declared.Optional.the-variants.{None, Some}
 use Rattle.rl_spec.specs.declared.Outcome.{Outcome}
 use Rattle.rl_spec.specs.declared.StatementForm.{StatementForm}
 use Rattle.rl_spec.specs.declared.StatementForm.the-variants as form
 use Rattle.rl_spec.proofs.StatementForm as forms
 use Rattle.rl_spec.specs.Image.{Image, textOf}
 use Rattle.rl_spec.specs.Found.{imageFound}
-use Rattle.rl_spec.specs.Tree.{exprTree}
+use Rattle.rl_spec.specs.Tree.{exprTree, optionalTree}
 use Rattle.rl_spec.specs.Statement.{otherStatement, Body, nil, Branch, branch, Else, noElse, Item, aStatement, asStatement, asBranch, asElse, bodyBy, elseBy, statementOf, itemBy, itemTree}
 use Rattle.rl_spec.specs.Run.{Env, Result, got, ended, Run, andThen, give, leaving, scoped}
 use Rattle.rl_spec.specs.Reading as reading
@@ -27,7 +27,7 @@ use Rattle.rl_laws.specs.Descend.{item-is, under-earlier, under-later}
 use Rattle.rl_machine.specs.declared.types.Flow.{Flow}
 use Rattle.rl_machine.specs.declared.types.Flow.the-variants.{Onward, Breaks, Continues, Skipped, Over}
 use Rattle.rl_machine.proofs.types.Flow as flow
-use Rattle.rl_machine.specs.Machine.{resultOf, flows, bodyRun, tested, guarded, compound, conditionIf, itemUnder}
+use Rattle.rl_machine.specs.Machine.{resultOf, flows, bodyRun, tested, guarded, compound, itemUnder}
 use Rattle.rl_statements.specs.declared.types.BranchForm.{BranchForm}
 use Rattle.rl_statements.specs.declared.types.BranchForm.the-variants as branches
 use Rattle.rl_statements.specs.declared.types.ElseForm.{ElseForm}
@@ -61,10 +61,6 @@ less-none n = omega arith
 whole-list : (im : Image) (b : ℕ) (list : Interval) → bodyLeft im b list 0 ≡ bodyBy im (itemUnder im b) list
 whole-list im b list = rw (plus-none (list .first), less-none (list .count)) refl
 
-condition-told : (im : Image) (n : ℕ) (t : Bool) → cond t none (some (exprTree im n)) ≡ conditionIf im (not t) n
-condition-told im n true = refl
-condition-told im n false = refl
-
 -- ---- a branch
 
 all-less : (n : ℕ) → n - n ≡ 0
@@ -92,8 +88,7 @@ module _ (im : Image) (limit b : ℕ) where
   branch-is (form.Branch n list) h e = (
     h,
     λ env m. ap (λ i. branchIn im i env m) (item-at im limit b (form.Branch n list) h e)
-        ∙ ap (λ c. guarded im c (bodyBy im (itemUnder im b) list) env m) (condition-told im n (eqb n 65535))
-        ∙ ap (λ k. guarded im (conditionIf im (not (eqb n 65535)) n) k env m) (sym (whole-list im b list)),
+        ∙ ap (λ k. guarded im (optionalTree im n) k env m) (sym (whole-list im b list)),
   )
   branch-is (form.While n list) h e = no-branch _ (item-at im limit b _ h e) refl
   branch-is (form.Loop list) h e = no-branch _ (item-at im limit b _ h e) refl
@@ -135,7 +130,7 @@ unskips (ended o n) = refl
 
 -- ---- what stands behind a branch
 
-module _ (im : Image) (limit other : ℕ) where
+module _ (im : Image) (limit : ℕ) (other : Optional) where
   abbrev elseIn : Else ℕ → Run ℕ Flow
   elseIn x env n = flows (reading.orElse (textOf im) plainly x env n)
 
@@ -143,30 +138,30 @@ module _ (im : Image) (limit other : ℕ) where
   unfolding reading.orElse
   no-else e env n = ap (λ x. elseIn x env n) e
 
-  else-some : (i : Item ℕ) → (other ≡ 65535 → ⊥) → itemUnder im limit other ≡ i → elseBy (itemUnder im limit) other ≡ asElse i
-  else-some i h e = ap (λ t. cond t noElse (asElse (itemUnder im limit other))) (ne-eqb other 65535 h) ∙ ap asElse e
+  else-some : (s : ℕ) (i : Item ℕ) → other ≡ Some s → itemUnder im limit s ≡ i → elseBy (itemUnder im limit) other ≡ asElse i
+  else-some s i h e = ap (elseBy (itemUnder im limit)) h ∙ ap asElse e
 
-  else-is : (x : StatementForm) → (other ≡ 65535 → ⊥) → other < limit → statementOf im other ≡ x → ElseIs im limit other (elseOf x)
+  else-is : (x : StatementForm) (s : ℕ) → other ≡ Some s → s < limit → statementOf im s ≡ x → ElseIs im limit other (elseOf x s)
   unfolding reading.orElse stmt
-  else-is (form.Declaration y n) g h e = no-else (else-some _ g (item-at im limit other _ h e))
-  else-is (form.Expression n) g h e = no-else (else-some _ g (item-at im limit other _ h e))
-  else-is (form.Return n) g h e = no-else (else-some _ g (item-at im limit other _ h e))
-  else-is form.ReturnAlone g h e = no-else (else-some _ g (item-at im limit other _ h e))
-  else-is (form.Conditional c o) g h e = (
+  else-is (form.Declaration y n) s g h e = no-else (else-some s _ g (item-at im limit s _ h e))
+  else-is (form.Expression n) s g h e = no-else (else-some s _ g (item-at im limit s _ h e))
+  else-is (form.Return n) s g h e = no-else (else-some s _ g (item-at im limit s _ h e))
+  else-is form.ReturnAlone s g h e = no-else (else-some s _ g (item-at im limit s _ h e))
+  else-is (form.Conditional c o) s g h e = (
     h,
-    λ env n. ap (λ x. elseIn x env n) (else-some _ g (item-at im limit other _ h e))
-        ∙ sym (ap (λ s. compound im s env n) (statement-at im other (form.Conditional c o) e)),
+    λ env n. ap (λ x. elseIn x env n) (else-some s _ g (item-at im limit s _ h e))
+        ∙ sym (ap (λ y. compound im y env n) (statement-at im s (form.Conditional c o) e)),
   )
-  else-is (form.Branch c list) g h e =
-      λ env n. ap (λ x. elseIn x env n) (else-some _ g (item-at im limit other (form.Branch c list) h e))
-      ∙ branch-or im (give reading.onward) (asBranch (itemBy im (form.Branch c list) (itemUnder im other))) env n
-      ∙ unskips (branchIn im (itemBy im (form.Branch c list) (itemUnder im other)) env n)
-      ∙ sym (ap (λ i. andThen (branchIn im i env n) (λ f. resultOf (unskipped f))) (item-at im limit other (form.Branch c list) h e))
-  else-is (form.While n list) g h e = no-else (else-some _ g (item-at im limit other _ h e))
-  else-is (form.Loop list) g h e = no-else (else-some _ g (item-at im limit other _ h e))
-  else-is form.Break g h e = no-else (else-some _ g (item-at im limit other _ h e))
-  else-is form.Continue g h e = no-else (else-some _ g (item-at im limit other _ h e))
-  else-is form.Other g h e = no-else (else-some _ g (item-at im limit other _ h e))
+  else-is (form.Branch c list) s g h e =
+      λ env n. ap (λ x. elseIn x env n) (else-some s _ g (item-at im limit s (form.Branch c list) h e))
+      ∙ branch-or im (give reading.onward) (asBranch (itemBy im (form.Branch c list) (itemUnder im s))) env n
+      ∙ unskips (branchIn im (itemBy im (form.Branch c list) (itemUnder im s)) env n)
+      ∙ sym (ap (λ i. andThen (branchIn im i env n) (λ f. resultOf (unskipped f))) (item-at im limit s (form.Branch c list) h e))
+  else-is (form.While n list) s g h e = no-else (else-some s _ g (item-at im limit s _ h e))
+  else-is (form.Loop list) s g h e = no-else (else-some s _ g (item-at im limit s _ h e))
+  else-is form.Break s g h e = no-else (else-some s _ g (item-at im limit s _ h e))
+  else-is form.Continue s g h e = no-else (else-some s _ g (item-at im limit s _ h e))
+  else-is form.Other s g h e = no-else (else-some s _ g (item-at im limit s _ h e))
 
 -- ---- a statement that holds statements
 
@@ -206,14 +201,15 @@ module _ (b p : List ℕ) (c : Counts) where
   pub branch-view : (limit i : ℕ) (x : StatementForm) (r : BranchForm) → i < limit → x ≡ statementOf here i → r ≡ branchOf x → BranchIs here limit i r
   branch-view limit i x r h e f = subst (BranchIs here limit i) (sym f) (branch-is here limit i x h (sym e))
 
-  pub no-other : (limit i : ℕ) → i ≡ 65535 → ElseIs here limit i elses.Missing
-  no-other limit i e = no-else here limit i (ap (λ t. cond t noElse (asElse (itemUnder here limit i))) (eq-eqb i 65535 e))
+  module _ (limit : ℕ) (other : Optional) where
+    pub no-other : other ≡ None → ElseIs here limit other elses.Missing
+    no-other e = no-else here limit other (ap (elseBy (itemUnder here limit)) e)
 
-  pub other-late : (limit i : ℕ) → (i ≡ 65535 → ⊥) → limit ≤ i → ElseIs here limit i elses.Missing
-  other-late limit i g h = no-else here limit i (else-some here limit i none-item g (under-later (λ _. none-item) (itemTree here) limit i h))
+    pub other-late : (s : ℕ) → other ≡ Some s → limit ≤ s → ElseIs here limit other elses.Missing
+    other-late s g h = no-else here limit other (else-some here limit other s none-item g (under-later (λ _. none-item) (itemTree here) limit s h))
 
-  pub else-view : (limit i : ℕ) (x : StatementForm) (r : ElseForm) → (i ≡ 65535 → ⊥) → i < limit → x ≡ statementOf here i → r ≡ elseOf x → ElseIs here limit i r
-  else-view limit i x r g h e f = subst (ElseIs here limit i) (sym f) (else-is here limit i x g h (sym e))
+    pub else-view : (s : ℕ) (x : StatementForm) (r : ElseForm) → other ≡ Some s → s < limit → x ≡ statementOf here s → r ≡ elseOf x s → ElseIs here limit other r
+    else-view s x r g h e f = subst (ElseIs here limit other) (sym f) (else-is here limit other x s g h (sym e))
 
   pub compound-view : (s : ℕ) (x : StatementForm) (r : CompoundForm) → x ≡ statementOf here s → r ≡ compoundOf x → CompoundIs here s r
   compound-view s x r e f = subst (CompoundIs here s) (sym f) (compound-is here s x (sym e))
@@ -221,16 +217,22 @@ module _ (b p : List ℕ) (c : Counts) where
 -- ---- the forms of a view
 
 module _ (x : StatementForm) where
-  pub branch-form : (n : ℕ) (list : Interval) → x ≡ form.Branch n list → branches.Branch n list ≡ branchOf x
+  pub branch-form : (n : Optional) (list : Interval) → x ≡ form.Branch n list → branches.Branch n list ≡ branchOf x
   branch-form n list e = ap branchOf (sym e)
 
-  pub compound-conditional : (b o : ℕ) → x ≡ form.Conditional b o → compounds.Conditional b o ≡ compoundOf x
+  pub compound-conditional : (b : ℕ) (o : Optional) → x ≡ form.Conditional b o → compounds.Conditional b o ≡ compoundOf x
   compound-conditional b o e = ap compoundOf (sym e)
 
-  pub compound-while : (n : ℕ) (list : Interval) → x ≡ form.While n list → compounds.Loop true n list ≡ compoundOf x
+  pub else-branch-form : (s : ℕ) (n : Optional) (list : Interval) → x ≡ form.Branch n list → elses.Branch s ≡ elseOf x s
+  else-branch-form s n list e = ap (λ y. elseOf y s) (sym e)
+
+  pub else-conditional-form : (s b : ℕ) (o : Optional) → x ≡ form.Conditional b o → elses.Conditional s ≡ elseOf x s
+  else-conditional-form s b o e = ap (λ y. elseOf y s) (sym e)
+
+  pub compound-while : (n : ℕ) (list : Interval) → x ≡ form.While n list → compounds.Loop (Some n) list ≡ compoundOf x
   compound-while n list e = ap compoundOf (sym e)
 
-  pub compound-loop : (list : Interval) → x ≡ form.Loop list → compounds.Loop false 0 list ≡ compoundOf x
+  pub compound-loop : (list : Interval) → x ≡ form.Loop list → compounds.Loop None list ≡ compoundOf x
   compound-loop list e = ap compoundOf (sym e)
 
 -- every form but a branch
@@ -248,18 +250,18 @@ not-branch form.Continue h = refl
 not-branch form.Other h = refl
 
 -- every form but a branch and a conditional
-pub not-else : (x : StatementForm) → OneOf (0 ∷ 1 ∷ 2 ∷ 3 ∷ 6 ∷ 7 ∷ 8 ∷ 9 ∷ 10 ∷ []) (tagOf forms.the-type x) → elses.Missing ≡ elseOf x
-not-else (form.Declaration y n) h = refl
-not-else (form.Expression n) h = refl
-not-else (form.Return n) h = refl
-not-else form.ReturnAlone h = refl
-not-else (form.Conditional b o) h = absurd (miss (0 ∷ 1 ∷ 2 ∷ 3 ∷ 6 ∷ 7 ∷ 8 ∷ 9 ∷ 10 ∷ []) 4 tt h)
-not-else (form.Branch n list) h = absurd (miss (0 ∷ 1 ∷ 2 ∷ 3 ∷ 6 ∷ 7 ∷ 8 ∷ 9 ∷ 10 ∷ []) 5 tt h)
-not-else (form.While n list) h = refl
-not-else (form.Loop list) h = refl
-not-else form.Break h = refl
-not-else form.Continue h = refl
-not-else form.Other h = refl
+pub not-else : (x : StatementForm) (s : ℕ) → OneOf (0 ∷ 1 ∷ 2 ∷ 3 ∷ 6 ∷ 7 ∷ 8 ∷ 9 ∷ 10 ∷ []) (tagOf forms.the-type x) → elses.Missing ≡ elseOf x s
+not-else (form.Declaration y n) s h = refl
+not-else (form.Expression n) s h = refl
+not-else (form.Return n) s h = refl
+not-else form.ReturnAlone s h = refl
+not-else (form.Conditional b o) s h = absurd (miss (0 ∷ 1 ∷ 2 ∷ 3 ∷ 6 ∷ 7 ∷ 8 ∷ 9 ∷ 10 ∷ []) 4 tt h)
+not-else (form.Branch n list) s h = absurd (miss (0 ∷ 1 ∷ 2 ∷ 3 ∷ 6 ∷ 7 ∷ 8 ∷ 9 ∷ 10 ∷ []) 5 tt h)
+not-else (form.While n list) s h = refl
+not-else (form.Loop list) s h = refl
+not-else form.Break s h = refl
+not-else form.Continue s h = refl
+not-else form.Other s h = refl
 
 -- every form but a conditional and a loop
 pub not-compound : (x : StatementForm) → OneOf (0 ∷ 1 ∷ 2 ∷ 3 ∷ 5 ∷ 8 ∷ 9 ∷ 10 ∷ []) (tagOf forms.the-type x) → compounds.Missing ≡ compoundOf x

@@ -6,8 +6,9 @@ use mathlib.Core.List.{List, map}
 use mathlib.Core.Option.{Option, none, some}
 use lib.ListN.{length, getD}
 use Rattle.rl_spec.specs.declared.Interval.{Interval}
+use Rattle.rl_spec.specs.declared.Optional.{Optional}
 use Rattle.rl_spec.specs.Image.{Image, entryOf, textOf}
-use Rattle.rl_spec.specs.Tree.{Expr}
+use Rattle.rl_spec.specs.Tree.{Expr, optionalTree}
 use Rattle.rl_spec.specs.Statement.{Body, nil, _▸_, Branch, branch, asStatement, asBranch, bodyFrom, elseBy, itemTree}
 use Rattle.rl_spec.specs.Ranges.{upFrom}
 use Rattle.rl_spec.specs.Run as run
@@ -19,7 +20,7 @@ use Rattle.rl_machine.specs.declared.types.Flow.{Flow}
 use Rattle.rl_machine.specs.declared.types.Flow.the-variants.{Onward, Breaks, Continues, Skipped, Over}
 use Rattle.rl_machine.specs.declared.types.Frame.the-variants.{Test}
 use Rattle.rl_machine.specs.declared.types.State.{State}
-use Rattle.rl_machine.specs.Machine.{outcomeOf, resultOf, flows, itemUnder, lastAs, compound, guarded, conditionIf, byFrame, meaning, FrameRoom, Room, Low, weight}
+use Rattle.rl_machine.specs.Machine.{outcomeOf, resultOf, flows, itemUnder, lastAs, compound, guarded, byFrame, meaning, FrameRoom, Room, Low, weight}
 use Rattle.rl_statements.specs.declared.types.Env.{Env}
 use Rattle.rl_statements.specs.declared.types.Ran.{Ran}
 use Rattle.rl_statements.specs.declared.types.Waiting.{Waiting}
@@ -75,9 +76,9 @@ abbrev pub runOf : Image → Bool → Option (Expr ℕ) → Body ℕ → Run ℕ
 runOf im false c b = guarded im c b
 runOf im true c b = λ env n. flows (loopRest im c b env n)
 
-abbrev pub listRun : Image → ℕ → Bool → Bool → Bool → ℕ → Interval → Run ℕ Flow
-listRun im bound outermost looping conditional condition list =
-    runOf im looping (conditionIf im conditional condition) (listLeft im bound outermost list 0)
+abbrev pub listRun : Image → ℕ → Bool → Bool → Optional → Interval → Run ℕ Flow
+listRun im bound outermost looping condition list =
+    runOf im looping (optionalTree im condition) (listLeft im bound outermost list 0)
 
 abbrev pub statementRun : Image → ℕ → Run ℕ Flow
 statementRun im s = compound im (asStatement (itemTree im s))
@@ -88,7 +89,7 @@ branchOf im (branch c b) = guarded im c b
 abbrev pub branchRun : Image → ℕ → ℕ → Run ℕ Flow
 branchRun im limit b = branchOf im (asBranch (itemUnder im limit b))
 
-abbrev pub otherwiseRun : Image → ℕ → ℕ → Run ℕ Flow
+abbrev pub otherwiseRun : Image → ℕ → Optional → Run ℕ Flow
 otherwiseRun im limit other env n = flows (orElse (textOf im) plainly (elseBy (itemUnder im limit) other) env n)
 
 -- a skipped branch is over
@@ -111,11 +112,11 @@ turnAfter true (Over o) = Finish (Over o)
 -- ---- the promises
 
 -- what a list begins with comes to its run
-abbrev pub BeginsList : Bool → Bool → ℕ → State → Type 0
-BeginsList looping conditional condition st =
+abbrev pub BeginsList : Bool → Optional → State → Type 0
+BeginsList looping condition st =
     (im : Image) (rest : Body ℕ) (k : run.Value ℕ → Run ℕ Flow) (e : Env) (n : ℕ)
-    → turned im looping (conditionIf im conditional condition) rest (meaning im (e .len) rest st k (bounds e) n)
-    ≡ runOf im looping (conditionIf im conditional condition) rest (bounds e) n
+    → turned im looping (optionalTree im condition) rest (meaning im (e .len) rest st k (bounds e) n)
+    ≡ runOf im looping (optionalTree im condition) rest (bounds e) n
 
 -- what a run leans on: no tree is too high for the frames, and names are compared by classes
 pub record Sound (im : Image) (classes : List ℕ) : Type 0 where
@@ -154,10 +155,10 @@ pub record Stands (im : Image) (follow : Result ℕ Flow → Result ℕ Flow) (w
   pub within : done ≤ list .count
 
 -- where a list of an image stands that began with the bindings env
-abbrev pub Listing : Image → ℕ → Bool → Bool → Bool → ℕ → Interval → ℕ → Env → Env → ℕ → ℕ → ℕ → List Waiting → ℕ → State → Type 0
-Listing im bound outermost looping conditional condition list budget env e left base done fs top st =
-    Stands im (turned im looping (conditionIf im conditional condition) (listLeft im bound outermost list 0))
-    (listRun im bound outermost looping conditional condition list (bounds env) budget)
+abbrev pub Listing : Image → ℕ → Bool → Bool → Optional → Interval → ℕ → Env → Env → ℕ → ℕ → ℕ → List Waiting → ℕ → State → Type 0
+Listing im bound outermost looping condition list budget env e left base done fs top st =
+    Stands im (turned im looping (optionalTree im condition) (listLeft im bound outermost list 0))
+    (listRun im bound outermost looping condition list (bounds env) budget)
     bound outermost list budget e left base done fs top st
 
 -- falls with each step of the machine

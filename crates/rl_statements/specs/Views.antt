@@ -1,8 +1,9 @@
 -- Statements that hold statements, by their parts, and what these say. Assumes nothing.
 use Prim.Native.Nat.{ℕ, _<_}
 use mathlib.Core.Path.{_≡_}
-use mathlib.Core.Bool.{true, false, not}
-use lib.Dec.{eqb}
+use mathlib.Core.Bool.{true, false}
+use Rattle.rl_spec.specs.declared.Optional.{Optional}
+use Rattle.rl_spec.specs.declared.Optional.the-variants.{None, Some}
 use Rattle.rl_spec.specs.declared.StatementForm.{StatementForm}
 use Rattle.rl_spec.specs.declared.StatementForm.the-variants as form
 use Rattle.rl_spec.specs.declared.Outcome.the-variants.{Fault}
@@ -32,18 +33,18 @@ branchOf form.Break = branch.Missing
 branchOf form.Continue = branch.Missing
 branchOf form.Other = branch.Missing
 
-abbrev pub elseOf : StatementForm → ElseForm
-elseOf (form.Declaration x n) = else.Missing
-elseOf (form.Expression n) = else.Missing
-elseOf (form.Return n) = else.Missing
-elseOf form.ReturnAlone = else.Missing
-elseOf (form.Conditional b e) = else.Conditional
-elseOf (form.Branch n list) = else.Branch
-elseOf (form.While n list) = else.Missing
-elseOf (form.Loop list) = else.Missing
-elseOf form.Break = else.Missing
-elseOf form.Continue = else.Missing
-elseOf form.Other = else.Missing
+abbrev pub elseOf : StatementForm → ℕ → ElseForm
+elseOf (form.Declaration x n) s = else.Missing
+elseOf (form.Expression n) s = else.Missing
+elseOf (form.Return n) s = else.Missing
+elseOf form.ReturnAlone s = else.Missing
+elseOf (form.Conditional b e) s = else.Conditional s
+elseOf (form.Branch n list) s = else.Branch s
+elseOf (form.While n list) s = else.Missing
+elseOf (form.Loop list) s = else.Missing
+elseOf form.Break s = else.Missing
+elseOf form.Continue s = else.Missing
+elseOf form.Other s = else.Missing
 
 abbrev pub compoundOf : StatementForm → CompoundForm
 compoundOf (form.Declaration x n) = compound.Missing
@@ -52,8 +53,8 @@ compoundOf (form.Return n) = compound.Missing
 compoundOf form.ReturnAlone = compound.Missing
 compoundOf (form.Conditional b e) = compound.Conditional b e
 compoundOf (form.Branch n list) = compound.Missing
-compoundOf (form.While n list) = compound.Loop true n list
-compoundOf (form.Loop list) = compound.Loop false 0 list
+compoundOf (form.While n list) = compound.Loop (Some n) list
+compoundOf (form.Loop list) = compound.Loop None list
 compoundOf form.Break = compound.Missing
 compoundOf form.Continue = compound.Missing
 compoundOf form.Other = compound.Missing
@@ -72,16 +73,16 @@ orElse k (Over o) = resultOf (Over o)
 
 -- the branch at b: a list below b
 abbrev pub BranchIs : Image → ℕ → ℕ → BranchForm → Type 0
-BranchIs im limit b (branch.Branch n list) = (b < limit) × Alike (branchRun im limit b) (listRun im b false false (not (eqb n 65535)) n list)
+BranchIs im limit b (branch.Branch n list) = (b < limit) × Alike (branchRun im limit b) (listRun im b false false n list)
 BranchIs im limit b branch.Missing = Alike (branchRun im limit b) (resultOf Onward)
 
-abbrev pub ElseIs : Image → ℕ → ℕ → ElseForm → Type 0
-ElseIs im limit other else.Branch = Alike (otherwiseRun im limit other) (λ env n. andThen (branchRun im limit other env n) (λ f. resultOf (unskipped f)))
-ElseIs im limit other else.Conditional = (other < limit) × Alike (otherwiseRun im limit other) (statementRun im other)
+abbrev pub ElseIs : Image → ℕ → Optional → ElseForm → Type 0
+ElseIs im limit other (else.Branch s) = Alike (otherwiseRun im limit other) (λ env n. andThen (branchRun im limit s env n) (λ f. resultOf (unskipped f)))
+ElseIs im limit other (else.Conditional s) = (s < limit) × Alike (otherwiseRun im limit other) (statementRun im s)
 ElseIs im limit other else.Missing = Alike (otherwiseRun im limit other) (resultOf Onward)
 
 abbrev pub CompoundIs : Image → ℕ → CompoundForm → Type 0
 CompoundIs im s (compound.Conditional b other) =
     Alike (statementRun im s) (λ env n. andThen (branchRun im s b env n) (orElse (otherwiseRun im s other)))
-CompoundIs im s (compound.Loop conditional n list) = Alike (statementRun im s) (listRun im s false true conditional n list)
+CompoundIs im s (compound.Loop n list) = Alike (statementRun im s) (listRun im s false true n list)
 CompoundIs im s compound.Missing = Alike (statementRun im s) (resultOf (Over (Fault 1)))

@@ -23,6 +23,7 @@ use rl_machine::resumed;
 use rl_records::entry_at;
 use rl_spec::Counts;
 use rl_spec::Interval;
+use rl_spec::Optional;
 use rl_spec::Outcome;
 use rl_spec::Value;
 use rl_words::value_of_words;
@@ -75,14 +76,14 @@ fn is_last(outermost: bool, done: u32, count: u32) -> bool
 }
 
 // What a list begins with: of a loop with a turn.
-fn first_state(looping: bool, conditional: bool, condition: u16) -> State
-    ensures { λ r. ⌜ BeginsList looping conditional condition r ⌝ }
+fn first_state(looping: bool, condition: Optional) -> State
+    ensures { λ r. ⌜ BeginsList looping condition r ⌝ }
     ensures { λ r. ⌜ ((im : Image) (bound : ℕ) → Low im → Room im bound 0 r) ⌝ }
 {
     if looping {
         return State::Ends(Flow::Onward);
     }
-    condition_first(conditional, condition)
+    condition_first(condition)
 }
 
 // After a turn: another one, or the end.
@@ -121,15 +122,14 @@ pub fn list(
     bound: u32,
     outermost: bool,
     looping: bool,
-    conditional: bool,
-    condition: u16,
+    condition: Optional,
     body: Interval,
     env: Env,
     budget: u32,
 ) -> Ran
     requires { ⌜ Sound (imageFound (now image) (now starts) counts) (now classes) ⌝ }
     requires { ⌜ Held env ⌝ }
-    ensures { λ r. ⌜ Runs (listRun (imageFound (now (image .entry)) (now (starts .entry)) counts) bound outermost looping conditional condition body) env budget r ⌝ }
+    ensures { λ r. ⌜ Runs (listRun (imageFound (now (image .entry)) (now (starts .entry)) counts) bound outermost looping condition body) env budget r ⌝ }
 {
     let mut e = env;
     let mut left = budget;
@@ -142,7 +142,7 @@ pub fn list(
     };
     let mut frames = [blank; 69];
     let mut top: usize = 0;
-    let mut state = first_state(looping, conditional, condition);
+    let mut state = first_state(looping, condition);
     loop {
         match state {
             State::Next => {
@@ -270,7 +270,7 @@ pub fn list(
                         left = left - 1;
                         done = 0;
                         top = 0;
-                        state = condition_first(conditional, condition);
+                        state = condition_first(condition);
                     }
                 }
             }
@@ -303,7 +303,6 @@ fn branch(
             b as u32,
             false,
             false,
-            condition != 65535,
             condition,
             body,
             env,
@@ -323,7 +322,7 @@ fn otherwise(
     starts: &[u16],
     counts: Counts,
     classes: &[u16],
-    other: u16,
+    other: Optional,
     limit: u16,
     env: Env,
     left: u32,
@@ -334,8 +333,8 @@ fn otherwise(
 {
     let form = else_at(image, starts, counts, other, limit);
     match form {
-        ElseForm::Branch => {
-            let r = branch(image, starts, counts, classes, other, limit, env, left);
+        ElseForm::Branch(s) => {
+            let r = branch(image, starts, counts, classes, s, limit, env, left);
             let f = r.flow;
             let e = r.env;
             Ran {
@@ -344,7 +343,7 @@ fn otherwise(
                 left: r.left,
             }
         }
-        ElseForm::Conditional => statement(image, starts, counts, classes, other, env, left),
+        ElseForm::Conditional(s) => statement(image, starts, counts, classes, s, env, left),
         ElseForm::Missing => Ran {
             flow: Flow::Onward,
             env,
@@ -380,11 +379,7 @@ fn statement(
                 _ => r,
             }
         }
-        CompoundForm::Loop {
-            conditional,
-            condition,
-            body,
-        } => list(
+        CompoundForm::Loop { condition, body } => list(
             image,
             starts,
             counts,
@@ -392,7 +387,6 @@ fn statement(
             s as u32,
             false,
             true,
-            conditional,
             condition,
             body,
             env,

@@ -2,6 +2,7 @@
 use rl_machine::Flow;
 use rl_machine::Frame;
 use rl_spec::Interval;
+use rl_spec::Optional;
 
 // A name, and its value in two words.
 pub struct Binding {
@@ -29,28 +30,21 @@ pub struct Waiting {
 
 // A branch, as the list that it guards.
 pub enum BranchForm {
-    Branch { condition: u16, body: Interval },
+    Branch { condition: Optional, body: Interval },
     Missing,
 }
 
-// What stands behind a branch that is skipped.
+// What stands behind a branch that is skipped, by its index.
 pub enum ElseForm {
-    Branch,
-    Conditional,
+    Branch(u16),
+    Conditional(u16),
     Missing,
 }
 
 // A statement that holds statements.
 pub enum CompoundForm {
-    Conditional {
-        branch: u16,
-        other: u16,
-    },
-    Loop {
-        conditional: bool,
-        condition: u16,
-        body: Interval,
-    },
+    Conditional { branch: u16, other: Optional },
+    Loop { condition: Optional, body: Interval },
     Missing,
 }
 

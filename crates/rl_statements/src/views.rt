@@ -4,6 +4,7 @@ use crate::types::CompoundForm;
 use crate::types::ElseForm;
 use rl_records::statement_at;
 use rl_spec::Counts;
+use rl_spec::Optional;
 use rl_spec::StatementForm;
 ghost use mathlib.Core.Path.{_≡_};
 ghost use Rattle.rl_spec.specs.Found.{imageFound};
@@ -18,12 +19,12 @@ fn branch_of(form: StatementForm) -> BranchForm
     }
 }
 
-fn else_of(form: StatementForm) -> ElseForm
-    ensures { λ r. ⌜ r ≡ elseOf form ⌝ }
+fn else_of(form: StatementForm, s: u16) -> ElseForm
+    ensures { λ r. ⌜ r ≡ elseOf form s ⌝ }
 {
     match form {
-        StatementForm::Branch { condition, body } => ElseForm::Branch,
-        StatementForm::Conditional { branch, other } => ElseForm::Conditional,
+        StatementForm::Branch { condition, body } => ElseForm::Branch(s),
+        StatementForm::Conditional { branch, other } => ElseForm::Conditional(s),
         _ => ElseForm::Missing,
     }
 }
@@ -34,13 +35,11 @@ fn compound_of(form: StatementForm) -> CompoundForm
     match form {
         StatementForm::Conditional { branch, other } => CompoundForm::Conditional { branch, other },
         StatementForm::While { condition, body } => CompoundForm::Loop {
-            conditional: true,
-            condition,
+            condition: Optional::Some(condition),
             body,
         },
         StatementForm::Loop(body) => CompoundForm::Loop {
-            conditional: false,
-            condition: 0,
+            condition: Optional::None,
             body,
         },
         _ => CompoundForm::Missing,
@@ -57,17 +56,23 @@ pub fn branch_at(image: &[u8], starts: &[u16], counts: Counts, b: u16, limit: u1
     branch_of(statement_at(image, starts, counts, b))
 }
 
-// What stands at an index below a limit, 65,535 for none, behind a branch that is skipped.
-pub fn else_at(image: &[u8], starts: &[u16], counts: Counts, other: u16, limit: u16) -> ElseForm
+// What stands, below a limit, behind a branch that is skipped.
+pub fn else_at(
+    image: &[u8],
+    starts: &[u16],
+    counts: Counts,
+    other: Optional,
+    limit: u16,
+) -> ElseForm
     ensures { λ r. ⌜ ElseIs (imageFound (now (image .entry)) (now (starts .entry)) counts) limit other r ⌝ }
 {
-    if other == 65535 {
+    let Optional::Some(s) = other else {
+        return ElseForm::Missing;
+    };
+    if limit <= s {
         return ElseForm::Missing;
     }
-    if limit <= other {
-        return ElseForm::Missing;
-    }
-    else_of(statement_at(image, starts, counts, other))
+    else_of(statement_at(image, starts, counts, s), s)
 }
 
 pub fn compound_at(image: &[u8], starts: &[u16], counts: Counts, s: u16) -> CompoundForm

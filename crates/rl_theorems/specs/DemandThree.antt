@@ -4,8 +4,8 @@
 -- parameters (KeptRuns), and that the run of the lowered bytes is the contract reading of the original (FirstHalf). Second half: what folds
 -- is what a run gives (Folds), checks that fold to false are not passed (FoldsChecks), a report is such a check (FoldsEntry) under names
 -- that the run binds (FoldsNames), so a call with a violation never passes its callee's entry checks (FoldsCalls); what is reported of a
--- call (Reports). From premises of records to those of trees (OverRecords); tests for examples (DepthTests). The marked cases as one list
--- (Marked).
+-- call (Reports) and what a line of the printer says of one (PrintedLines). From premises of records to those of trees (OverRecords); tests
+-- for examples (DepthTests). The marked cases as one list (Marked).
 pub mod LowerAnswers
 pub mod LowerAnswersExamples
 pub mod LoweredBytes
@@ -17,6 +17,7 @@ pub mod FoldsEntry
 pub mod FoldsNames
 pub mod FoldsCalls
 pub mod Reports
+pub mod PrintedLines
 pub mod OverRecords
 pub mod Marked
 pub mod DepthTests

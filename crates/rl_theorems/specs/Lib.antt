@@ -17,4 +17,3 @@ pub mod Answers
 pub mod DemandThree
 -- ---- THE STATEMENTS
 pub mod Theorems
-pub mod MoreTheorems

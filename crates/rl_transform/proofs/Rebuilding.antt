@@ -13,7 +13,9 @@ use Rattle.rl_spec.specs.declared.Counts.{Counts}
 use Rattle.rl_spec.specs.declared.Section.the-variants.{Statements}
 use Rattle.rl_spec.specs.declared.Sort.{Sort}
 use Rattle.rl_spec.specs.Schema.{sortOf, widthOf, fieldsOf}
-use Rattle.rl_spec.specs.Image.{Field, recordOf, fieldIn, fieldsAt}
+use Rattle.rl_spec.specs.declared.Optional.{Optional}
+use Rattle.rl_spec.specs.Ranges.{optionalField}
+use Rattle.rl_spec.specs.Image.{Field, num, recordOf, first, fieldIn, fieldsAt}
 use Rattle.rl_spec.specs.Found.{recordAs, recordFound, imageFound}
 use Rattle.rl_spec.specs.Make.{append, made}
 use Rattle.rl_laws.specs.Found.{record-found}
@@ -150,6 +152,13 @@ module _ (s p : List ℕ) (c : Counts) (id start kind : ℕ) (h : id < c .statem
     pub makes-rebuilt : (t : State) (index : ℕ) (u : State) → Makes (imageFound s p c) (append Statements (wordRecord kind vs ∷ [])) t index u →
         Makes (imageFound s p c) (append Statements (rebuilt (recordOf (imageFound s p c) Statements id) j w k v ∷ [])) t index u
     makes-rebuilt t index u d = subst (λ x. Makes (imageFound s p c) (append Statements (x ∷ [])) t index u) record-rebuilt d
+
+-- a conditional's other branch, by its word
+pub same-other : (s p : List ℕ) (c : Counts) (id m : ℕ) (o : Optional) (word : ℕ) (t : State) (index : ℕ) (u : State) → num word ≡ optionalField o →
+    Makes (imageFound s p c) (append Statements (rebuilt (recordOf (imageFound s p c) Statements id) 1 m 2 word ∷ [])) t index u →
+    Makes (imageFound s p c) (append Statements (rebuilt (recordOf (imageFound s p c) Statements id) 1 m 2 (first (optionalField o)) ∷ [])) t index u
+same-other s p c id m o word t index u e d =
+    subst (λ n. Makes (imageFound s p c) (append Statements (rebuilt (recordOf (imageFound s p c) Statements id) 1 m 2 n ∷ [])) t index u) (ap first e) d
 
 -- ---- a kind that holds no list of statements, and one that is no branch
 

@@ -12,15 +12,17 @@ use lib.ListN.{getD, set, List·getD-append}
 use borrow.Author.Tests.{eq-eqb, ne-eqb, lt-ltb, le-ltb, eqb-true}
 use Rattle.rl_spec.specs.declared.Counts.{Counts}
 use Rattle.rl_spec.specs.declared.Clause.{Clause}
-use Rattle.rl_spec.specs.declared.Target.the-variants.{Arm}
+use Rattle.rl_spec.specs.declared.Target.the-variants.{ElseBranch, Arm}
 use Rattle.rl_spec.specs.declared.Interval.{Interval}
+use Rattle.rl_spec.specs.declared.Optional.{Optional}
+use Rattle.rl_spec.specs.declared.Optional.the-variants.{None, Some}
 use Rattle.rl_spec.specs.declared.Section.the-variants.{Lists, Statements}
 use Rattle.rl_spec.specs.Bytes.{u16At}
 use Rattle.rl_spec.specs.Schema.{limits, sections, sortOf, schema, fieldsIn, fieldsOf}
-use Rattle.rl_spec.specs.Image.{Field, num, pair, Image, recordsOf, sizeOf, noRecord, recordOf, fieldOf, first, second, entryOf, fieldsAt, FieldsFit, Entries, WellFormed}
+use Rattle.rl_spec.specs.Image.{Field, num, pair, Image, recordsOf, sizeOf, noRecord, recordOf, fieldOf, first, second, entryOf, fieldsAt, Refers, FieldsFit, Entries, WellFormed}
 use Rattle.rl_spec.specs.Found.{recordAs, imageFound}
 use Rattle.rl_spec.specs.Tree.{number}
-use Rattle.rl_spec.specs.Ranges.{upFrom}
+use Rattle.rl_spec.specs.Ranges.{upFrom, optional, optionalField}
 use Rattle.rl_spec.specs.Make.{Context, Make, andThen, _>>=_, give, imageSoFar, append, made, newList, stmt, each, flatMap, entriesOf}
 use Rattle.rl_spec.specs.Lower.{expr, wrapReturn, transformList, transformBranchBy, transformBranch, transformElse, transformArmBy, transformArm, conditional, match, only, transformStatementBy, transformStatement}
 use mir.Val.{Fits}
@@ -28,6 +30,7 @@ use mir.Syntax.{w16, w64}
 use Rattle.rl_laws.specs.Descend.{descend-is}
 use Rattle.rl_laws.specs.Found.{size-found}
 use Rattle.rl_laws.specs.Tests.{by-eqb}
+use Rattle.rl_laws.specs.Optionals.{optional-says, some-says}
 use Rattle.rl_transform.proofs.Rebuilding.{statement-is}
 use Rattle.rl_images.specs.Images.FieldFacts.{reference-says, option-says, list-says, first-fits, others-fit}
 use Rattle.rl_images.specs.Lowering.Gives.{gives}
@@ -36,12 +39,12 @@ use Rattle.rl_context.specs.Does.{State, nothing, one, all, Does, Pushes, Liste
 use Rattle.rl_context.proofs.Composed.{Keeps, not-both, does-then, does-bind, does-give, does-same, does-push, does-list}
 use Rattle.rl_images.specs.Lowering.Adds.{Adds, adds-give, adds-bind, adds-cond, adds-append}
 use Rattle.rl_context.proofs.StaysOver.{keeps-more}
-use Rattle.rl_images.specs.Lowering.AddsLower.{adds-wrap, adds-body, adds-else, adds-arm, adds-match, adds-statement}
+use Rattle.rl_images.specs.Lowering.AddsLower.{adds-wrap, adds-body, adds-branch, adds-else, adds-arm, adds-match, adds-statement}
 use Rattle.rl_context.proofs.Appends.{stops-does}
 use Rattle.rl_context.proofs.Copying.{old-entries}
 use Rattle.rl_context.proofs.CopiedEntries.{two}
 use Rattle.rl_context.specs.Guards.{Makes, Gathers, clausesIn}
-use Rattle.rl_transform.specs.Transforms.{walkBelow, rebuilt, listField, listPlace, flagField, bodyOf, Ready, ArmsIn, Returns, Below, OneStatement, Conditional, Otherwise, Match, Arms, Body}
+use Rattle.rl_transform.specs.Transforms.{walkBelow, rebuilt, listField, listPlace, flagField, bodyOf, Ready, ArmsIn, Returns, Below, OneStatement, Conditional, Branch, Match, Arms, Body}
 use Rattle.rl_transform.proofs.Loops.{entries-in}
 
 last-loop : (k : ℕ) → 70 ≤ k → k ≤ 74 → (k ≡ 70 → ⊥) → (k ≡ 71 → ⊥) → (k ≡ 72 → ⊥) → (k ≡ 73 → ⊥) → k ≡ 74
@@ -189,6 +192,12 @@ holds s start k h =
     at-place : (a b : ℕ) → a ≡ b → pair (u16At s a) (u16At s (a + 2)) ≡ pair (u16At s b) (u16At s (b + 2))
     at-place a b e = ap (λ z. pair (u16At s z) (u16At s (z + 2))) e
 
+-- ---- an index or none
+
+written : (o : Optional) → num (first (optionalField o)) ≡ optionalField o
+written None = refl
+written (Some n) = refl
+
 -- one computation in another
 then-assoc : {A B C : Type 0} (m : Make A) (f : A → Make B) (g : B → Make C) → (m >>= λ a. f a >>= g) ≡ ((m >>= f) >>= g)
 then-assoc m f g = λ i x. go (m x) i
@@ -257,35 +266,29 @@ module _ (s p : List ℕ) (c : Counts) (rows : List ℕ) (ensured : Interval) (r
             ∙ ap (λ y. made kind (set (set (recordAs s kind start .fields) (listField kind) y) (flagField kind) (num 0)))
             is) m
 
-  -- ---- a branch, or an else branch
+  -- ---- a branch
 
   module _ (limit x : ℕ) (t : State) where
     abbrev walk : ℕ → Make (List ℕ)
     walk = walkBelow clauses limit
 
-    branch-by : (u : State) (n : ℕ) (m : Make ℕ) → x < c .statements → (x ≡ 65535 → ⊥) → transformBranchBy walk x (recordOf of Statements x) ≡ m → Makes of m t n u → Otherwise s p c ensured limit x t n u
+    branch-by : (u : State) (n : ℕ) (m : Make ℕ) → x < c .statements → transformBranchBy walk x (recordOf of Statements x) ≡ m → Makes of m t n u → Branch s p c ensured limit x t n u
     unfolding transformBranch
-    branch-by u n m h k e d =
-        does-same (transformElse walk x) (keeps-more nothing (λ _. adds-else walk (adds-walk clauses limit) x))
-        (λ y ws l.
-        ap (λ b. cond b (give x) (transformBranch walk x) y) (ne-eqb x 65535 k)
-        ∙ ap (λ r. transformBranchBy walk x r y) (old-statement s p c ensured {t = t} x l h)
-        ∙ ap (λ z. z y) e) d
+    branch-by u n m h e d =
+        does-same (transformBranch walk x) (keeps-more nothing (λ _. adds-branch walk (adds-walk clauses limit) x))
+        (λ y ws l. ap (λ r. transformBranchBy walk x r y) (old-statement s p c ensured {t = t} x l h) ∙ ap (λ z. z y) e) d
 
-    pub branch-none : x ≡ 65535 → Otherwise s p c ensured limit x t x t
-    branch-none e = subst (λ m. Makes of m t x t) (sym (ap (λ b. cond b (give x) (transformBranch walk x)) (eq-eqb x 65535 e))) (does-give of 0 x t)
-
-    module _ (start kind : ℕ) (h : (x ≡ 65535 → ⊥) → x < c .statements) (k : x ≡ 65535 → ⊥) (e : start ≡ getD p (c .expressions + x) 0) (q : kind ≡ getD s start 0) where
-      pub branch-body : (u : State) (n : ℕ) → kind ≡ 69 → Body s p c ensured limit x t n u → Otherwise s p c ensured limit x t n u
+    module _ (start kind : ℕ) (h : x < c .statements) (e : start ≡ getD p (c .expressions + x) 0) (q : kind ≡ getD s start 0) where
+      pub branch-body : (u : State) (n : ℕ) → kind ≡ 69 → Body s p c ensured limit x t n u → Branch s p c ensured limit x t n u
       unfolding recordAs fieldsAt fieldsOf fieldsIn schema sortOf stmt
       branch-body u n g d =
-          branch-by u n (bodyOf walk (recordAs s 69 start)) (h k) k (ap (transformBranchBy walk x) (statement-is s p c x start kind (h k) e q ∙ ap (λ z. recordAs s z start) g))
-          (subst (λ r. Makes of (bodyOf walk r) t n u) (statement-is s p c x start kind (h k) e q ∙ ap (λ z. recordAs s z start) g) d)
+          branch-by u n (bodyOf walk (recordAs s 69 start)) h (ap (transformBranchBy walk x) (statement-is s p c x start kind h e q ∙ ap (λ z. recordAs s z start) g))
+          (subst (λ r. Makes of (bodyOf walk r) t n u) (statement-is s p c x start kind h e q ∙ ap (λ z. recordAs s z start) g) d)
 
-      pub branch-kept : (kind ≡ 69 → ⊥) → Otherwise s p c ensured limit x t x t
+      pub branch-kept : (kind ≡ 69 → ⊥) → Branch s p c ensured limit x t x t
       unfolding recordAs
       branch-kept g =
-          branch-by t x (give x) (h k) k (ap (transformBranchBy walk x) (statement-is s p c x start kind (h k) e q) ∙ ap (λ b. cond b (transformList walk (fieldOf (recordAs s kind start) 2) >>= λ body. stmt 69 (number (recordAs s kind start) 0) (fieldOf (recordAs s kind start) 1 ∷ body ∷ num 0 ∷ [])) (give x)) (ne-eqb kind 69 g)) (does-give of 0 x t)
+          branch-by t x (give x) h (ap (transformBranchBy walk x) (statement-is s p c x start kind h e q) ∙ ap (λ b. cond b (transformList walk (fieldOf (recordAs s kind start) 2) >>= λ body. stmt 69 (number (recordAs s kind start) 0) (fieldOf (recordAs s kind start) 1 ∷ body ∷ num 0 ∷ [])) (give x)) (ne-eqb kind 69 g)) (does-give of 0 x t)
 
   pub branch-list : (x start kind : ℕ) (h : x < c .statements) → start ≡ getD p (c .expressions + x) 0 → kind ≡ getD s start 0 → kind ≡ 69 → listField (recordOf of Statements x .kind) ≡ 0 → ⊥
   unfolding recordAs
@@ -308,32 +311,42 @@ module _ (s p : List ℕ) (c : Counts) (rows : List ℕ) (ensured : Interval) (r
     unfolding recordAs fieldsAt fieldsOf fieldsIn schema sortOf
     first-is a f = two s (start + 1 + 4) ∙ ap (u16At s) place-five ∙ sym f
 
-    second-is : (a : ℕ) → a ≡ u16At s (start + 7) → number (recordAs s 68 start) 2 ≡ a
+    second-is : (o : Optional) → o ≡ optional (num (u16At s (start + 7))) → optional (fieldOf (recordAs s 68 start) 2) ≡ o
     unfolding recordAs fieldsAt fieldsOf fieldsIn schema sortOf
-    second-is a f = two s (start + 1 + 4 + 2) ∙ ap (u16At s) place-seven ∙ sym f
+    second-is o f = ap (λ n. optional (num n)) (two s (start + 1 + 4 + 2) ∙ ap (u16At s) place-seven) ∙ sym f
 
     pub branch-earlier : (a : ℕ) → a ≡ u16At s (start + 5) → a < c .statements
     unfolding recordAs fieldsAt fieldsOf fieldsIn schema sortOf
     branch-earlier a f = omega (arith, subst (λ z. z < id) (first-is a f) (reference-says (first-fits (others-fit (fits-record id start 68 h is-68))) .earlier))
 
-    pub else-earlier : (a : ℕ) → a ≡ u16At s (start + 7) → (a ≡ 65535 → ⊥) → a < c .statements
+    pub else-earlier : (o : Optional) (a : ℕ) → o ≡ optional (num (u16At s (start + 7))) → o ≡ Some a → a < c .statements
     unfolding recordAs fieldsAt fieldsOf fieldsIn schema sortOf
-    else-earlier a f n =
-        elim (option-says (first-fits (others-fit (others-fit (fits-record id start 68 h is-68))))) [ inl z ↦ absurd (n (sym (second-is a f) ∙ z)) | inr z ↦ omega (arith, subst (λ y. y < id) (second-is a f) (z .earlier)) ]
+    else-earlier o a f e =
+        omega (arith, some-says {P = Refers of Statements id ElseBranch} (optional-says (fieldOf (recordAs s 68 start) 2) (option-says (first-fits (others-fit (others-fit (fits-record id start 68 h is-68)))))) a (second-is o f ∙ e) .earlier)
 
-    few-statements : c .statements ≤ 2048
-    unfolding limits imageFound sections
-    few-statements = rw (← size-found s p c Statements) (wf .counts .1 .1 .1 .1 .0)
+    -- what is done where there is no else branch, and where there is one
+    abbrev Otherwise : Optional → State → Optional → State → Type 0
+    Otherwise b t o u = Does of 0 0 nothing (transformElse (walkBelow clauses id) b) t o u
 
-    pub conditional-done : (t u v z : State) (a b m n index : ℕ) → a ≡ u16At s (start + 5) → b ≡ u16At s (start + 7) → Otherwise s p c ensured id a t m u → Otherwise s p c ensured id b u n v →
-        Makes of (append Statements (rebuilt (recordOf of Statements id) 1 m 2 n ∷ [])) v index z → Conditional s p c ensured id t index z
+    with-other : (t u v z : State) (a m index : ℕ) (b o : Optional) → a ≡ u16At s (start + 5) → b ≡ optional (num (u16At s (start + 7))) → Branch s p c ensured id a t m u → Otherwise b u o v →
+        Makes of (append Statements (rebuilt (recordOf of Statements id) 1 m 2 (first (optionalField o)) ∷ [])) v index z → Conditional s p c ensured id t index z
     unfolding recordAs fieldsAt fieldsOf fieldsIn schema sortOf stmt
-    conditional-done t u v z a b m n index f g d o r =
+    with-other t u v z a m index b o f g d e r =
         subst (λ y. Makes of (conditional (walkBelow clauses id) y) t index z) (sym is-68)
-        (does-bind (subst (λ y. Makes of y t m u) (ap (λ y. cond y (give a) (transformBranch (walkBelow clauses id) a)) (ne-eqb a 65535 (λ y. omega (arith, branch-earlier a f, few-statements, y))) ∙ ap (transformBranch (walkBelow clauses id)) (sym (first-is a f))) d)
-        (keeps-more nothing (λ y. adds-bind (adds-else (walkBelow clauses id) (adds-walk clauses id) (number (recordAs s 68 start) 2)) (λ w. adds-append Statements tt _)))
-        (does-bind (subst (λ y. Makes of (transformElse (walkBelow clauses id) y) u n v) (sym (second-is b g)) o) (keeps-more nothing (λ w. adds-append Statements tt _))
-        (subst (λ y. Makes of (append Statements (rebuilt y 1 m 2 n ∷ [])) v index z) is-68 r)))
+        (does-bind (subst (λ y. Makes of (transformBranch (walkBelow clauses id) y) t m u) (sym (first-is a f)) d)
+        (keeps-more nothing (λ y. adds-bind (adds-else (walkBelow clauses id) (adds-walk clauses id) (optional (fieldOf (recordAs s 68 start) 2))) (λ w. adds-append Statements tt _)))
+        (does-bind (subst (λ y. Otherwise y u o v) (sym (second-is b g)) e) (keeps-more nothing (λ w. adds-append Statements tt _))
+        (subst (λ y. Makes of (append Statements (made 68 (num (number (recordAs s 68 start) 0) ∷ num m ∷ y ∷ []) ∷ [])) v index z) (written o)
+        (subst (λ y. Makes of (append Statements (rebuilt y 1 m 2 (first (optionalField o)) ∷ [])) v index z) is-68 r))))
+
+    pub conditional-alone : (t u z : State) (a m index : ℕ) (b : Optional) → a ≡ u16At s (start + 5) → b ≡ optional (num (u16At s (start + 7))) → b ≡ None → Branch s p c ensured id a t m u →
+        Makes of (append Statements (rebuilt (recordOf of Statements id) 1 m 2 (first (optionalField None)) ∷ [])) u index z → Conditional s p c ensured id t index z
+    conditional-alone t u z a m index b f g e d = with-other t u u z a m index None None f (sym e ∙ g) d (does-give of 0 None u)
+
+    pub conditional-both : (t u v z : State) (a x m n index : ℕ) (b : Optional) → a ≡ u16At s (start + 5) → b ≡ optional (num (u16At s (start + 7))) → b ≡ Some x → Branch s p c ensured id a t m u → Branch s p c ensured id x u n v →
+        Makes of (append Statements (rebuilt (recordOf of Statements id) 1 m 2 (first (optionalField (Some n))) ∷ [])) v index z → Conditional s p c ensured id t index z
+    conditional-both t u v z a x m n index b f g e d o =
+        with-other t u v z a m index (Some x) (Some n) f (sym e ∙ g) d (does-bind o (keeps-more nothing (λ n. adds-give (Some n))) (does-give of 0 (Some n) v))
 
   -- ---- a match, and its arms
 

@@ -14,7 +14,7 @@ use Rattle.rl_spec.specs.Image.{Field, num, Rec, Image, recordOf, fieldOf, entr
 use Rattle.rl_spec.specs.Tree.{below}
 use Rattle.rl_spec.specs.Ranges.{upFrom}
 use Rattle.rl_spec.specs.Make.{Make, _>>=_, give, append, made, each, flatMap}
-use Rattle.rl_spec.specs.Lower.{transformList, transformElse, transformArm, conditional, match, transformStatement}
+use Rattle.rl_spec.specs.Lower.{transformList, transformBranch, transformArm, conditional, match, transformStatement}
 use Rattle.rl_encode.specs.Words.{wordField}
 use Rattle.rl_spec.specs.Found.{imageFound}
 use Rattle.rl_schema.specs.Codes.{table}
@@ -85,8 +85,8 @@ module _ (s p : List ℕ) (c : Counts) (ensured : Interval) where
   abbrev pub Conditional : ℕ → State → ℕ → State → Type 0
   Conditional id t n u = Makes of (conditional (walk id) (recordOf of Statements id)) t n u
 
-  abbrev pub Otherwise : ℕ → ℕ → State → ℕ → State → Type 0
-  Otherwise limit x t n u = Makes of (transformElse (walk limit) x) t n u
+  abbrev pub Branch : ℕ → ℕ → State → ℕ → State → Type 0
+  Branch limit x t n u = Makes of (transformBranch (walk limit) x) t n u
 
   abbrev pub Match : ℕ → State → ℕ → State → Type 0
   Match id t n u = Makes of (match (walk id) (recordOf of Statements id)) t n u

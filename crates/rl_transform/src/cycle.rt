@@ -2,7 +2,6 @@
 use crate::rebuild::flag_field;
 use crate::rebuild::list_field;
 use crate::rebuild::list_place;
-use crate::rebuild::list_word;
 use crate::rebuild::pushed;
 use crate::rebuild::rebuild;
 use crate::rebuild::rebuild_conditional;
@@ -12,16 +11,19 @@ use rl_bytes::second_u16;
 use rl_bytes::u16_at;
 use rl_context::Ctx;
 use rl_context::Made;
+use rl_context::list_word;
 use rl_records::entry_at;
+use rl_records::optional_at;
 use rl_spec::Counts;
 use rl_spec::Interval;
+use rl_spec::Optional;
 ghost use mathlib.Core.Path.{_≡_};
 ghost use Prim.Native.Nat.{_≤_, _<_};
 ghost use Rattle.rl_spec.specs.declared.Section.the-variants.{Statements};
 ghost use Rattle.rl_spec.specs.Image.{recordOf};
 ghost use Rattle.rl_spec.specs.Found.{imageFound};
 ghost use Rattle.rl_context.specs.Does.{at};
-ghost use Rattle.rl_transform.specs.Transforms.{listField, Ready, ArmsIn, Returns, Below, OneStatement, Conditional, Otherwise, Match, Arms, Body};
+ghost use Rattle.rl_transform.specs.Transforms.{listField, Ready, ArmsIn, Returns, Below, OneStatement, Conditional, Branch, Match, Arms, Body};
 
 // The statements from the first on, each by what stands for it; they wait then.
 pub fn transform_returns(
@@ -214,34 +216,50 @@ fn transform_conditional(
         waiting,
         ctx,
     );
-    let other = transform_branch(
-        image,
-        starts,
-        counts,
-        rows,
-        ensured,
-        id,
-        u16_at(image, place + 7),
-        scratch,
-        waiting,
-        branch.ctx,
-    );
     let first = branch.index;
-    let second = other.index;
-    rebuild_conditional(
-        image,
-        starts,
-        counts,
-        rows,
-        id,
-        first,
-        second,
-        scratch,
-        other.ctx,
-    )
+    let other = optional_at(image, place + 7);
+    match other {
+        Optional::Some(s) => {
+            let made = transform_branch(
+                image,
+                starts,
+                counts,
+                rows,
+                ensured,
+                id,
+                s,
+                scratch,
+                waiting,
+                branch.ctx,
+            );
+            let second = Optional::Some(made.index);
+            rebuild_conditional(
+                image,
+                starts,
+                counts,
+                rows,
+                id,
+                first,
+                second,
+                scratch,
+                made.ctx,
+            )
+        }
+        Optional::None => rebuild_conditional(
+            image,
+            starts,
+            counts,
+            rows,
+            id,
+            first,
+            Optional::None,
+            scratch,
+            branch.ctx,
+        ),
+    }
 }
 
-// A branch; 65,535 and a conditional as an else branch pass untouched.
+// A branch; a conditional as an else branch passes untouched.
 fn transform_branch(
     image: &[u8],
     starts: &[u16],
@@ -254,11 +272,8 @@ fn transform_branch(
     waiting: &mut [u16],
     ctx: Ctx,
 ) -> Made
-    ensures { λ r. ⌜ (Ready (now (image .entry)) (now (starts .entry)) counts (now (rows .entry)) ensured → limit ≤ counts .statements → ((s ≡ 65535 → ⊥) → s < counts .statements) → Otherwise (now (image .entry)) (now (starts .entry)) counts ensured limit s (at ctx (now (scratch .entry)) (now (waiting .entry))) (r .index) (at (r .ctx) (now (scratch .exit)) (now (waiting .exit)))) ⌝ }
+    ensures { λ r. ⌜ (Ready (now (image .entry)) (now (starts .entry)) counts (now (rows .entry)) ensured → limit ≤ counts .statements → s < counts .statements → Branch (now (image .entry)) (now (starts .entry)) counts ensured limit s (at ctx (now (scratch .entry)) (now (waiting .entry))) (r .index) (at (r .ctx) (now (scratch .exit)) (now (waiting .exit)))) ⌝ }
 {
-    if s == 65535 {
-        return Made { ctx, index: s };
-    }
     let start = statement_start(starts, counts, s);
     let kind = kind_at(image, start);
     if kind == 69 {

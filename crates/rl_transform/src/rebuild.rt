@@ -4,18 +4,20 @@ use rl_arena::statement_start;
 use rl_bytes::put_long;
 use rl_context::Ctx;
 use rl_context::Made;
+use rl_context::optional_word;
 use rl_context::word_of;
 use rl_schema::row_of;
 use rl_schema::sort_of;
 use rl_schema::width_of;
 use rl_spec::Counts;
-use rl_spec::Interval;
+use rl_spec::Optional;
 ghost use mathlib.Core.Path.{_≡_};
 ghost use mathlib.Core.List.{List, [], _∷_};
-ghost use Prim.Native.Nat.{ℕ, _+_, _/_, _%_, _<_};
+ghost use Prim.Native.Nat.{ℕ, _+_, _<_};
 ghost use lib.ListN.{length};
 ghost use Rattle.rl_spec.specs.declared.Section.the-variants.{Statements};
-ghost use Rattle.rl_spec.specs.Image.{pair, recordOf, fieldsAt};
+ghost use Rattle.rl_spec.specs.Image.{recordOf, first, fieldsAt};
+ghost use Rattle.rl_spec.specs.Ranges.{optionalField};
 ghost use Rattle.rl_spec.specs.Make.{append};
 ghost use Rattle.rl_spec.specs.Found.{imageFound};
 ghost use Rattle.rl_schema.specs.Codes.{codes, table};
@@ -114,12 +116,13 @@ pub fn rebuild_conditional(
     rows: &[u64],
     s: u16,
     branch: u16,
-    other: u16,
+    other: Optional,
     scratch: &mut [u8],
     ctx: Ctx,
 ) -> Made
-    ensures { λ r. ⌜ ((w : List ℕ) → now (rows .entry) ≡ table → s < counts .statements → Makes (imageFound (now (image .entry)) (now (starts .entry)) counts) (append Statements (rebuilt (recordOf (imageFound (now (image .entry)) (now (starts .entry)) counts) Statements s) 1 branch 2 other ∷ [])) (at ctx (now (scratch .entry)) w) (r .index) (at (r .ctx) (now (scratch .exit)) w)) ⌝ }
+    ensures { λ r. ⌜ ((w : List ℕ) → now (rows .entry) ≡ table → s < counts .statements → Makes (imageFound (now (image .entry)) (now (starts .entry)) counts) (append Statements (rebuilt (recordOf (imageFound (now (image .entry)) (now (starts .entry)) counts) Statements s) 1 branch 2 (first (optionalField other)) ∷ [])) (at ctx (now (scratch .entry)) w) (r .index) (at (r .ctx) (now (scratch .exit)) w)) ⌝ }
 {
+    let word = optional_word(other) as u64;
     rebuild(
         image,
         starts,
@@ -129,17 +132,10 @@ pub fn rebuild_conditional(
         1,
         branch as u64,
         2,
-        other as u64,
+        word,
         scratch,
         ctx,
     )
-}
-
-// A list as a word.
-pub fn list_word(list: Interval) -> u64
-    ensures { λ r. ⌜ pair (r % 65536) (r / 65536) ≡ pair (list .first) (list .count) ⌝ }
-{
-    (list.first as u64) + (list.count as u64) * 65536
 }
 
 pub fn pushed(made: Made, waiting: &mut [u16]) -> Ctx

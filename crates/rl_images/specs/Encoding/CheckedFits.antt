@@ -34,16 +34,9 @@ use Rattle.rl_images.specs.Encoding.FieldWidths.{Bounded, all-sized, fie
 use Rattle.rl_images.specs.Encoding.FieldChecks.{Ready}
 use Rattle.rl_images.specs.Encoding.RecordChecks.{fields-good}
 use Rattle.rl_images.specs.Reading.Decode.{byte-below, pair-width}
+use Rattle.rl_images.specs.Reading.Tall.{holds-true, holds-false}
 
 -- ---- a check that holds
-
-holds-true : (b : Bool) (x : Check) (c : Cause) (t : ℕ) → cond b x (Fails c) ≡ Holds t → (b ≡ true) × (x ≡ Holds t)
-holds-true true x c t e = (refl, e)
-holds-true false x c t e = let z : _≡_ {A = ℕ} 0 1 = cc in absurd (omega arith)
-
-holds-false : (b : Bool) (x : Check) (c : Cause) (t : ℕ) → cond b (Fails c) x ≡ Holds t → (b ≡ false) × (x ≡ Holds t)
-holds-false true x c t e = let z : _≡_ {A = ℕ} 0 1 = cc in absurd (omega arith)
-holds-false false x c t e = (refl, e)
 
 byte-fits : (low high b tall t : ℕ) → byteIn low high b tall ≡ Holds t → (low ≤ b) × (b ≤ high)
 unfolding byteIn

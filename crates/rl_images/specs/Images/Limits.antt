@@ -8,7 +8,7 @@ use native.Mathlib.Nat.{le-refl}
 use lib.ListN.{length, getD, List·getD-eq-default}
 use Rattle.rl_laws.specs.Tests.{by-ltb}
 use Rattle.rl_spec.specs.declared.Section.{Section}
-use Rattle.rl_spec.specs.declared.Section.the-variants.{Texts, Parameters, Functions}
+use Rattle.rl_spec.specs.declared.Section.the-variants.{Texts, Parameters, Clauses, Functions}
 use Rattle.rl_spec.specs.Schema.{limits}
 use Rattle.rl_spec.specs.Image.{Rec, Image, orderOf, recordsOf, sizeOf, noRecord, recordOf, fieldOf, second, AllBytes, AllWithin, WellFormed}
 use Rattle.rl_spec.specs.Records.{functionAt}
@@ -35,7 +35,16 @@ size-within im wf o =
     (within-at (length (im .bytes) ∷ map length (im .records)) limits (wf .counts) (suc (orderOf o)))
 
 module _ (im : Image) (wf : WellFormed im) where
-  -- THEOREMS: there are at most 2,048 texts, and a function has at most 256 parameters
+  -- the ranges of a function that is missing are empty
+  range-within : (j most f : ℕ) → (f < sizeOf im Functions → second (fieldOf (recordOf im Functions f) j) ≤ most) →
+      second (fieldOf (recordOf im Functions f) j) ≤ most
+  range-within j most f h =
+      by-ltb f (sizeOf im Functions) h
+      (λ l.
+      let e : recordOf im Functions f ≡ noRecord = List·getD-eq-default (recordsOf im Functions) noRecord l in
+      subst (λ (r : Rec). second (fieldOf r j) ≤ most) (sym e) (omega arith))
+
+  -- THEOREMS: there are at most 2,048 texts, and a function has at most 256 parameters and 256 requires
   pub texts-within : sizeOf im Texts ≤ 2048
   unfolding limits
   texts-within = size-within im wf Texts
@@ -43,11 +52,12 @@ module _ (im : Image) (wf : WellFormed im) where
   pub parameters-within : (f : ℕ) → functionAt im f .params .count ≤ 256
   unfolding functionAt limits
   parameters-within f =
-      by-ltb f (sizeOf im Functions)
-      (λ l. omega (arith, function-fits im wf f l .params, size-within im wf Parameters))
-      (λ l.
-      let e : recordOf im Functions f ≡ noRecord = List·getD-eq-default (recordsOf im Functions) noRecord l in
-      subst (λ (r : Rec). second (fieldOf r 2) ≤ 256) (sym e) (omega arith))
+      range-within 2 256 f (λ l. omega (arith, function-fits im wf f l .params, size-within im wf Parameters))
+
+  pub required-within : (f : ℕ) → functionAt im f .required .count ≤ 256
+  unfolding functionAt limits
+  required-within f =
+      range-within 5 256 f (λ l. omega (arith, function-fits im wf f l .required, size-within im wf Clauses))
 
 -- ---- bytes that are below 256 one by one
 

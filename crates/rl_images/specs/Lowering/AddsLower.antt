@@ -9,14 +9,17 @@ use Rattle.rl_spec.specs.declared.Section.the-variants.{Expressions, Statements
 use Rattle.rl_spec.specs.declared.Sort.{Sort}
 use Rattle.rl_spec.specs.declared.Sort.the-variants.{Raw, Byte, Scalar, Part, One, Maybe, Many, Range, OperandSort, Operand}
 use Rattle.rl_spec.specs.declared.Target.{Target}
+use Rattle.rl_spec.specs.declared.Optional.{Optional}
+use Rattle.rl_spec.specs.declared.Optional.the-variants.{None, Some}
 use Rattle.rl_spec.specs.declared.Clause.{Clause}
 use Rattle.rl_spec.specs.Schema.{sortOf, fieldsOf}
 use Rattle.rl_spec.specs.Image.{Field, num, Rec, Image, recordOf, fieldOf, first}
 use Rattle.rl_spec.specs.Tree.{ascii, number, below, descendBy, descend}
+use Rattle.rl_spec.specs.Ranges.{optional}
 use Rattle.rl_spec.specs.Contracts.{RefineOperand, integer, str, bool, param, ParamRefinement, Param, isEmpty}
 use Rattle.rl_spec.specs.Message.{decimal}
 use Rattle.rl_spec.specs.Make.{Make, made, newStmt, entriesOf}
-use Rattle.rl_spec.specs.Lower.{expr, ident, strLit, errLit, resCall, msgExpr, isNode, cloneEntries, cloneField, cloneFields, isLambda, cloneRecord, deepCloneExpr, violation, onlyIf, guard, clauseGuard, declare, returnOf, skipErr, wrapAs, wrapReturn, operandExpr, refinePredicate, transformList, transformBranchBy, transformBranch, transformElse, transformArmBy, transformArm, conditional, match, loop, only, transformStatementBy, transformStatement, refinementGuard, lastOf, wrapTrailing, ensuredBody, desugarFnContracts, newBody}
+use Rattle.rl_spec.specs.Lower.{expr, ident, strLit, errLit, resCall, msgExprBy, msgExpr, isNode, cloneEntries, cloneField, cloneFields, isLambda, cloneRecord, deepCloneExpr, violation, onlyIf, guard, clauseGuard, declare, returnOf, skipErr, wrapAs, wrapReturn, operandExpr, refinePredicate, transformList, transformBranchBy, transformBranch, transformElse, transformArmBy, transformArm, conditional, match, loop, only, transformStatementBy, transformStatement, refinementGuard, lastOf, wrapTrailing, ensuredBody, desugarFnContracts, newBody}
 use Rattle.rl_images.specs.Lowering.Adds.{Adds, adds-give, adds-bind, adds-here, adds-flag, adds-temp, adds-cond, adds-append, adds-text, adds-list, adds-stmt, adds-each, adds-flat}
 
 -- ---- nodes and statements
@@ -45,8 +48,12 @@ unfolding resCall
 adds-call name x =
     adds-bind (adds-each adds-text _) (λ ts. adds-bind (adds-list ts) (λ path. adds-bind (adds-list _) (λ args. adds-expr 41 _)))
 
+adds-msg-by : (message : Optional) (default : List ℕ) → Adds (msgExprBy message default)
+adds-msg-by None default = adds-str default
+adds-msg-by (Some n) default = adds-give n
+
 pub adds-msg : (clause : Clause) (default : List ℕ) → Adds (msgExpr clause default)
-adds-msg clause default = adds-cond (eqb (clause .message) 65535) (adds-str default) (adds-give _)
+adds-msg clause = adds-msg-by (clause .message)
 
 pub adds-violation : (msg : ℕ) → Adds (violation msg)
 unfolding violation
@@ -178,8 +185,9 @@ module _ (walk : ℕ → Make (List ℕ)) (h : (s : ℕ) → Adds (walk s)) wher
   unfolding transformBranch
   adds-branch s = adds-bind adds-here (λ im. adds-branch-by s (recordOf im Statements s))
 
-  pub adds-else : (s : ℕ) → Adds (transformElse walk s)
-  adds-else s = adds-cond (eqb s 65535) (adds-give s) (adds-branch s)
+  pub adds-else : (s : Optional) → Adds (transformElse walk s)
+  adds-else None = adds-give None
+  adds-else (Some s) = adds-bind (adds-branch s) (λ n. adds-give (Some n))
 
   pub adds-arm-by : (r : Rec) → Adds (transformArmBy walk r)
   adds-arm-by r = adds-bind (adds-body (fieldOf r 2)) (λ body. adds-stmt 76 (number r 0) _)
@@ -190,7 +198,7 @@ module _ (walk : ℕ → Make (List ℕ)) (h : (s : ℕ) → Adds (walk s)) wher
 
   pub adds-conditional : (r : Rec) → Adds (conditional walk r)
   adds-conditional r =
-      adds-bind (adds-branch (number r 1)) (λ branch. adds-bind (adds-else (number r 2)) (λ other. adds-stmt 68 (number r 0) _))
+      adds-bind (adds-branch (number r 1)) (λ branch. adds-bind (adds-else (optional (fieldOf r 2))) (λ other. adds-stmt 68 (number r 0) _))
 
   pub adds-match : (r : Rec) → Adds (match walk r)
   adds-match r =

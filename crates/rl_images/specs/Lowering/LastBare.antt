@@ -12,6 +12,7 @@ use borrow.Author.Tests.{eqb-true, ne-eqb}
 use Rattle.rl_spec.specs.declared.Section.the-variants.{Statements}
 use Rattle.rl_spec.specs.declared.Clause.{Clause}
 use Rattle.rl_spec.specs.Image.{Field, num, Rec, Image, sizeOf, recordOf, fieldOf}
+use Rattle.rl_spec.specs.Ranges.{optional, optionalField}
 use Rattle.rl_spec.specs.Tree.{ascii, number, below}
 use Rattle.rl_spec.specs.Contracts.{isEmpty}
 use Rattle.rl_spec.specs.Message.{decimal}
@@ -106,8 +107,8 @@ module _ (walk : ℕ → Make (List ℕ)) (grow : (n : ℕ) → Adds (walk n)) w
   conditional-other : (r : Rec) (ctx : Context) → GrowsTo ctx Other (conditional walk r ctx)
   conditional-other r ctx =
       adds-grows (adds-branch walk grow (number r 1)) ctx ▷ λ branch c₁ k₁ h₁.
-      adds-grows (adds-else walk grow (number r 2)) c₁ ▷ λ other c₂ k₂ h₂.
-      other-made 68 (number r 0) (num branch ∷ num other ∷ []) c₂ λ e. omega arith
+      adds-grows (adds-else walk grow (optional (fieldOf r 2))) c₁ ▷ λ other c₂ k₂ h₂.
+      other-made 68 (number r 0) (num branch ∷ optionalField other ∷ []) c₂ λ e. omega arith
 
   match-other : (r : Rec) (ctx : Context) → GrowsTo ctx Other (match walk r ctx)
   match-other r ctx =

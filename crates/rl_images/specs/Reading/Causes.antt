@@ -1,6 +1,6 @@
 -- What reading one record comes to: it is by the record's rows.
 -- Assumes nothing.
-use Prim.Native.Nat.{ℕ, zero, suc, _+_, _-_, _%_, _≤_, _<_}
+use Prim.Native.Nat.{ℕ, zero, suc, _+_, _-_, _%_, _≤_, _<_, max}
 use mathlib.Core.Path.{_≡_, refl, sym, subst, _∙_}
 use mathlib.Core.Bool.{Bool, true, false, cond, false≢true}
 use mathlib.Core.List.{List, [], _∷_, _++_}
@@ -28,7 +28,8 @@ use Rattle.rl_spec.specs.Utf8.{utf8, isScalar}
 use Rattle.rl_spec.specs.Fields.{takes, within, kindOfStatement, allowed, entryAt, zeros, rangeOf, partOf, byteIn, operandSortOf, referTo, referOrNone, entriesFrom, listOf, operandOf, valueOf, fieldAt, checked, fieldsFrom, heightStep, recordAt}
 use Rattle.rl_spec.specs.Image.{widthsOf, nextAt}
 use Rattle.rl_images.specs.Reading.Table.{Row, row, Unmet, First, first-front, By, refuses, accepts, behind, checks, checks-not}
-use Rattle.rl_images.specs.Reading.Rows.{WrongTarget, turn, WrongList, list-leaves, list-uneven, entry-wrong, WrongSort, sort-of-none, sort-outside, IsText, WrongOperand, none-not-zero, bool-outside, text-not-zero, valueRows, fieldRows, fieldsRows, above, heightAt, recordRows}
+use Rattle.rl_images.specs.Reading.Rows.{WrongTarget, turn, WrongList, list-leaves, list-uneven, entry-wrong, WrongSort, sort-of-none, sort-outside, IsText, WrongOperand, none-not-zero, bool-outside, text-not-zero, valueRows, fieldRows, fieldsRows, fieldTall, fieldsTall, heightAt, recordRows}
+use Rattle.rl_images.specs.Reading.Tall.{field-tall}
 
 -- ---- a check is by its rows, which are all at n
 
@@ -240,14 +241,12 @@ module _ (s w p : List ℕ) (seen : Counts) (own : Section) where
       (λ e. skips (λ (h : length s < at + widthOf o). omega (arith, ltb-false (length s) (at + widthOf o) e, h)) (value-to o at tall))
 
   -- the fields
-  abbrev tallIn : Step → ℕ
-  tallIn (Next a tall) = tall
-  tallIn (Stop c n) = 0
-
-  fields-by : (os : List ℕ) (at tall : ℕ) → By Stop (fieldsRows s p seen os at) (Next (at + widthsOf os) (tallIn (fieldsFrom s w p seen own os at tall))) (fieldsFrom s w p seen own os at tall)
-  unfolding fieldsFrom fieldsRows widthsOf
-  fields-by [] at tall = subst (λ i. By Stop [] (Next i tall) (Next at tall)) (sym (add-zero at)) (accepts tt)
-  fields-by (o ∷ os) at tall = go (field-to (sortOf o) at tall) (fields-by os next)
+  fields-by : (os : List ℕ) (at tall : ℕ) → By Stop (fieldsRows s p seen os at) (Next (at + widthsOf os) (max tall (fieldsTall s w seen own os at))) (fieldsFrom s w p seen own os at tall)
+  unfolding fieldsFrom fieldsRows widthsOf fieldsTall
+  fields-by [] at tall =
+      let e : tall ≡ max tall 0 = omega arith in
+      subst (λ i. By Stop [] (Next i (max tall 0)) (Next at tall)) (sym (add-zero at)) (subst (λ t. By Stop [] (Next at t) (Next at tall)) e (accepts tt))
+  fields-by (o ∷ os) at tall = go (fieldAt s w p seen own (sortOf o) at tall) refl (field-to (sortOf o) at tall) (fields-by os next)
     where
       next : ℕ
       next = at + widthOf (sortOf o)
@@ -255,14 +254,19 @@ module _ (s w p : List ℕ) (seen : Counts) (own : Section) where
       rest : ℕ → Step
       rest t = fieldsFrom s w p seen own os next t
 
-      go : {r : Check} → CheckBy (fieldRows s p seen (sortOf o) at) at r → ((t : ℕ) → By Stop (fieldsRows s p seen os next) (Next (next + widthsOf os) (tallIn (rest t))) (rest t)) → By Stop (fieldRows s p seen (sortOf o) at ++ fieldsRows s p seen os next) (Next (at + (widthOf (sortOf o) + widthsOf os)) (tallIn (checked r at rest))) (checked r at rest)
-      go (holds {tall = t} u) f =
-          let e : next + widthsOf os ≡ at + (widthOf (sortOf o) + widthsOf os) = omega arith in
-          behind (fieldRows s p seen (sortOf o) at) (fieldsRows s p seen os next) u
-          (subst (λ i. By Stop (fieldsRows s p seen os next) (Next i (tallIn (rest t))) (rest t)) e (f t))
-      go (fails {c = c} x) f = refuses (first-front (fieldRows s p seen (sortOf o) at) (fieldsRows s p seen os next) c at x)
+      most : ℕ
+      most = max (fieldTall s w seen own (sortOf o) at) (fieldsTall s w seen own os next)
 
-  height-by : (rows : List Row) (at a tall : ℕ) {x : Step} → By Stop rows (Next a tall) x → By Stop (rows ++ row TooHigh at (tallest own < above x) ∷ []) (Next a (above x)) (heightStep own at x)
+      go : (r : Check) → fieldAt s w p seen own (sortOf o) at tall ≡ r → CheckBy (fieldRows s p seen (sortOf o) at) at r → ((t : ℕ) → By Stop (fieldsRows s p seen os next) (Next (next + widthsOf os) (max t (fieldsTall s w seen own os next))) (rest t)) → By Stop (fieldRows s p seen (sortOf o) at ++ fieldsRows s p seen os next) (Next (at + (widthOf (sortOf o) + widthsOf os)) (max tall most)) (checked r at rest)
+      go (Holds t) d (holds u) f =
+          let e : next + widthsOf os ≡ at + (widthOf (sortOf o) + widthsOf os) = omega arith in
+          let g : max t (fieldsTall s w seen own os next) ≡ max tall most = omega (arith, field-tall s w p seen own (sortOf o) at tall t d) in
+          behind (fieldRows s p seen (sortOf o) at) (fieldsRows s p seen os next) u
+          (subst (λ m. By Stop (fieldsRows s p seen os next) (Next (at + (widthOf (sortOf o) + widthsOf os)) m) (rest t)) g
+          (subst (λ i. By Stop (fieldsRows s p seen os next) (Next i (max t (fieldsTall s w seen own os next))) (rest t)) e (f t)))
+      go (Fails c) d (fails x) f = refuses (first-front (fieldRows s p seen (sortOf o) at) (fieldsRows s p seen os next) c at x)
+
+  height-by : (rows : List Row) (at a tall : ℕ) {x : Step} → By Stop rows (Next a tall) x → By Stop (rows ++ row TooHigh at (tallest own < tall + 1) ∷ []) (Next a (tall + 1)) (heightStep own at x)
   height-by rows at a tall (refuses {q = c} {p = n} f) = refuses (first-front rows _ c n f)
   height-by rows at a tall (accepts u) =
       behind rows (row TooHigh at (tallest own < tall + 1) ∷ []) u
@@ -270,13 +274,17 @@ module _ (s w p : List ℕ) (seen : Counts) (own : Section) where
       (λ e h. omega (arith, ltb-true tall (tallest own) e)) (accepts tt))
 
   -- THEOREM: a record is read, or refused for the first of its rows that holds
-  pub record-by : (at : ℕ) → By Stop (recordRows s w p seen own at) (Next (nextAt s at) (heightAt s w p seen own at)) (recordAt s w p seen own at)
+  pub record-by : (at : ℕ) → By Stop (recordRows s w p seen own at) (Next (nextAt s at) (heightAt s w seen own at)) (recordAt s w p seen own at)
   unfolding recordAt nextAt heightAt past
   record-by at =
       checks (ltb (length s) (at + 1)) (λ e. omega (arith, ltb-true (length s) (at + 1) e))
       (λ e h. omega (arith, ltb-false (length s) (at + 1) e))
       (checks-not (inSection own (getD s at 0)) (kind-outside own (getD s at 0)) (kind-inside own (getD s at 0))
-      (height-by (fieldsRows s p seen fields (at + 1)) at (at + 1 + widthsOf fields) _ (fields-by fields (at + 1) 0)))
+      (height-by (fieldsRows s p seen fields (at + 1)) at (at + 1 + widthsOf fields) (fieldsTall s w seen own fields (at + 1))
+      (subst (λ t. By Stop (fieldsRows s p seen fields (at + 1)) (Next (at + 1 + widthsOf fields) t) (fieldsFrom s w p seen own fields (at + 1) 0)) none (fields-by fields (at + 1) 0))))
     where
       fields : List ℕ
       fields = fieldsOf (getD s at 0)
+
+      none : max 0 (fieldsTall s w seen own fields (at + 1)) ≡ fieldsTall s w seen own fields (at + 1)
+      none = omega arith

@@ -40,20 +40,20 @@ by-then t u f (accepts y) z = behind t u y z
 -- ---- the records and the sections
 
 module _ (s : List ℕ) (c : Counts) where
-  records-by : (o : Section) (n i at : ℕ) (w p : List ℕ) → By bad (recordsRows s c o n i at w p) (good (endAt s n at) (workFrom s c o n i at w p) (startsFrom s c o n i at p)) (recordsFrom s c o n i at w p)
+  records-by : (o : Section) (n i at : ℕ) (w p : List ℕ) → By bad (recordsRows s c o n i at w p) (good (endAt s n at) (workFrom s c o n i at w) (startsFrom s c o n i at p)) (recordsFrom s c o n i at w p)
   unfolding recordsFrom recordsRows endAt workFrom startsFrom
   records-by o zero i at w p = accepts tt
   records-by o (suc n) i at w p =
       by-after (recordRows s w p (seenBy c o i) o at) _ (λ a tall. recordsFrom s c o n (i + 1) a (keep c o i tall w) (keep c o i at p))
       (record-by s w p (seenBy c o i) o at)
-      (records-by o n (i + 1) (nextAt s at) (keep c o i (heightAt s w p (seenBy c o i) o at) w) (keep c o i at p))
+      (records-by o n (i + 1) (nextAt s at) (keep c o i (heightAt s w (seenBy c o i) o at) w) (keep c o i at p))
 
-  sections-by : (os : List Section) (at : ℕ) (w p : List ℕ) → By bad (sectionsRows s c os at w p) (good (lastAt s c os at) (workIn s c os at w p) (startsIn s c os at p)) (sectionsFrom s c os at w p)
+  sections-by : (os : List Section) (at : ℕ) (w p : List ℕ) → By bad (sectionsRows s c os at w p) (good (lastAt s c os at) (workIn s c os at w) (startsIn s c os at p)) (sectionsFrom s c os at w p)
   unfolding sectionsFrom sectionsRows lastAt workIn startsIn
   sections-by [] at w p = accepts tt
   sections-by (o ∷ os) at w p =
       by-then (recordsRows s c o (countOf c o) 0 at w p) _ (λ a w p. sectionsFrom s c os a w p) (records-by o (countOf c o) 0 at w p)
-      (sections-by os (endAt s (countOf c o) at) (workFrom s c o (countOf c o) 0 at w p) (startsFrom s c o (countOf c o) 0 at p))
+      (sections-by os (endAt s (countOf c o) at) (workFrom s c o (countOf c o) 0 at w) (startsFrom s c o (countOf c o) 0 at p))
 
 -- ---- the header
 
@@ -86,7 +86,7 @@ module _ (s : List ℕ) where
   -- with these heights and starts
   module _ (w p : List ℕ) where
     unfoldable answer : Out
-    answer = good (sectionsEnd s) (workIn s (countsOf s) sections (sectionsAt s) w p) (startsIn s (countsOf s) sections (sectionsAt s) p)
+    answer = good (sectionsEnd s) (workIn s (countsOf s) sections (sectionsAt s) w) (startsIn s (countsOf s) sections (sectionsAt s) p)
 
     unfoldable textRows : List Row
     textRows = row BytesEnd textBytesAt (length s < sectionsAt s) ∷ sectionsRows s (countsOf s) sections (sectionsAt s) w p

@@ -1,10 +1,11 @@
 -- THE READER'S TABLE: what is checked of an image s and a work slice of k entries, in order; each cause with its place, and what it says.
 -- Assumes nothing.
-use Prim.Native.Nat.{ℕ, zero, suc, _+_, _-_, _%_, _≤_, _<_}
+use Prim.Native.Nat.{ℕ, zero, suc, _+_, _-_, _%_, _≤_, _<_, max}
 use mathlib.Core.Path.{_≡_}
-use mathlib.Core.Bool.{false}
+use mathlib.Core.Bool.{false, cond}
 use mathlib.Core.List.{List, [], _∷_, _++_}
 use mathlib.Core.Logic.{_⊎_, _≢_}
+use lib.Dec.{eqb}
 use lib.ListN.{length, getD, take, drop, replicate}
 use Rattle.rl_spec.specs.declared.Counts.{Counts}
 use Rattle.rl_spec.specs.declared.Cause.the-variants.{ImageTooLong, WorkTooShort, BytesEnd, WrongKind, CountOverLimit, BadText, BadValue, BadReference, TooHigh, BytesLeft}
@@ -13,12 +14,10 @@ use Rattle.rl_spec.specs.declared.Target.{Target}
 use Rattle.rl_spec.specs.declared.Target.the-variants.{Text}
 use Rattle.rl_spec.specs.declared.Sort.{Sort}
 use Rattle.rl_spec.specs.declared.Sort.the-variants.{Raw, Byte, Scalar, Part, One, Maybe, Many, Range, OperandSort, Operand}
-use Rattle.rl_spec.specs.declared.Step.{Step}
-use Rattle.rl_spec.specs.declared.Step.the-variants.{Next, Stop}
 use Rattle.rl_spec.specs.Bytes.{u16At, u32At}
 use Rattle.rl_spec.specs.Schema.{limits, textBytesAt, sections, countOf, lowest, highest, tallest, sortOf, widthOf, fieldsOf}
 use Rattle.rl_spec.specs.Utf8.{utf8, isScalar}
-use Rattle.rl_spec.specs.Fields.{takes, within, kindOfStatement, entryAt, zeros, fieldsFrom}
+use Rattle.rl_spec.specs.Fields.{takes, within, kindOfStatement, childHeight, entryAt, zeros}
 use Rattle.rl_spec.specs.Read.{countsOf, seenBy, keep, mostStarts}
 use Rattle.rl_spec.specs.Image.{nextAt, endAt}
 use Rattle.rl_images.specs.Reading.Table.{Row, row}
@@ -89,13 +88,31 @@ module _ (s p : List ℕ) (seen : Counts) where
 
 -- ---- a record that starts at `at`; w has the heights so far
 
--- its height: 1 more than the largest among the children that its fields name
-abbrev pub above : Step → ℕ
-above (Next a tall) = tall + 1
-above (Stop q n) = 0
+module _ (s w : List ℕ) (seen : Counts) (own : Section) where
+  -- the largest height of a child that n list entries from the k-th on name, by turns a left and a right; that a field names; that fields name
+  unfoldable pub entriesTall : ℕ → ℕ → Target → Target → ℕ
+  entriesTall zero k l r = 0
+  entriesTall (suc n) k l r = max (childHeight w seen own l (entryAt s seen k)) (entriesTall n (k + 1) r l)
 
-unfoldable pub heightAt : List ℕ → List ℕ → List ℕ → Counts → Section → ℕ → ℕ
-heightAt s w p seen own at = above (fieldsFrom s w p seen own (fieldsOf (getD s at 0)) (at + 1) 0)
+  abbrev pub fieldTall : Sort → ℕ → ℕ
+  fieldTall (Raw m) n = 0
+  fieldTall (Byte low high) n = 0
+  fieldTall Scalar n = 0
+  fieldTall Part n = 0
+  fieldTall (One t) n = childHeight w seen own t (u16At s n)
+  fieldTall (Maybe t) n = cond (eqb (u16At s n) 65535) 0 (childHeight w seen own t (u16At s n))
+  fieldTall (Many l r step) n = entriesTall (u16At s (n + 2)) (u16At s n) l r
+  fieldTall (Range o) n = 0
+  fieldTall OperandSort n = 0
+  fieldTall Operand n = 0
+
+  unfoldable pub fieldsTall : List ℕ → ℕ → ℕ
+  fieldsTall [] n = 0
+  fieldsTall (o ∷ os) n = max (fieldTall (sortOf o) n) (fieldsTall os (n + widthOf (sortOf o)))
+
+  -- its height: 1 without children of its own section, else 1 plus the largest
+  unfoldable pub heightAt : ℕ → ℕ
+  heightAt at = fieldsTall (fieldsOf (getD s at 0)) (at + 1) + 1
 
 -- its kind is none of the section's
 abbrev pub KindOutside : List ℕ → Section → ℕ → Type 0
@@ -107,7 +124,7 @@ recordRows s w p seen own at =
     row BytesEnd at (length s ≤ at)
     ∷ row WrongKind at (KindOutside s own at)
     ∷ fieldsRows s p seen (fieldsOf (getD s at 0)) (at + 1)
-    ++ row TooHigh at (tallest own < heightAt s w p seen own at) ∷ []
+    ++ row TooHigh at (tallest own < heightAt s w seen own at) ∷ []
 
 -- ---- n records of a section, from the i-th on, and sections; the starts and the heights that they leave
 
@@ -116,31 +133,29 @@ module _ (s : List ℕ) (c : Counts) where
   startsFrom o zero i at p = p
   startsFrom o (suc n) i at p = startsFrom o n (i + 1) (nextAt s at) (keep c o i at p)
 
-  unfoldable pub workFrom : Section → ℕ → ℕ → ℕ → List ℕ → List ℕ → List ℕ
-  workFrom o zero i at w p = w
-  workFrom o (suc n) i at w p =
-      workFrom o n (i + 1) (nextAt s at) (keep c o i (heightAt s w p (seenBy c o i) o at) w) (keep c o i at p)
+  unfoldable pub workFrom : Section → ℕ → ℕ → ℕ → List ℕ → List ℕ
+  workFrom o zero i at w = w
+  workFrom o (suc n) i at w = workFrom o n (i + 1) (nextAt s at) (keep c o i (heightAt s w (seenBy c o i) o at) w)
 
   unfoldable pub recordsRows : Section → ℕ → ℕ → ℕ → List ℕ → List ℕ → List Row
   recordsRows o zero i at w p = []
   recordsRows o (suc n) i at w p =
       recordRows s w p (seenBy c o i) o at
-      ++ recordsRows o n (i + 1) (nextAt s at) (keep c o i (heightAt s w p (seenBy c o i) o at) w) (keep c o i at p)
+      ++ recordsRows o n (i + 1) (nextAt s at) (keep c o i (heightAt s w (seenBy c o i) o at) w) (keep c o i at p)
 
   unfoldable pub sectionsRows : List Section → ℕ → List ℕ → List ℕ → List Row
   sectionsRows [] at w p = []
   sectionsRows (o ∷ os) at w p =
       recordsRows o (countOf c o) 0 at w p
-      ++ sectionsRows os (endAt s (countOf c o) at) (workFrom o (countOf c o) 0 at w p) (startsFrom o (countOf c o) 0 at p)
+      ++ sectionsRows os (endAt s (countOf c o) at) (workFrom o (countOf c o) 0 at w) (startsFrom o (countOf c o) 0 at p)
 
   unfoldable pub startsIn : List Section → ℕ → List ℕ → List ℕ
   startsIn [] at p = p
   startsIn (o ∷ os) at p = startsIn os (endAt s (countOf c o) at) (startsFrom o (countOf c o) 0 at p)
 
-  unfoldable pub workIn : List Section → ℕ → List ℕ → List ℕ → List ℕ
-  workIn [] at w p = w
-  workIn (o ∷ os) at w p =
-      workIn os (endAt s (countOf c o) at) (workFrom o (countOf c o) 0 at w p) (startsFrom o (countOf c o) 0 at p)
+  unfoldable pub workIn : List Section → ℕ → List ℕ → List ℕ
+  workIn [] at w = w
+  workIn (o ∷ os) at w = workIn os (endAt s (countOf c o) at) (workFrom o (countOf c o) 0 at w)
 
   -- where sections from a place on end
   unfoldable pub lastAt : List Section → ℕ → ℕ

@@ -17,17 +17,17 @@ use Rattle.rl_images.specs.Encoding.Accepted.{accepted-well-formed}
 use Rattle.rl_images.specs.Reading.Table.{row, Unmet, First, unmet-parts, first-last, unmet-last}
 use Rattle.rl_images.specs.Reading.Rows.{readRows}
 use Rattle.rl_images.specs.Reading.ReadOutcome.{read-accepts}
-use Rattle.rl_theorems.specs.Answers.Tables.{Passes, lowerChecks, lowerRows}
+use Rattle.rl_theorems.specs.Answers.Tables.{OverLimit, lowerChecks, lowerRows}
 use Rattle.rl_theorems.specs.Answers.OfLowering.{makingRows, making-refuses, making-accepts}
 use Rattle.rl_theorems.specs.Lowering.LimitPassed.{Answers, refuses, makes, limits-alone}
 use Rattle.rl_theorems.specs.DemandThree.LowerAnswers.{under}
 
 -- nothing is made of an image that passes a limit, and of no other
-none-passes : (x : Image) {o : Option Image} → Answers x o → o ≡ none → Passes x
+none-passes : (x : Image) {o : Option Image} → Answers x o → o ≡ none → OverLimit x
 none-passes x (refuses h) e = h
 none-passes x (makes h) e = absurd (Option·none-ne-some x (sym e))
 
-passes-none : (x : Image) {o : Option Image} → Answers x o → Passes x → o ≡ none
+passes-none : (x : Image) {o : Option Image} → Answers x o → OverLimit x → o ≡ none
 passes-none x (refuses h) p = refl
 passes-none x (makes h) p = absurd (h p)
 
@@ -35,7 +35,7 @@ some-same : (x y : Image) {o : Option Image} → Answers x o → o ≡ some y �
 some-same x y (refuses h) e = absurd (Option·none-ne-some y e)
 some-same x y (makes h) e = Option·some-injective x y e
 
-some-made : (x : Image) {o : Option Image} → Answers x o → (Passes x → ⊥) → o ≡ some x
+some-made : (x : Image) {o : Option Image} → Answers x o → (OverLimit x → ⊥) → o ≡ some x
 some-made x (refuses p) h = absurd (h p)
 some-made x (makes g) h = refl
 
@@ -51,7 +51,7 @@ module _ (s : List ℕ) (k f room : ℕ) (bytes : AllBytes s) where
       (under 64 (heights im Expressions) (λ i l. b .1 .0 (inl (i, l)))) (under 32 (heights im Statements) (λ i l. b .1 .0 (inr (i, l))))
 
   abbrev Past : Type 0
-  Past = (im′ : Image) × (unlimited im f ≡ some im′) × Passes im′
+  Past = (im′ : Image) × (unlimited im f ≡ some im′) × OverLimit im′
 
   none-past : Unmet (readRows s k) → Unmet (lowerChecks im f room) → lowered im f ≡ none → Past
   none-past a b e = let x = answered a b in (x .0, x .1, none-passes (x .0) (x .2) e)
@@ -59,7 +59,7 @@ module _ (s : List ℕ) (k f room : ℕ) (bytes : AllBytes s) where
   past-none : Unmet (readRows s k) → Unmet (lowerChecks im f room) → Past → lowered im f ≡ none
   past-none a b y =
       let x = answered a b in
-      passes-none (x .0) (x .2) (subst Passes (Option·some-injective (y .0) (x .0) (sym (y .1) ∙ x .1)) (y .2))
+      passes-none (x .0) (x .2) (subst OverLimit (Option·some-injective (y .0) (x .0) (sym (y .1) ∙ x .1)) (y .2))
 
   -- THEOREMS
   pub lower-refuses : (q : Cause) (p : ℕ) → (lowerOf s k f room ≡ refused q p) ↔ First (readRows s k ++ lowerRows im f room) q p

@@ -35,13 +35,13 @@ lowerChecks im f room =
     row NoSuchFunction 0 (sizeOf im Functions ≤ f) ∷ row HeightOverLimit 0 (HeightOver im) ∷ row OutputTooShort 0 (room < 65535) ∷ []
 
 -- the text bytes or a section are over their limit, or there are more than 65,535 bytes
-abbrev pub Passes : Image → Type 0
-Passes im = (mostBytes < length (im .bytes)) ⊎ (((o : Section) × (most o < sizeOf im o)) ⊎ (65535 < length (encode im)))
+abbrev pub OverLimit : Image → Type 0
+OverLimit im = (mostBytes < length (im .bytes)) ⊎ (((o : Section) × (most o < sizeOf im o)) ⊎ (65535 < length (encode im)))
 
 -- 11, 12, 13, and 14: the image that lowering without limits makes passes a limit
 abbrev pub lowerRows : Image → ℕ → ℕ → List Row
 lowerRows im f room =
-    lowerChecks im f room ++ row LimitPassed 0 ((im′ : Image) × (unlimited im f ≡ some im′) × Passes im′) ∷ []
+    lowerChecks im f room ++ row LimitPassed 0 ((im′ : Image) × (unlimited im f ≡ some im′) × OverLimit im′) ∷ []
 
 -- ---- folding a node by its id: 15, 16
 

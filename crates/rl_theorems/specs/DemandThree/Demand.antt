@@ -2,7 +2,7 @@
 -- instances of both.
 -- Assumes nothing.
 use Prim.Native.Nat.{ℕ, _+_, _-_, _*_, _%_, _≤_, _<_}
-use mathlib.Core.Path.{_≡_, refl, ap, sym, subst}
+use mathlib.Core.Path.{_≡_, refl, ap}
 use mathlib.Core.Bool.{Bool, true, cond}
 use mathlib.Core.List.{List, [], _∷_, _++_}
 use mathlib.Core.Option.{some}
@@ -10,13 +10,10 @@ use native.Mathlib.Omega.{arith}
 use lib.Dec.{eqb, lit<}
 use lib.IntN.{pos}
 use lib.ListN.{length, getD, take, replicate}
-use Rattle.rl_spec.specs.declared.Answer.the-variants as read
-use Rattle.rl_spec.specs.declared.ArenaNo.{ArenaNo}
 use Rattle.rl_spec.specs.declared.Arguments.{Arguments}
 use Rattle.rl_spec.specs.declared.Cause.{Cause}
 use Rattle.rl_spec.specs.declared.Cause.the-variants.{WorkTooShort}
-use Rattle.rl_spec.specs.declared.ConstVal.the-variants.{Bool as Truth}
-use Rattle.rl_spec.specs.declared.Counts.{Counts}
+use Rattle.rl_spec.specs.declared.ConstVal.the-variants.{Str, Bool as Truth}
 use Rattle.rl_spec.specs.declared.LowerAnswer.the-variants.{Lowered}
 use Rattle.rl_spec.specs.declared.Outcome.{Outcome}
 use Rattle.rl_spec.specs.declared.Outcome.the-variants.{Returned}
@@ -28,10 +25,8 @@ use Rattle.rl_spec.specs.declared.Sort.the-variants.{One, Maybe, Many}
 use Rattle.rl_spec.specs.declared.Target.{Target}
 use Rattle.rl_spec.specs.declared.Target.the-variants.{Expression}
 use Rattle.rl_spec.specs.declared.Value.the-variants.{Plain as Bare}
-use Rattle.rl_spec.specs.declared.Violation.{Violation}
-use Rattle.rl_spec.specs.declared.Violation.the-variants.{Requires}
 use Rattle.rl_spec.specs.Schema.{sortOf, fieldsOf}
-use Rattle.rl_spec.specs.Read.{countsOf, answerOf}
+use Rattle.rl_spec.specs.Read.{countsOf}
 use Rattle.rl_spec.specs.Image.{Rec, Image, recordOf, sizeOf, fieldOf, first, second, entryOf, textOf, encode, imageOf, AllBytes}
 use Rattle.rl_spec.specs.Values as value
 use Rattle.rl_spec.specs.Values.{ConstVal}
@@ -43,20 +38,24 @@ use Rattle.rl_spec.specs.Prove.{violationsOf, proveOf, proveAllOf, allReportsOf
 use Rattle.rl_spec.specs.Run.{nothing, Value, plain, Env, Outcome as Ended, returned, got, folds}
 use Rattle.rl_spec.specs.Reading.{entering}
 use Rattle.rl_spec.specs.Mapped.{Text, mapConst}
+use Rattle.rl_spec.specs.Message.{decimal}
+use Rattle.rl_spec.specs.Printed.{linesOf}
 use Rattle.rl_spec.specs.Functions.{contractFunction, readingIn}
 use Rattle.rl_spec.specs.Lowerer.{lowerOf, lowerAnswer, lowerOut}
 use Rattle.rl_spec.specs.Runner.{outcomeIn, allHave, given, valuesOf, runOf}
 use Rattle.rl_theorems.specs.Reading.EncodedAnswers.{bytes-by}
 use Rattle.rl_theorems.specs.Lowering.LowerFrame.{begins}
 use Rattle.rl_theorems.specs.DemandThree.OverRecords.{free-texts, last-ensured, asked}
-use Rattle.rl_theorems.specs.DemandThree.DepthTests.{passes, one-passes, option-passes, entry-passes, throughout, ok-itself, throughout-named, isNot, is-not, texts-pass, folds-to}
+use Rattle.rl_theorems.specs.DemandThree.DepthTests.{allNamed, one-passes, option-passes, entry-passes, throughout, ok-itself, throughout-named, isNot, is-not, texts-pass, folds-to}
 use Rattle.rl_theorems.specs.DemandThree.FirstHalf.{out-refused, out-reads}
 use Rattle.rl_examples.specs.MarkedImages.{returns-true, flow}
+use Rattle.rl_examples.specs.PrinterExamples.{printing}
 use Rattle.rl_theorems.specs.DemandThree.Marked.{decoding, folding, proving}
-use Rattle.rl_theorems.specs.DemandThree.FirstHalfImages.{answering, ret-made}
+use Rattle.rl_theorems.specs.DemandThree.FirstHalfImages.{answering, ret-made, echo, echo-made}
 use Rattle.rl_theorems.specs.DemandThree.FoldsEntry.{NonEmpty}
 use Rattle.rl_theorems.specs.DemandThree.FoldsCalls.{reported-never-enters}
-use Rattle.rl_theorems.specs.DemandThree.Reports.{reported, all-reported, listed, violated-callee}
+use Rattle.rl_theorems.specs.DemandThree.Reports.{reported, all-reported, violated-callee}
+use Rattle.rl_theorems.specs.DemandThree.PrintedLines.{line-reported}
 
 -- ---- FIRST HALF: the run of the lowered body is the contract reading of the original
 
@@ -151,14 +150,13 @@ pub data Reported (s : List ℕ) (call : ℕ) : Type 0 where
   proved : (k room n : ℕ) → proveOf s k call room ≡ Proved n → (n ≡ 0 → ⊥) → Reported s call
   -- of `prove_all`: the j-th of the n in the slice has the call for its first entry
   provedAll : (k room n j : ℕ) → proveAllOf s k room ≡ Proved n → j < n → getD (allReportsOf s k room) (j * 4) 0 ≡ call → Reported s call
-  -- of the printer: its lines are of the violations of the calls of accepted bytes
-  printed : (k : ℕ) (a : ArenaNo) (c : Counts) (before : List Violation) (v : Violation) (after : List Violation) →
-      answerOf s k ≡ read.Accepted a c → call < c .calls → violationsOf (imageOf s) call ≡ before ++ v ∷ after → Reported s call
+  -- of the printer: its i-th line begins with the call's number and a space
+  printed : (i : ℕ) → i < length (linesOf s) → Begins (decimal call ++ ascii " ") (getD (linesOf s) i []) → Reported s call
 
 violated : (s : List ℕ) (call : ℕ) → Reported s call → NonEmpty (violationsOf (imageOf s) call)
 violated s call (proved k room n e z) = reported s call room n z k e
 violated s call (provedAll k room n j e l d) = all-reported s k room n j call e l d
-violated s call (printed k a c before v after e l d) = subst NonEmpty (sym d) (listed before v after)
+violated s call (printed i l b) = line-reported s call i (b .0) l (b .1)
 
 -- THEOREM. A call that has a report has a callee; and whatever the budget is, and the values that no argument folds to, it never passes the
 -- callee's entry checks
@@ -211,12 +209,38 @@ both-short =
     first-half (encode returns-true) 8192 0 65535 361 (bytes-by (encode returns-true) refl) lowers no-reserved one-statement
     100 no-values 1000 refl .0 WorkTooShort 0 refl
 
+-- f(p), requires true, which returns p, lowered into 256 bytes: of the text "x", the third of the original's, it returns "x" in 5 steps
+abbrev pub third-text : Arguments
+third-text = record { values = record { value = Bare (Const (Str 2)) } ∷ replicate 15 (record { value = Bare Null }); count = 1 }
+
+abbrev echoed : List ℕ
+echoed = take 256 (lowerOut 65535 (lowerOf (encode echo) 8192 0 65535))
+
+echo-lowers : lowerAnswer (lowerOf (encode echo) 8192 0 65535) ≡ Lowered 256
+unfolding answering
+echo-lowers = ap lowerAnswer echo-made
+
+echo-reserved : NoReservedText (imageOf (encode echo))
+unfolding answering begins
+echo-reserved = texts-pass (imageOf (encode echo)) (ascii "__ensure_ret_") refl
+
+no-ensures : NoBareLast (imageOf (encode echo)) 0
+unfolding answering
+no-ensures z l = absurd (omega (arith, z))
+
+pub x-in-5 : (o : Outcome) × (m : ℕ) × (runOf echoed 8192 0 third-text 1000 ≡ Ran o m)
+    × (_≡_ {A = Ended Text × ℕ} (outcomeIn (imageOf echoed) o, m) (returned (folds (value.str (ascii "x"))), 5))
+unfolding answering
+x-in-5 =
+    first-half (encode echo) 8192 0 65535 256 (bytes-by (encode echo) refl) echo-lowers echo-reserved no-ensures
+    8192 third-text 1000 refl .1 (Returned (Bare (Const (Str 2)))) 2 refl
+
 -- the printer's example: open(flow), flow >= 1, requires flow < 4096, and the calls open(0) and open(5000)
 abbrev opens : Image
 opens = imageOf (encode flow)
 
 -- what stands in an expression, by search
-pub tested : {im : Image} {x : Rec} {j : ℕ} → Names im x j → (test : ℕ → Bool) → passes im test x ≡ true → test j ≡ true
+pub tested : {im : Image} {x : Rec} {j : ℕ} → Names im x j → (test : ℕ → Bool) → allNamed im test x ≡ true → test j ≡ true
 tested {im} {x} (one c e) test h = one-passes im test x c h e
 tested {im} {x} (oneOrNone c e n) test h = option-passes im test x c h e
 tested {im} {x} (entry c k {l} {r} {m} e t q) test h = entry-passes im test x c k l r m h e t q
@@ -238,7 +262,7 @@ unfolding decoding proving
 distinct-names i j l m = absurd (omega (arith, m))
 
 pub no-assignment : NoAssignment opens 0
-unfolding decoding folding proving passes throughout
+unfolding decoding folding proving allNamed throughout
 no-assignment j l = let z : j ≡ 0 = omega (arith, l) in rw z (none-in opens 39 2 refl)
 
 values : (call n : ℕ) → constEval (textOf opens) [] (exprTree opens (argument opens call 0)) ≡ some (value.int (pos n)) →
@@ -252,19 +276,19 @@ values call n d =
 
 -- open(0), which `prove` reports
 pub never-0 : (budget : ℕ) → PassesEntry opens 0 (folds (value.int (pos 0)) ∷ []) budget → ⊥
-unfolding decoding folding proving proveOf passes throughout
+unfolding decoding folding proving proveOf allNamed throughout
 never-0 =
     second-half (encode flow) 0 0 (proved 8192 4 1 refl (λ e. omega arith)) refl (no-identifier 0 refl refl) distinct-names no-assignment
     (folds (value.int (pos 0)) ∷ []) (values 0 0 refl)
 
 -- open(5000), of which is the second report of `prove_all`
 pub never-5000 : (budget : ℕ) → PassesEntry opens 0 (folds (value.int (pos 5000)) ∷ []) budget → ⊥
-unfolding decoding folding proving proveAllOf allReportsOf passes throughout
+unfolding decoding folding proving proveAllOf allReportsOf allNamed throughout
 never-5000 =
     second-half (encode flow) 1 0 (provedAll 8192 8 2 1 refl (lit< tt) refl) refl (no-identifier 1 refl refl) distinct-names no-assignment
     (folds (value.int (pos 5000)) ∷ []) (values 1 5000 refl)
 
 -- and the printer's second line
 pub second-line : Reported (encode flow) 1
-unfolding decoding folding proving
-second-line = printed 8192 _ _ [] (Requires 0) [] refl (lit< tt) refl
+unfolding decoding folding proving printing
+second-line = printed 1 (lit< tt) (_, refl)

@@ -47,8 +47,8 @@ module _ (im : Image) (test : ℕ → Bool) where
   passesField OperandSort f = true
   passesField Operand f = true
 
-  unfoldable pub passes : Rec → Bool
-  passes x = all (λ c. passesField (sortIn x c) (fieldOf x c)) 0 (length (fieldsOf (x .kind)))
+  unfoldable pub allNamed : Rec → Bool
+  allNamed x = all (λ c. passesField (sortIn x c) (fieldOf x c)) 0 (length (fieldsOf (x .kind)))
 
   -- a field that the record does not have is of a sort that names nothing
   abbrev Refers : Sort → Type 0
@@ -69,19 +69,19 @@ module _ (im : Image) (test : ℕ → Bool) where
       by-ltb c (length (fieldsOf (x .kind))) (λ l. l)
       (λ l. absurd (subst Refers (sym e ∙ ap sortOf (List·getD-eq-default (fieldsOf (x .kind)) 0 l)) h))
 
-  field-passes : (x : Rec) (c : ℕ) (o : Sort) → passes x ≡ true → sortIn x c ≡ o → Refers o → passesField o (fieldOf x c) ≡ true
-  unfolding passes
+  field-passes : (x : Rec) (c : ℕ) (o : Sort) → allNamed x ≡ true → sortIn x c ≡ o → Refers o → passesField o (fieldOf x c) ≡ true
+  unfolding allNamed
   field-passes x c o h e r =
       let l : c < length (fieldsOf (x .kind)) = field-there x c o e r in
       rw e at (all-at _ (length (fieldsOf (x .kind))) 0 c h (omega arith) (omega arith))
 
-  pub one-passes : (x : Rec) (c : ℕ) → passes x ≡ true → sortIn x c ≡ One Expression → test (number x c) ≡ true
+  pub one-passes : (x : Rec) (c : ℕ) → allNamed x ≡ true → sortIn x c ≡ One Expression → test (number x c) ≡ true
   one-passes x c h e = field-passes x c (One Expression) h e tt
 
-  pub option-passes : (x : Rec) (c : ℕ) → passes x ≡ true → sortIn x c ≡ Maybe Expression → test (number x c) ≡ true
+  pub option-passes : (x : Rec) (c : ℕ) → allNamed x ≡ true → sortIn x c ≡ Maybe Expression → test (number x c) ≡ true
   option-passes x c h e = field-passes x c (Maybe Expression) h e tt
 
-  pub entry-passes : (x : Rec) (c k : ℕ) (l r : Target) (m : ℕ) → passes x ≡ true → sortIn x c ≡ Many l r m → cond (eqb (k % 2) 0) l r ≡ Expression →
+  pub entry-passes : (x : Rec) (c k : ℕ) (l r : Target) (m : ℕ) → allNamed x ≡ true → sortIn x c ≡ Many l r m → cond (eqb (k % 2) 0) l r ≡ Expression →
       k < second (fieldOf x c) → test (entryOf im (first (fieldOf x c) + k)) ≡ true
   entry-passes x c k l r m h e t q =
       rw t at (all-at (λ k. passesTo (cond (eqb (k % 2) 0) l r) (entryOf im (first (fieldOf x c) + k))) (second (fieldOf x c)) 0 k
@@ -91,7 +91,7 @@ module _ (im : Image) (test : ℕ → Bool) where
 
 module _ (im : Image) (ok : Rec → Bool) where
   abbrev step : ℕ → (ℕ → Bool) → Bool
-  step i deeper = ok (recordOf im Expressions i) && passes im deeper (recordOf im Expressions i)
+  step i deeper = ok (recordOf im Expressions i) && allNamed im deeper (recordOf im Expressions i)
 
   unfoldable pub throughout : ℕ → Bool
   throughout = descend (λ _. false) step
@@ -109,7 +109,7 @@ module _ (im : Image) (ok : Rec → Bool) where
 
   -- of an expression that passes every test that all do which the i-th names
   pub throughout-named : (i j : ℕ) → throughout i ≡ true →
-      ((test : ℕ → Bool) → passes im test (recordOf im Expressions i) ≡ true → test j ≡ true) → throughout j ≡ true
+      ((test : ℕ → Bool) → allNamed im test (recordOf im Expressions i) ≡ true → test j ≡ true) → throughout j ≡ true
   throughout-named i j h x =
       earlier j (ltb j i) (x (below i (λ _. false) throughout) (and-right (ok (recordOf im Expressions i)) _ (parts i h)))
 

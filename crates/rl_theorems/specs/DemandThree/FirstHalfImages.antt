@@ -6,7 +6,6 @@ use mathlib.Core.List.{[], _∷_}
 use mathlib.Core.Option.{some}
 use lib.Dec.{lit<, lit≤}
 use Rattle.rl_spec.specs.Image.{Image, num, pair, encode}
-use Rattle.rl_spec.specs.Make.{absent}
 use Rattle.rl_spec.specs.Functions.{plainFunction, readingIn}
 use Rattle.rl_spec.specs.Lower.{lowered}
 use Rattle.rl_spec.specs.Lowerer.{made, orLimit, lowerOf}
@@ -43,7 +42,7 @@ echo-lowered =
           ∷ a 41 (num 1 ∷ pair 1 3 ∷ pair 4 1 ∷ []) ∷ [];
       statements =
           a 66 (num 5 ∷ num 1 ∷ []) ∷ a 65 (num 1 ∷ num 6 ∷ []) ∷ a 69 (num 1 ∷ num 4 ∷ pair 5 1 ∷ num 0 ∷ [])
-          ∷ a 68 (num 1 ∷ num 2 ∷ absent ∷ []) ∷ [];
+          ∷ a 68 (num 1 ∷ num 2 ∷ num 65535 ∷ []) ∷ [];
       parameters = parameter 1 ∷ [];
       clauses = clause 0 65535 ∷ [];
       functions = function 0 1 (pair 0 1) (pair 6 2) (pair 0 1) (pair 0 0) ∷ [];
@@ -81,7 +80,7 @@ promising-lowered name =
       statements =
           a 66 (num 5 ∷ num 0 ∷ []) ∷ a 64 (num 1 ∷ num 2 ∷ num 0 ∷ num 0 ∷ num 0 ∷ [])
           ∷ a 64 (num 1 ∷ num 4 ∷ num 0 ∷ num 2 ∷ num 0 ∷ []) ∷ a 65 (num 1 ∷ num 7 ∷ [])
-          ∷ a 69 (num 1 ∷ num 5 ∷ pair 5 1 ∷ num 0 ∷ []) ∷ a 68 (num 1 ∷ num 4 ∷ absent ∷ []) ∷ a 66 (num 1 ∷ num 8 ∷ []) ∷ [];
+          ∷ a 69 (num 1 ∷ num 5 ∷ pair 5 1 ∷ num 0 ∷ []) ∷ a 68 (num 1 ∷ num 4 ∷ num 65535 ∷ []) ∷ a 66 (num 1 ∷ num 8 ∷ []) ∷ [];
       parameters = [];
       clauses = clause 1 65535 ∷ [];
       functions = function 0 1 (pair 0 0) (pair 6 4) (pair 0 0) (pair 0 1) ∷ [];

@@ -46,6 +46,7 @@ use Rattle.rl_spec.specs.Mapped.{mapExpr, mapBody}
 use Rattle.rl_spec.specs.Functions.{refinementChecks, plainFunction, contractFunction, readingIn}
 use Rattle.rl_spec.specs.Runner.{outcomeIn, allHave, ranOf, ranIn, runOf}
 use Rattle.rl_spec.specs.Message.{decimalBy, decimal, messageBy, opening, messageOf}
+use Rattle.rl_spec.specs.Printed.{outputOf}
 use Rattle.rl_spec.specs.Lower.{lowered}
 use Rattle.rl_spec.specs.Lowerer.{made, anyOver, tooTall, orLimit, lowerOf}
 use Rattle.rl_images.specs.Encoding.ReaderKnows.{counts}
@@ -53,6 +54,7 @@ use Rattle.rl_theorems.specs.Reading.EncodedAnswers.{lowered-encoded, ra
 use Rattle.rl_theorems.specs.Runs.Budget.{run-same, reading-same}
 use Rattle.rl_examples.specs.LowerExamples.{requires-identifier, requires-lowered, case10-whole, returns-ok, returns-lowered, case11-whole, lowering}
 use Rattle.rl_examples.specs.MarkedImages.{integer, uint, byte, string, bool, float, binary, unary, grouping, plus, minus, slash, compare, less, textBytes, textRecords, nodes, lastNode, named-before, named-behind, returns-true, flow}
+use Rattle.rl_examples.specs.PrinterExamples.{two-lines, refusals}
 
 -- ---- what a case says
 
@@ -122,9 +124,11 @@ pub record MarkedCases : Type 0 where
   -- 14. `return true` under ensures `ret`: 9 steps
   pub case14 : EndsSo returns-true 0 (Returned (Bare (Const (Truth true)))) 9
 
--- ---- the printer's example: its two reports, and no others
+-- ---- the printer's example: all that it writes, and for a byte too many; the two reports, and no others
 
 pub record PrinterExample : Type 0 where
+  pub output : outputOf (encode flow) ≡ ascii "0 7 contract violation (proven at compile time): refinement failed: flow >= 1\n1 9 contract violation (proven at compile time): flow id range\n"
+  pub refused : outputOf (encode flow ++ 0 ∷ []) ≡ ascii "refused 10 at 213\n"
   pub first : Reports flow 0 (Refinement 0) (0 ∷ 7 ∷ 0 ∷ 0 ∷ []) "contract violation (proven at compile time): refinement failed: flow >= 1"
   pub second : Reports flow 1 (Requires 0) (1 ∷ 9 ∷ 1 ∷ 0 ∷ []) "contract violation (proven at compile time): flow id range"
   pub answer : (k room : ℕ) → 8192 ≤ k → 8 ≤ room → proveAllOf (encode flow) k room ≡ Proved 2
@@ -254,6 +258,8 @@ pub printer-example : PrinterExample
 unfolding decoding folding proving
 printer-example =
     record {
+      output = two-lines;
+      refused = refusals .1;
       first = reports flow refl refl refl (lit< tt) refl refl refl refl;
       second = reports flow refl refl refl (lit< tt) refl refl refl refl;
       answer = λ k room long fit.

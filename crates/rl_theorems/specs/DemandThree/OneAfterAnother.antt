@@ -44,10 +44,12 @@ use Rattle.rl_theorems.specs.DemandThree.FirstHalf.{original-whole, made
 use Rattle.rl_theorems.specs.DemandThree.Demand.{Begins, NoBareLast, RunsAsRead, Names, one, oneOrNone, entry, StandsIn, itself, deeper}
 
 -- the functions fs are lowered in turn, each with work and output slices of its own, and `last` is what the last lowering left
-pub data LowersInTurn : List ℕ → List ℕ → List ℕ → Type 0 where
-  none-left : {s : List ℕ} → LowersInTurn s [] s
+-- (for images: LoweredInTurn, which also has the two premises on fs. `Among f fs`: f is one of fs; `NoneTwice fs`: none of them is there
+-- twice, since a function that is lowered twice checks its contracts twice, for more steps)
+pub data BytesInTurn : List ℕ → List ℕ → List ℕ → Type 0 where
+  none-left : {s : List ℕ} → BytesInTurn s [] s
   and-then : {s last : List ℕ} {f : ℕ} {fs : List ℕ} (k room n : ℕ) → lowerAnswer (lowerOf s k f room) ≡ Lowered n →
-      LowersInTurn (take n (lowerOut room (lowerOf s k f room))) fs last → LowersInTurn s (f ∷ fs) last
+      BytesInTurn (take n (lowerOut room (lowerOf s k f room))) fs last → BytesInTurn s (f ∷ fs) last
 
 -- no name that begins with `__ensure_ret_` is looked up (30) or assigned (39) at any depth of the expression i
 abbrev pub NoReservedIn : Image → ℕ → Type 0
@@ -119,26 +121,26 @@ module _ (s : List ℕ) (f : ℕ) (bytes : AllBytes s) (k room n : ℕ) (e : low
   first-whole : Whole s
   first-whole = original-whole s k f room (came .0) bytes (came .1)
 
-  then-images : {last : Image} {fs : List ℕ} → images.LoweredInTurn (imageOf out) fs last → images.LoweredInTurn (imageOf s) (f ∷ fs) last
+  then-images : {last : Image} {fs : List ℕ} → images.ImagesInTurn (imageOf out) fs last → images.ImagesInTurn (imageOf s) (f ∷ fs) last
   then-images {last} {fs} rest =
       images.and-then (function-there s k f room (came .0) bytes (came .1)) (by .low) (by .lower) (by .is)
-      (subst (λ im. images.LoweredInTurn im fs last) out-image rest)
+      (subst (λ im. images.ImagesInTurn im fs last) out-image rest)
 
-in-images : {s last : List ℕ} {fs : List ℕ} → AllBytes s → LowersInTurn s fs last → images.LoweredInTurn (imageOf s) fs (imageOf last)
+in-images : {s last : List ℕ} {fs : List ℕ} → AllBytes s → BytesInTurn s fs last → images.ImagesInTurn (imageOf s) fs (imageOf last)
 in-images bytes none-left = images.none-left
 in-images bytes (and-then {s = s} {f = f} k room n e rest) = then-images s f bytes k room n e (in-images (out-bytes s f bytes k room n e) rest)
 
-last-whole : {s last : List ℕ} {fs : List ℕ} → AllBytes s → Whole s → LowersInTurn s fs last → Whole last
+last-whole : {s last : List ℕ} {fs : List ℕ} → AllBytes s → Whole s → BytesInTurn s fs last → Whole last
 last-whole bytes w none-left = w
 last-whole bytes w (and-then {s = s} {f = f} k room n e rest) =
     last-whole (out-bytes s f bytes k room n e) (out-whole s f bytes k room n e) rest
 
-whole-of : {s last : List ℕ} {fs : List ℕ} (f : ℕ) → AllBytes s → LowersInTurn s fs last → Among f fs → Whole s
+whole-of : {s last : List ℕ} {fs : List ℕ} (f : ℕ) → AllBytes s → BytesInTurn s fs last → Among f fs → Whole s
 whole-of f bytes none-left x = absurd x
 whole-of f bytes (and-then {s = s} {f = g} k room n e rest) x = first-whole s g bytes k room n e
 
 -- where something was lowered, the first bytes are those of a well-formed image
-either-way : {s last : List ℕ} {fs : List ℕ} (P : List ℕ → Type 0) → AllBytes s → LowersInTurn s fs last → P s → (Whole s → P last) → P last
+either-way : {s last : List ℕ} {fs : List ℕ} (P : List ℕ → Type 0) → AllBytes s → BytesInTurn s fs last → P s → (Whole s → P last) → P last
 either-way P bytes none-left p q = p
 either-way P bytes (and-then {s = s} {f = f} k room n e rest) p q = q (first-whole s f bytes k room n e)
 
@@ -152,7 +154,7 @@ same-answer o o′ m m′ e = ap (answer (o, m)) e
 
 -- ---- THEOREMS, for a work slice of k entries for the runs, and values whose texts are those of the first image
 
-module _ (s last : List ℕ) (fs : List ℕ) (bytes : AllBytes s) (in-turn : LowersInTurn s fs last) (f k : ℕ) (args : Arguments) (budget : ℕ)
+module _ (s last : List ℕ) (fs : List ℕ) (bytes : AllBytes s) (in-turn : BytesInTurn s fs last) (f k : ℕ) (args : Arguments) (budget : ℕ)
     (texts : allHave (countsOf s) (given args) ≡ true) where
   abbrev im : Image
   im = imageOf s
@@ -161,9 +163,9 @@ module _ (s last : List ℕ) (fs : List ℕ) (bytes : AllBytes s) (in-turn : Low
   vs = valuesOf (given args)
 
   -- a function that is lowered, where none is twice: its run in the last bytes is its contract reading in the first
-  pub lowered-runs : NoneTwice fs → Among f fs → NoReservedEnsures im f → NoBareLast im f → RunsAsRead s last k f args budget
+  pub in-turn-lowered : NoneTwice fs → Among f fs → NoReservedEnsures im f → NoBareLast im f → RunsAsRead s last k f args budget
   unfolding readingIn
-  lowered-runs once x free last-not =
+  in-turn-lowered once x free last-not =
       let w : Whole s = whole-of f bytes in-turn x in
       let w′ : Whole last = last-whole bytes w in-turn in
       let turn = in-images bytes in-turn in
@@ -180,8 +182,8 @@ module _ (s last : List ℕ) (fs : List ℕ) (bytes : AllBytes s) (in-turn : Low
   plainly t = run.used budget (runFunction (λ t. t) (contractFunction t f) (map (mapValue (textOf im)) vs) budget)
 
   -- any other function runs in the last bytes as in the first
-  pub others-run : (Among f fs → ⊥) → RunsAsBefore s last k f args budget
-  others-run apart =
+  pub in-turn-others : (Among f fs → ⊥) → RunsAsBefore s last k f args budget
+  in-turn-others apart =
       either-way (λ t. RunsAsBefore s t k f args budget) bytes in-turn (λ q p e. e, λ o m e. (o, e, refl))
       (λ w.
       let w′ : Whole last = last-whole bytes w in-turn in

@@ -36,9 +36,9 @@ use Rattle.rl_theorems.specs.DemandThree.LoweredBytes.{made-written}
 use Rattle.rl_theorems.specs.DemandThree.FirstHalfImages.{answering}
 use Rattle.rl_theorems.specs.Lowering.LowerFrame.{begins}
 use Rattle.rl_theorems.specs.Lowering.LoweredInTurn.{Among, NoneTwice}
-use Rattle.rl_theorems.specs.DemandThree.DepthTests.{passes, throughout, not-true, begins-not}
+use Rattle.rl_theorems.specs.DemandThree.DepthTests.{allNamed, throughout, not-true, begins-not}
 use Rattle.rl_theorems.specs.DemandThree.Demand.{NoBareLast, Names, no-values, tested, in-depth}
-use Rattle.rl_theorems.specs.DemandThree.OneAfterAnother.{LowersInTurn, none-left, and-then, NoReservedEnsures, lowered-runs, others-run}
+use Rattle.rl_theorems.specs.DemandThree.OneAfterAnother.{BytesInTurn, none-left, and-then, NoReservedEnsures, in-turn-lowered, in-turn-others}
 
 -- f, g and h return true and ensure `ret`; f also requires true
 abbrev original : Image
@@ -88,12 +88,12 @@ f-lowered =
 
 -- one more lowering ahead
 ahead : {last : List ℕ} {fs : List ℕ} (im im′ : Image) (k f room : ℕ) → AllBytes (encode im) → lowerOf (encode im) k f room ≡ lower.made im′ →
-    LowersInTurn (encode im′) fs last → LowersInTurn (encode im) (f ∷ fs) last
+    BytesInTurn (encode im′) fs last → BytesInTurn (encode im) (f ∷ fs) last
 ahead {last} {fs} im im′ k f room bytes e rest =
     and-then k room (length (encode im′)) (ap lowerAnswer e)
-    (subst (λ t. LowersInTurn t fs last) (sym (made-written (encode im) k f room im′ bytes e)) rest)
+    (subst (λ t. BytesInTurn t fs last) (sym (made-written (encode im) k f room im′ bytes e)) rest)
 
-in-turn : LowersInTurn (encode original) (1 ∷ 0 ∷ []) (encode final)
+in-turn : BytesInTurn (encode original) (1 ∷ 0 ∷ []) (encode final)
 unfolding decoding lowering
 in-turn =
     ahead original middle 8192 1 65535 (bytes-by (encode original) refl) g-lowered
@@ -117,7 +117,7 @@ free-name x h (inr e) = not-true (begins (ascii "__ensure_ret_") (textOf first (
 
 -- the clause that f and g ensure
 no-reserved : (f : ℕ) → functionAt first f .ensured .first ≡ 1 → functionAt first f .ensured .count ≡ 1 → NoReservedEnsures first f
-unfolding decoding lowering begins passes throughout
+unfolding decoding lowering begins allNamed throughout
 no-reserved f a n j i l x m d k =
     let z : functionAt first f .ensured .first + j ≡ 1 = omega (arith, a, n, l) in
     let y : Names first (recordOf first Clauses 1) i = rw z at x in
@@ -141,13 +141,13 @@ RunsSo f steps =
 pub f-runs : RunsSo 0 12
 unfolding answering
 f-runs =
-    lowered-runs (encode original) (encode final) (1 ∷ 0 ∷ []) (bytes-by (encode original) refl) in-turn 0 9000 no-values 1000 refl none-twice (inr (inl refl))
+    in-turn-lowered (encode original) (encode final) (1 ∷ 0 ∷ []) (bytes-by (encode original) refl) in-turn 0 9000 no-values 1000 refl none-twice (inr (inl refl))
     (no-reserved 0 refl refl) (one-statement 0 refl) .1 yes 2 refl
 
 pub g-runs : RunsSo 1 9
 unfolding answering
 g-runs =
-    lowered-runs (encode original) (encode final) (1 ∷ 0 ∷ []) (bytes-by (encode original) refl) in-turn 1 9000 no-values 1000 refl none-twice (inl refl)
+    in-turn-lowered (encode original) (encode final) (1 ∷ 0 ∷ []) (bytes-by (encode original) refl) in-turn 1 9000 no-values 1000 refl none-twice (inl refl)
     (no-reserved 1 refl refl) (one-statement 1 refl) .1 yes 2 refl
 
 -- and h as it did, its ensures unread, after 2
@@ -155,7 +155,7 @@ pub h-runs : (o : Outcome) × (runOf (encode final) 9000 2 no-values 1000 ≡ Ra
     × (outcomeIn (imageOf (encode final)) o ≡ returned (folds (value.bool true)))
 unfolding answering
 h-runs =
-    others-run (encode original) (encode final) (1 ∷ 0 ∷ []) (bytes-by (encode original) refl) in-turn 2 9000 no-values 1000 refl not-lowered .1 yes 2 refl
+    in-turn-others (encode original) (encode final) (1 ∷ 0 ∷ []) (bytes-by (encode original) refl) in-turn 2 9000 no-values 1000 refl not-lowered .1 yes 2 refl
   where
     not-lowered : Among 2 (1 ∷ 0 ∷ []) → ⊥
     not-lowered (inl e) = omega (arith, e)

@@ -10,24 +10,26 @@ use lib.Dec.{eqb}
 use lib.ListN.{length, getD, List·getD-eq-default}
 use borrow.Author.Tests.{eqb-true, eq-eqb, ne-eqb}
 use Rattle.rl_spec.specs.declared.Interval.{Interval}
+use Rattle.rl_spec.specs.declared.Optional.{Optional}
 use Rattle.rl_spec.specs.declared.Section.the-variants.{Texts, Expressions, Statements, Clauses}
 use Rattle.rl_spec.specs.declared.Sort.the-variants.{One, Many}
 use Rattle.rl_spec.specs.declared.StatementForm.{StatementForm}
 use Rattle.rl_spec.specs.declared.Target.the-variants.{Expression}
 use Rattle.rl_spec.specs.Image.{Image, recordsOf, sizeOf, noRecord, recordOf, fieldOf, second, entryOf, textOf}
 use Rattle.rl_spec.specs.Values.{ConstVal, sameText}
-use Rattle.rl_spec.specs.Tree.{ascii, number, exprTree}
+use Rattle.rl_spec.specs.Tree.{ascii, number, exprTree, optionalTree}
 use Rattle.rl_spec.specs.Fold.{constEval}
 use Rattle.rl_spec.specs.Statement.{Body, Item, bodyFrom, asStatement, statementBy, itemBy, itemTree}
 use Rattle.rl_spec.specs.Ranges.{upFrom, numbersIn}
 use Rattle.rl_spec.specs.Records.{paramAt, clauseAt, functionAt, callAt}
-use Rattle.rl_spec.specs.Contracts.{ContractClause, paramOf, clauseOf, contractsOf, messageNode, argumentsOf}
+use Rattle.rl_spec.specs.Contracts.{ContractClause, paramOf, clauseOf, contractsOf, argumentsOf}
 use Rattle.rl_spec.specs.Run.{nothing, Value, plain, folds}
 use Rattle.rl_spec.specs.Reading.{bare}
 use Rattle.rl_spec.specs.Mapped.{Text, mapConst, mapExpr, mapStmt, mapBody, mapClause}
 use Rattle.rl_spec.specs.Functions.{messageOr, clauseCheck, contractFunction}
 use Rattle.rl_laws.specs.Tests.{by-ltb, by-eqb}
 use Rattle.rl_laws.specs.Descend.{item-is}
+use Rattle.rl_laws.specs.Optionals.{IfSome, noIndex, anIndex, optional-unless}
 use Rattle.rl_theorems.specs.Trees.NamesIn.{NamesIn, names-mapped, sortIn, tree-names}
 use Rattle.rl_theorems.specs.Lowering.LowerTrees.{reserved}
 use Rattle.rl_theorems.specs.Lowering.LowerFrame.{begins, Free, Clean, CleanChecks, same-eq}
@@ -73,8 +75,9 @@ module _ (im : Image) where
   clean-tree : (n : ℕ) → CleanAt n → Clean (mapExpr (textOf im) (exprTree im n))
   clean-tree n h = names-mapped (textOf im) Free Free (exprTree im n) h
 
-  message-clean : (d : Text) (n : ℕ) → ((n ≡ 65535 → ⊥) → CleanAt n) → Clean (messageOr d (Option·map (mapExpr (textOf im)) (messageNode im n)))
-  message-clean d n h = by-eqb n 65535 (λ q. rw q tt) (λ q. rw (ne-eqb n 65535 q) (clean-tree n (h q)))
+  message-clean : {o : Optional} (d : Text) → IfSome CleanAt o → Clean (messageOr d (Option·map (mapExpr (textOf im)) (optionalTree im o)))
+  message-clean d noIndex = tt
+  message-clean d (anIndex {n = n} h) = clean-tree n h
 
   -- the condition of a clause, and its message where it has one
   abbrev pub CleanClause : ℕ → Type 0
@@ -95,8 +98,10 @@ module _ (im : Image) where
   unfolding contractFunction clauseOf clauseAt
   ensures-clean f h =
       let d : Text = ascii "ensures violated" in
+      let a : ℕ = functionAt im f .ensured .first in
       checks-clean d (map (clauseOf im) (numbersIn (functionAt im f .ensured)))
-      (all-from (CleanCheck d) (clauseOf im) _ _ (λ j l. (clean-tree _ (h j l .0), message-clean d _ (h j l .1))))
+      (all-from (CleanCheck d) (clauseOf im) _ _
+      (λ j l. (clean-tree _ (h j l .0), message-clean d (optional-unless (fieldOf (recordOf im Clauses (a + j)) 1) (h j l .1)))))
 
   -- where no text of the image is reserved
   module _ (free : (t : ℕ) → t < sizeOf im Texts → (rest : Text) × (reserved ++ rest ≡ textOf im t) → ⊥) where

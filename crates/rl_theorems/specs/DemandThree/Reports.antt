@@ -70,12 +70,12 @@ module _ (s : List ℕ) (call room n : ℕ) (some-reports : n ≡ 0 → ⊥) whe
 
 -- ---- all calls
 
--- the j-th four of these entries begin with the call
-abbrev Begins : List ℕ → ℕ → ℕ → Type 0
-Begins l j call = (j * 4 < length l) × (getD l (j * 4) 0 ≡ call)
+-- the j-th four of these entries are of the call
+abbrev FourOf : List ℕ → ℕ → ℕ → Type 0
+FourOf l j call = (j * 4 < length l) × (getD l (j * 4) 0 ≡ call)
 
 -- behind four entries
-past-four : (a b c d j call : ℕ) (l : List ℕ) → Begins (a ∷ b ∷ c ∷ d ∷ l) (suc j) call → Begins l j call
+past-four : (a b c d j call : ℕ) (l : List ℕ) → FourOf (a ∷ b ∷ c ∷ d ∷ l) (suc j) call → FourOf l j call
 past-four a b c d j call l h =
     let e : suc j * 4 ≡ suc (suc (suc (suc (j * 4)))) = omega arith in
     (omega (arith, h .0), rw e at (h .1))
@@ -85,8 +85,8 @@ also (inl x) = inl (tt, x .1)
 also (inr y) = inr y
 
 -- among the entries of a call's reports, or behind them
-by-reports : (k span : ℕ) (vs : List Violation) (l : List ℕ) (j call : ℕ) → Begins (reportEntries k span vs ++ l) j call →
-    (NonEmpty vs × (k ≡ call)) ⊎ ((i : ℕ) × Begins l i call)
+by-reports : (k span : ℕ) (vs : List Violation) (l : List ℕ) (j call : ℕ) → FourOf (reportEntries k span vs ++ l) j call →
+    (NonEmpty vs × (k ≡ call)) ⊎ ((i : ℕ) × FourOf l i call)
 unfolding reportEntries
 by-reports k span [] l j call h = inr (j, h)
 by-reports k span (Refinement n ∷ vs) l zero call h = inl (tt, h .1)
@@ -94,14 +94,14 @@ by-reports k span (Requires n ∷ vs) l zero call h = inl (tt, h .1)
 by-reports k span (Refinement n ∷ vs) l (suc j) call h = also (by-reports k span vs l j call (past-four k span 0 n j call (reportEntries k span vs ++ l) h))
 by-reports k span (Requires n ∷ vs) l (suc j) call h = also (by-reports k span vs l j call (past-four k span 1 n j call (reportEntries k span vs ++ l) h))
 
-by-calls : (im : Image) (n k j call : ℕ) → Begins (allEntries im n k) j call → NonEmpty (violationsOf im call)
+by-calls : (im : Image) (n k j call : ℕ) → FourOf (allEntries im n k) j call → NonEmpty (violationsOf im call)
 unfolding allEntries callEntries
 by-calls im zero k j call h = absurd (omega (arith, h .0))
 by-calls im (suc n) k j call h =
     go (λ i. by-calls im n (k + 1) i call) (by-reports k _ (violationsOf im k) (allEntries im n (k + 1)) j call h)
   where
-    go : ((i : ℕ) → Begins (allEntries im n (k + 1)) i call → NonEmpty (violationsOf im call)) →
-        (NonEmpty (violationsOf im k) × (k ≡ call)) ⊎ ((i : ℕ) × Begins (allEntries im n (k + 1)) i call) → NonEmpty (violationsOf im call)
+    go : ((i : ℕ) → FourOf (allEntries im n (k + 1)) i call → NonEmpty (violationsOf im call)) →
+        (NonEmpty (violationsOf im k) × (k ≡ call)) ⊎ ((i : ℕ) × FourOf (allEntries im n (k + 1)) i call) → NonEmpty (violationsOf im call)
     go later (inl x) = subst (λ c. NonEmpty (violationsOf im c)) (x .1) (x .0)
     go later (inr x) = later (x .0) (x .1)
 
@@ -137,8 +137,3 @@ has-callee im call (some f) z = (f, refl)
 pub violated-callee : (im : Image) (call : ℕ) → NonEmpty (violationsOf im call) → (f : ℕ) × (calleeOf im call ≡ some f)
 unfolding violationsOf
 violated-callee im call z = has-callee im call (calleeOf im call) z
-
--- a list with something in it
-pub listed : {A : Type 0} (before : List A) (a : A) (after : List A) → NonEmpty (before ++ a ∷ after)
-listed [] a after = tt
-listed (b ∷ before) a after = tt

@@ -21,7 +21,7 @@ use Rattle.rl_spec.specs.Reading.{checks}
 use Rattle.rl_images.specs.Images.SchemaSorts.{all, all-at}
 use Rattle.rl_examples.specs.MarkedImages.{made, integer, identifier, binary, grouping, parameter, refined, clause, function, call, build, named-behind, flow}
 use Rattle.rl_theorems.specs.DemandThree.Folds.{none≢some}
-use Rattle.rl_theorems.specs.DemandThree.DepthTests.{passes, throughout, isNot, FoldsTo, folds-to}
+use Rattle.rl_theorems.specs.DemandThree.DepthTests.{allNamed, throughout, isNot, FoldsTo, folds-to}
 use Rattle.rl_theorems.specs.DemandThree.Marked.{decoding, folding, proving}
 use Rattle.rl_theorems.specs.DemandThree.Demand.{one, entry, StandsIn, itself, deeper, NoneIn, argument, parameterName, NoIdentifier, DistinctNames, NoAssignment, ValuesFor, PassesEntry, Reported, proved, second-half, none-in, no-identifier, distinct-names, no-assignment}
 
@@ -73,7 +73,7 @@ nested =
     }
 
 pub names-apart : NoneIn (of nested) 30 2 × NoneIn (of nested) 30 4
-unfolding decoding folding passes throughout
+unfolding decoding folding allNamed throughout
 names-apart = (none-in (of nested) 30 2 refl, none-in (of nested) 30 4 refl)
 
 pub value-inside : StandsIn (of nested) 0 5
@@ -102,7 +102,7 @@ short-values v =
     record { many = refl; folded = λ j l m. let z : j ≡ 0 = omega (arith, m) in rw z (folds-to (of short) 0 (value.int (pos 1)) refl) }
 
 pub short-never : (v : Value Text) (budget : ℕ) → PassesEntry (of short) 0 (int 1 ∷ v ∷ []) budget → ⊥
-unfolding decoding folding proving proveOf passes throughout
+unfolding decoding folding proving proveOf allNamed throughout
 short-never v =
     second-half (encode short) 0 0 (proved 8192 4 1 refl (λ e. omega arith)) refl (arguments-by (of short) 0 refl)
     (names-by (of short) 0 refl (λ e. omega (arith, ap (λ t. getD t 0 0) e))) (λ j l. absurd (omega (arith, l))) (int 1 ∷ v ∷ []) (short-values v)
@@ -110,7 +110,7 @@ short-never v =
 -- ---- NEEDED
 
 checking : Unit {0}
-unfolding decoding folding proving proveOf mapExpr refinementChecks contractFunction find update eval checks passes throughout
+unfolding decoding folding proving proveOf mapExpr refinementChecks contractFunction find update eval checks allNamed throughout
 checking = tt
 
 -- one report, with the shortest slices; and the entry checks are passed

@@ -3,13 +3,12 @@
 use Prim.Native.Nat.{ℕ, zero, suc, _+_, _-_, _≤_, _<_}
 use mathlib.Core.Path.{refl}
 use mathlib.Core.List.{List, [], _∷_, map}
-use mathlib.Core.Logic.{inl, inr}
 use mathlib.Core.Option.{Option, none, some}
 use native.Mathlib.Omega.{arith}
 use lib.ListN.{getD}
 use Rattle.rl_spec.specs.declared.Section.the-variants.{Texts, Expressions, Statements, Parameters, Clauses, Functions}
 use Rattle.rl_spec.specs.declared.Target.the-variants.{Statement}
-use Rattle.rl_spec.specs.Image.{Rec, Image, sizeOf, recordOf, entryOf, textOf, Refers, Entries, heights}
+use Rattle.rl_spec.specs.Image.{Rec, Image, sizeOf, recordOf, fieldOf, entryOf, textOf, Refers, Entries, heights}
 use Rattle.rl_spec.specs.Tree.{number}
 use Rattle.rl_spec.specs.Records.{paramAt, clauseAt, functionAt}
 use Rattle.rl_spec.specs.Ranges.{upFrom}
@@ -17,6 +16,7 @@ use Rattle.rl_spec.specs.Contracts.{RefineOperand, integer, str, bool, param, P
 use Rattle.rl_spec.specs.Lower.{start, paramsIn, requiresIn, ensuresIn, bodyIn}
 use Rattle.rl_images.specs.Lowering.GrowsTo.{Every, noMore, more}
 use Rattle.rl_images.specs.Images.FunctionFields.{ClauseFits, clause-says, ParameterFits, parameter-says, FunctionFits, function-says}
+use Rattle.rl_laws.specs.Optionals.{if-some, optional-says}
 use Rattle.rl_theorems.specs.Images.ProperTexts.{Proper, text-proper, OperandReady}
 use Rattle.rl_theorems.specs.Images.SoundImages.{Sound}
 use Rattle.rl_theorems.specs.Images.NewReferences.{noRefs, ref}
@@ -75,7 +75,7 @@ module _ {im : Image} (s : Sound im) (f : ℕ) (low : Under 64 (heights im Expre
       let x : ClauseFits im r = clause-says r (s .fits Clauses i p) in
       record {
         condition = node-ready (number r 0) (x .0);
-        message = λ n. node-ready (number r 1) (elim (x .1) [ inl e ↦ absurd (n e) | inr l ↦ l ]);
+        message = if-some node-ready (optional-says (fieldOf r 1) (x .1));
       }
 
   clauses-from : (k n : ℕ) → k + n ≤ sizeOf im Clauses → Every ClauseReady (start im f) (map (clauseAt im) (upFrom k n))

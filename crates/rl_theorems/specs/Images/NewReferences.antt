@@ -13,10 +13,11 @@ use Rattle.rl_spec.specs.declared.Sort.{Sort}
 use Rattle.rl_spec.specs.declared.Sort.the-variants.{Raw, One, Maybe, Many}
 use Rattle.rl_spec.specs.Schema.{sortOf, fieldsOf}
 use Rattle.rl_spec.specs.Image.{Field, noField, Rec, Image, sizeOf, recordOf, first, second, entryOf, sectionOf, heightOf, tallestEntry, tallestIn, tallestChild, heights, Refers, Entries, FieldFits, FieldsFit, noFields, _&_}
-use Rattle.rl_spec.specs.Ranges.{upFrom}
+use Rattle.rl_spec.specs.Ranges.{upFrom, optional}
 use Rattle.rl_spec.specs.Make.{entriesOf}
 use Rattle.rl_images.specs.Images.FieldFacts.{raw-says, reference-says, option-says, list-says}
 use Rattle.rl_images.specs.Lowering.Grows.{Longer, Grows, grows-records, grows-same}
+use Rattle.rl_laws.specs.Optionals.{IfSome, optional-unless}
 use Rattle.rl_theorems.specs.Images.KeptFields.{grows-keeps, refers-there, refers-kept, field-kept, fields-kept}
 use Rattle.rl_theorems.specs.Images.KeptHeights.{height-kept, tallest-in, tallest-child, height-stays, own-height}
 use Rattle.rl_theorems.specs.Images.SoundImages.{Sound, all-fit}
@@ -135,8 +136,8 @@ module _ {im : Image} {o : Section} {h : ℕ} where
   pub one-ref : {t : Target} (f : Field) → Held im o h (One t) f → Ref im o h t (first f)
   one-ref f e = record { refers = reference-says (e .fits); low = e .low }
 
-  pub maybe-ref : {t : Target} (f : Field) → Held im o h (Maybe t) f → (first f ≡ 65535 → ⊥) → Ref im o h t (first f)
-  maybe-ref {t} f e n = record
+  pub maybe-ref : {t : Target} (f : Field) → Held im o h (Maybe t) f → IfSome (Ref im o h t) (optional f)
+  maybe-ref {t} f e = optional-unless f λ n. record
       { refers = elim (option-says (e .fits)) [ inl d ↦ absurd (n d) | inr r ↦ r ]; low = rw (ne-eqb (first f) 65535 n) at (e .low) }
 
   entries-refs : (n a : ℕ) (l r : Target) → Entries im o (sizeOf im o) n a l r → tallestEntry im o (heights im o) n a l r ≤ h →

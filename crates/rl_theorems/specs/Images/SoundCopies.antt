@@ -35,7 +35,7 @@ expression-plain k e =
 
 -- ---- lists
 
-length-up : (k n : ℕ) → length (upFrom k n) ≡ n
+pub length-up : (k n : ℕ) → length (upFrom k n) ≡ n
 unfolding upFrom
 length-up k zero = refl
 length-up k (suc n) = ap suc (length-up (k + 1) n)

@@ -7,7 +7,8 @@ use mathlib.Core.List.{List, [], _∷_, _++_}
 use mathlib.Core.Logic.{inl, inr}
 use native.Mathlib.Omega.{arith}
 use lib.Dec.{eqb, lit<, lit≤}
-use borrow.Author.Tests.{eqb-false}
+use Rattle.rl_spec.specs.declared.Optional.{Optional}
+use Rattle.rl_spec.specs.declared.Optional.the-variants.{None}
 use Rattle.rl_spec.specs.declared.Section.{Section}
 use Rattle.rl_spec.specs.declared.Section.the-variants.{Texts, Expressions, Statements}
 use Rattle.rl_spec.specs.declared.Target.{Target}
@@ -17,10 +18,12 @@ use Rattle.rl_spec.specs.declared.Clause.{Clause}
 use Rattle.rl_spec.specs.Schema.{inSection, sortOf, fieldsOf, fieldsIn, schema}
 use Rattle.rl_spec.specs.Image.{Field, num, Image, sizeOf, tallestChild, aRaw, aByte, aReference, anOption, noFields, _&_}
 use Rattle.rl_spec.specs.Tree.{ascii}
+use Rattle.rl_spec.specs.Ranges.{optionalField}
 use Rattle.rl_spec.specs.Message.{decimal}
-use Rattle.rl_spec.specs.Make.{Context, Make, _>>=_, give, takeTemp, counted, each, newText, stmt, newStmt, absent}
-use Rattle.rl_spec.specs.Lower.{expr, ident, strLit, errLit, resCall, unwrapCall, msgExpr, violation, onlyIf, guard, clauseGuard, declare, returnOf, skipErr, wrapAs, wrapReturn}
+use Rattle.rl_spec.specs.Make.{Context, Make, _>>=_, give, takeTemp, counted, each, newText, stmt, newStmt}
+use Rattle.rl_spec.specs.Lower.{expr, ident, strLit, errLit, resCall, unwrapCall, msgExprBy, violation, onlyIf, guard, clauseGuard, declare, returnOf, skipErr, wrapAs, wrapReturn}
 use Rattle.rl_images.specs.Lowering.GrowsTo.{Every, noMore, more, temp-good, _▹_}
+use Rattle.rl_laws.specs.Optionals.{IfSome, noIndex, anIndex, if-some}
 use Rattle.rl_theorems.specs.Images.ProperTexts.{Proper, std-proper, res-proper, unwrap-proper, is-err-proper, ret-proper, temp-proper, ensures-proper}
 use Rattle.rl_theorems.specs.Images.NewReferences.{Ref, ref-there, ref-higher, Refs, noRefs, ref, refs-append, Held, AllHeld}
 use Rattle.rl_theorems.specs.Images.NewFields.{plain-fits}
@@ -132,7 +135,7 @@ branch-held c condition body r p q =
     }
 
 only-held : {h : ℕ} (c : Context) (branch : ℕ) → Ready c → Ref (c .image) Statements h Branch branch →
-    AllHeld (c .image) Statements h 0 (fieldsOf 68) (num (c .span) ∷ num branch ∷ absent ∷ [])
+    AllHeld (c .image) Statements h 0 (fieldsOf 68) (num (c .span) ∷ num branch ∷ optionalField None ∷ [])
 unfolding fieldsOf fieldsIn schema sortOf tallestChild
 only-held c branch r x = record { fits = aRaw (r .span) & aReference (x .refers) & anOption (inl refl) & noFields; low = omega (arith, x .low) }
 
@@ -167,22 +170,20 @@ guard-sure {h} pred msg c l m x y =
 -- a clause of the image
 pub record ClauseReady (clause : Clause) (c : Context) : Type 0 where
   pub condition : Node 64 (clause .condition) c
-  pub message : (clause .message ≡ 65535 → ⊥) → Node 64 (clause .message) c
+  pub message : IfSome (λ n. Node 64 n c) (clause .message)
 
 pub clause-on : (clause : Clause) (c d : Context) → Onward c d → ClauseReady clause c → ClauseReady clause d
-clause-on clause c d on x = record { condition = ref-on on (x .condition); message = λ n. ref-on on (x .message n) }
+clause-on clause c d on x = record { condition = ref-on on (x .condition); message = if-some (λ n. ref-on on) (x .message) }
 
-message-sure : (default : List ℕ) → Proper default → (clause : Clause) (c : Context) → ClauseReady clause c →
-    KeepsSound c (Node 64) (msgExpr clause default c)
-message-sure default p clause c x =
-    sure-test (eqb (clause .message) 65535) (strLit default) (give (clause .message)) c
-    (λ e. string-sure default p c ↠ λ n d on y. ref-higher (omega arith) y)
-    (λ e. sure-given (x .message (eqb-false (clause .message) 65535 e)))
+message-sure : {o : Optional} (default : List ℕ) → Proper default → (c : Context) → IfSome (λ n. Node 64 n c) o →
+    KeepsSound c (Node 64) (msgExprBy o default c)
+message-sure default p c noIndex = string-sure default p c ↠ λ n d on y. ref-higher (omega arith) y
+message-sure default p c (anIndex x) = sure-given x
 
 pub clause-sure : (default : List ℕ) → Proper default → (clause : Clause) (c : Context) → ClauseReady clause c →
     KeepsSound c (Line 3) (clauseGuard default clause c)
 clause-sure default p clause c x =
-    message-sure default p clause c x ⇝ λ msg d on y.
+    message-sure default p c (x .message) ⇝ λ msg d on y.
     guard-sure (clause .condition) msg d (omega arith) (omega arith) (ref-on on (x .condition)) y
 
 pub clauses-sure : (default : List ℕ) → Proper default → (clauses : List Clause) (c : Context) → Every ClauseReady c clauses →

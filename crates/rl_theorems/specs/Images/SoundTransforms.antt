@@ -9,7 +9,8 @@ use mathlib.Core.Logic.{inl, inr}
 use native.Mathlib.Omega.{arith}
 use lib.Dec.{eqb, ltb}
 use lib.ListN.{length, getD}
-use borrow.Author.Tests.{eqb-true, eqb-false}
+use borrow.Author.Tests.{eqb-true}
+use Rattle.rl_spec.specs.declared.Optional.{Optional}
 use Rattle.rl_spec.specs.declared.Section.{Section}
 use Rattle.rl_spec.specs.declared.Section.the-variants.{Statements}
 use Rattle.rl_spec.specs.declared.Target.{Target}
@@ -19,11 +20,13 @@ use Rattle.rl_spec.specs.declared.Sort.the-variants.{Raw, Maybe, Many}
 use Rattle.rl_spec.specs.declared.Clause.{Clause}
 use Rattle.rl_spec.specs.Schema.{inSection, sortOf, fieldsOf, fieldsIn, schema}
 use Rattle.rl_spec.specs.Fields.{takes}
-use Rattle.rl_spec.specs.Image.{Field, num, Rec, Image, sizeOf, recordOf, fieldOf, first, sectionOf, heights, anOption}
+use Rattle.rl_spec.specs.Image.{Field, num, Rec, Image, sizeOf, recordOf, fieldOf, sectionOf, heights, anOption}
 use Rattle.rl_spec.specs.Tree.{number, below, descendBy, descend}
+use Rattle.rl_spec.specs.Ranges.{optionalField}
 use Rattle.rl_spec.specs.Make.{Context, Make, andThen, _>>=_, give, imageSoFar, flatMap, append, made, stmt, entriesOf}
 use Rattle.rl_spec.specs.Lower.{expr, wrapReturn, transformList, transformBranchBy, transformBranch, transformElse, transformArmBy, transformArm, conditional, match, loop, transformStatementBy, transformStatement}
 use Rattle.rl_images.specs.Lowering.GrowsTo.{Every, noMore, more}
+use Rattle.rl_laws.specs.Optionals.{IfSome, noIndex, anIndex}
 use Rattle.rl_theorems.specs.Images.KeptFields.{same-size}
 use Rattle.rl_theorems.specs.Images.NewReferences.{Ref, ref-there, ref-higher, Refs, noRefs, ref, refs-higher, refs-append, Held, held-higher, held-at, AllHeld, own-held, own-tall, raw-below, one-ref, maybe-ref, many-refs}
 use Rattle.rl_theorems.specs.Images.KeepsSound.{Ready, Onward, KeepsSound, sure-given, sure-test, sure-ready, ref-on, refs-on, held-on, Line, Lines, OfStatements, list-sure, node-sure, statement-sure, _then_, _⇝_, _↠_}
@@ -114,13 +117,12 @@ module _ (ensures : List Clause) where
       unfolding transformBranch
       branch-sure t s c o k es x = branch-by-sure t s c o k es x
 
-      else-sure : (f : Field) (c : Context) → Every ClauseReady c ensures → Held (c .image) Statements h (Maybe ElseBranch) f →
-          KeepsSound c (λ n d. Held (d .image) Statements (h + 2) (Maybe ElseBranch) (num n)) (transformElse walk (first f) c)
-      else-sure f c es x =
-          sure-test (eqb (first f) 65535) (give (first f)) (transformBranch walk (first f)) c
-          (λ e. sure-given (record { before = 0; fits = anOption (inl (eqb-true (first f) 65535 e)); low = rw e (omega arith) }))
-          (λ e. branch-sure ElseBranch (first f) c refl refl es (maybe-ref f x (eqb-false (first f) 65535 e)) ↠ λ n d on y.
-          record { before = 0; fits = anOption (inr (y .refers)); low = cond-low (eqb n 65535) (y .low) })
+      else-sure : {o : Optional} (c : Context) → Every ClauseReady c ensures → IfSome (Ref (c .image) Statements h ElseBranch) o →
+          KeepsSound c (λ o d. Held (d .image) Statements (h + 2) (Maybe ElseBranch) (optionalField o)) (transformElse walk o c)
+      else-sure c es noIndex = sure-given (record { before = 0; fits = anOption (inl refl); low = omega arith })
+      else-sure c es (anIndex {n = s} x) =
+          branch-sure ElseBranch s c refl refl es x ⇝ λ n d on y.
+          sure-given (record { before = 0; fits = anOption (inr (y .refers)); low = cond-low (eqb n 65535) (y .low) })
 
       arm-by-sure : (s : ℕ) (c : Context) → Every ClauseReady c ensures → Ref (c .image) Statements h Arm s →
           KeepsSound c (λ n d. Ref (d .image) Statements (h + 2) Arm n) (transformArmBy walk (recordOf (c .image) Statements s) c)
@@ -238,10 +240,10 @@ module _ (ensures : List Clause) where
           sure-ready λ r.
           branch-sure (h - 1) (omega arith) Branch (number here 1) c refl refl es
           (one-ref (fieldOf here 1) (own-field Statement 68 1 refl r x e (omega arith, refl))) ⇝ λ branch d on y.
-          else-sure (h - 1) (omega arith) (fieldOf here 2) d (every-on clause-on on es)
-          (held-on on (own-field Statement 68 2 refl r x e (omega arith, refl))) ⇝ λ other f on′ z.
+          else-sure (h - 1) (omega arith) d (every-on clause-on on es)
+          (maybe-ref (fieldOf here 2) (held-on on (own-field Statement 68 2 refl r x e (omega arith, refl)))) ⇝ λ other f on′ z.
           let p : Ref (f .image) Statements (h - 1 + 2) Branch branch = ref-on on′ y in
-          rebuilt-sure 68 e (num (number here 0) ∷ num branch ∷ num other ∷ []) f (on then on′)
+          rebuilt-sure 68 e (num (number here 0) ∷ num branch ∷ optionalField other ∷ []) f (on then on′)
           (cons-held refl (span-held 68 e (on then on′) (omega arith, refl)) (cons-held refl (one-held p) (cons-held refl z nil-held)))
 
       -- ---- a statement of any kind

@@ -4,30 +4,37 @@ use Prim.Native.Nat.{ℕ, _<_}
 use mathlib.Core.Path.{_≡_, refl, subst}
 use mathlib.Core.Bool.{Bool, true, false, cond}
 use mathlib.Core.List.{List, [], _∷_, _++_}
+use mathlib.Core.Option.{some}
 use native.Mathlib.Omega.{arith}
-use lib.Dec.{eqb}
-use borrow.Author.Tests.{eqb-true, eqb-false}
 use Rattle.rl_spec.specs.declared.Section.the-variants.{Statements}
+use Rattle.rl_spec.specs.declared.Optional.{Optional}
+use Rattle.rl_spec.specs.declared.Optional.the-variants.{None, Some}
 use Rattle.rl_spec.specs.declared.Clause.{Clause}
 use Rattle.rl_spec.specs.Image.{num, Image, sizeOf}
 use Rattle.rl_spec.specs.Values.{sameText}
 use Rattle.rl_spec.specs.Tree.{Expr, identifier, errLiteral, isErr, resultUnwrap, ascii}
 use Rattle.rl_spec.specs.Statement.{Stmt, return, Body, nil, _▸_, Item, aStatement}
+use Rattle.rl_spec.specs.Ranges.{optional, optionalField}
 use Rattle.rl_spec.specs.Mapped.{Text}
 use Rattle.rl_spec.specs.Functions.{said}
 use Rattle.rl_spec.specs.Reading.{Check}
-use Rattle.rl_spec.specs.Make.{Context, _>>=_, give, each, newText, newStmt, absent}
-use Rattle.rl_spec.specs.Lower.{ident, strLit, errLit, resCall, unwrapCall, isErrCall, msgExpr, violation, onlyIf, guard, clauseGuard}
+use Rattle.rl_spec.specs.Make.{Context, _>>=_, each, newText, newStmt}
+use Rattle.rl_spec.specs.Lower.{ident, strLit, errLit, resCall, unwrapCall, isErrCall, msgExprBy, violation, onlyIf, guard, clauseGuard}
 use Rattle.rl_theorems.specs.Lowering.LowerTrees as tree
 use Rattle.rl_theorems.specs.Lowering.LowerTrees.{_⧺_}
 use Rattle.rl_images.specs.Lowering.Grows.{Grows, size-grows}
-use Rattle.rl_images.specs.Lowering.GrowsTo.{_⊕_, GrowsTo, _▷_, _▹_, given, test}
-use Rattle.rl_theorems.specs.Trees.Denotes.{AllSay, noneSay, alsoSays, callTree, IsExpr, stands, aString, anIdentifier, aUnary, aCall, anErr, noArgs, anArg, IsLine, standsLine, aCondition, anExpression, aReturn, aConditional, anArm, withoutElse, Rows, noRows, aRow, keep, keep-says, keep-all, keep-holds, keep-line, keep-rows}
+use Rattle.rl_images.specs.Lowering.GrowsTo.{_⊕_, GrowsTo, _▷_, _▹_, given}
+use Rattle.rl_laws.specs.Optionals.{anIndex, optional-is}
+use Rattle.rl_theorems.specs.Trees.Denotes.{AllSay, noneSay, alsoSays, callTree, IsExpr, stands, aString, anIdentifier, aUnary, aCall, anErr, noArgs, anArg, IsLine, standsLine, IsCondition, aCondition, anExpression, aReturn, aConditional, anArm, withoutElse, Rows, noRows, aRow, keep, keep-says, keep-all, keep-holds, keep-line, keep-rows}
 use Rattle.rl_theorems.specs.Lowering.MadeTrees.{Turned, expr-ok, stmt-ok, text-ok, list-ok}
 use Rattle.rl_theorems.specs.Lowering.Copied.{inside-of, copy-ok}
 
 small-of : {im : Image} {n : ℕ} {e : Expr Text} → IsExpr im n e → n < 65535
 small-of (stands k fs h d) = h .small
+
+-- a condition as a field has it
+held-condition : {im : Image} {n : ℕ} {e : Expr Text} → IsExpr im n e → IsCondition im (optional (num n)) (some e)
+held-condition h = rw (optional-is (anIndex (small-of h))) (aCondition h)
 
 -- ---- statements of an image in a row
 
@@ -120,9 +127,9 @@ pub only-ok : (condition s : ℕ) (ctx : Context) →
 unfolding onlyIf
 only-ok condition s ctx =
     list-ok (s ∷ []) ctx ▷ λ body c₁ k₁ h₁. stmt-ok 69 (c₁ .span) (num condition ∷ body ∷ num 0 ∷ []) c₁ ▷ λ branch c₂ k₂ h₂.
-    stmt-ok 68 (c₂ .span) (num branch ∷ absent ∷ []) c₂ ▹ λ n c₃ k₃ f e b h k.
-    let a = h₂ _ (anArm refl (aCondition (keep (k₁ .image) h)) h₁ (a-line (keep-line (k₁ .image) k) noRows)) in
-    f _ (aConditional refl (line-inside a) a (withoutElse refl))
+    stmt-ok 68 (c₂ .span) (num branch ∷ optionalField None ∷ []) c₂ ▹ λ n c₃ k₃ f e b h k.
+    let a = h₂ _ (anArm refl (held-condition (keep (k₁ .image) h)) h₁ (a-line (keep-line (k₁ .image) k) noRows)) in
+    f _ (aConditional refl (line-inside a) a withoutElse)
 
 pub guard-ok : (pred msg : ℕ) (ctx : Context) →
     GrowsTo ctx (λ n c. (k : Check Text) → IsExpr (ctx .image) pred (k .condition) → IsExpr (ctx .image) msg (k .message) →
@@ -138,18 +145,18 @@ guard-ok pred msg ctx =
 -- ---- clauses that stand for checks
 
 -- a message of its own, or the one that is said without it
-pub data IsMessage (im : Image) (default : Text) : ℕ → Expr Text → Type 0 where
-  noMessage : {n : ℕ} → n ≡ 65535 → IsMessage im default n (said default)
-  aMessage : {n : ℕ} {e : Expr Text} → IsExpr im n e → IsMessage im default n e
+pub data IsMessage (im : Image) (default : Text) : Optional → Expr Text → Type 0 where
+  noMessage : IsMessage im default None (said default)
+  aMessage : {n : ℕ} {e : Expr Text} → IsExpr im n e → IsMessage im default (Some n) e
 
 pub data Checks (im : Image) (default : Text) : List Clause → List (Check Text) → Type 0 where
   noChecks : Checks im default [] []
   aCheck : {c : Clause} {cs : List Clause} {k : Check Text} {ks : List (Check Text)} → IsExpr im (c .condition) (k .condition) →
       IsMessage im default (c .message) (k .message) → Checks im default cs ks → Checks im default (c ∷ cs) (k ∷ ks)
 
-keep-message : {im im′ : Image} {default : Text} {n : ℕ} {e : Expr Text} → Grows im im′ → IsMessage im default n e →
-    IsMessage im′ default n e
-keep-message g (noMessage q) = noMessage q
+keep-message : {im im′ : Image} {default : Text} {o : Optional} {e : Expr Text} → Grows im im′ → IsMessage im default o e →
+    IsMessage im′ default o e
+keep-message g noMessage = noMessage
 keep-message g (aMessage h) = aMessage (keep g h)
 
 pub keep-checks : {im im′ : Image} {default : Text} {cs : List Clause} {ks : List (Check Text)} → Grows im im′ →
@@ -157,29 +164,24 @@ pub keep-checks : {im im′ : Image} {default : Text} {cs : List Clause} {ks : L
 keep-checks g noChecks = noChecks
 keep-checks g (aCheck h m hs) = aCheck (keep g h) (keep-message g m) (keep-checks g hs)
 
-said-message : {im im′ : Image} {default : Text} {n j : ℕ} {e : Expr Text} → n ≡ 65535 → IsExpr im′ j (said default) →
-    IsMessage im default n e → IsExpr im′ j e
-said-message q h (noMessage p) = h
-said-message {n = n} q h (aMessage x) = absurd (omega (arith, small-of x))
+said-message : {im im′ : Image} {default : Text} {j : ℕ} {e : Expr Text} → IsExpr im′ j (said default) → IsMessage im default None e →
+    IsExpr im′ j e
+said-message h noMessage = h
 
-own-message : {im : Image} {default : Text} {n : ℕ} {e : Expr Text} → (n ≡ 65535 → ⊥) → IsMessage im default n e → IsExpr im n e
-own-message q (noMessage p) = absurd (q p)
-own-message q (aMessage x) = x
+own-message : {im : Image} {default : Text} {n : ℕ} {e : Expr Text} → IsMessage im default (Some n) e → IsExpr im n e
+own-message (aMessage x) = x
 
-message-ok : (clause : Clause) (default : Text) (ctx : Context) →
-    GrowsTo ctx (λ n c. (m : Expr Text) → IsMessage (ctx .image) default (clause .message) m → IsExpr (c .image) n m)
-    (msgExpr clause default ctx)
-message-ok clause default ctx =
-    test (eqb (clause .message) 65535) (strLit default) (give (clause .message)) ctx
-    (λ q. string-ok default ctx ▹ λ n c k h m d. said-message (eqb-true (clause .message) 65535 q) h d)
-    (λ q. given λ m d. own-message (eqb-false (clause .message) 65535 q) d)
+message-ok : (o : Optional) (default : Text) (ctx : Context) →
+    GrowsTo ctx (λ n c. (m : Expr Text) → IsMessage (ctx .image) default o m → IsExpr (c .image) n m) (msgExprBy o default ctx)
+message-ok None default ctx = string-ok default ctx ▹ λ n c k h m d. said-message h d
+message-ok (Some n) default ctx = given λ m d. own-message d
 
 clause-ok : (default : Text) (clause : Clause) (ctx : Context) →
     GrowsTo ctx (λ n c. (k : Check Text) → IsExpr (ctx .image) (clause .condition) (k .condition) →
     IsMessage (ctx .image) default (clause .message) (k .message) →
     IsLine (c .image) n (aStatement (tree.guard (ctx .isResult) k))) (clauseGuard default clause ctx)
 clause-ok default clause ctx =
-    message-ok clause default ctx ▷ λ msg c₁ k₁ h₁. guard-ok (clause .condition) msg c₁ ▹ λ n c₂ k₂ h₂ k h m.
+    message-ok (clause .message) default ctx ▷ λ msg c₁ k₁ h₁. guard-ok (clause .condition) msg c₁ ▹ λ n c₂ k₂ h₂ k h m.
     rw (k₁ .isResult) at (h₂ k (keep (k₁ .image) h) (h₁ (k .message) m))
 
 abbrev GuardsTo : Bool → Image → Text → List Clause → Image → List ℕ → Type 0

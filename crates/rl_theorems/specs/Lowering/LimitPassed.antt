@@ -23,13 +23,13 @@ use Rattle.rl_images.specs.Lowering.Grows.{Eight, eight-sections, records-own, 
 use Rattle.rl_images.specs.Lowering.GrowsTo.{eight-later}
 use Rattle.rl_images.specs.Lowering.Adds.{Over, Tracks, alike, passed, freed}
 use Rattle.rl_images.specs.Lowering.AddsLower.{adds-new-body}
-use Rattle.rl_theorems.specs.Answers.Tables.{Passes}
+use Rattle.rl_theorems.specs.Answers.Tables.{OverLimit}
 use Rattle.rl_theorems.specs.Images.FunctionReady.{Under}
 use Rattle.rl_theorems.specs.Images.SoundImages.{same-order}
 use Rattle.rl_theorems.specs.Images.LoweredWellFormed.{lowered-well-formed}
 
 -- a well-formed image passes no limit
-none-passed : (im : Image) → WellFormed im → Passes im → ⊥
+none-passed : (im : Image) → WellFormed im → OverLimit im → ⊥
 unfolding limits
 none-passed im wf (inl h) = omega (arith, h, wf .counts .0)
 none-passed im wf (inr (inl h)) = omega (arith, h .1, size-within im (wf .counts) (h .0))
@@ -37,8 +37,8 @@ none-passed im wf (inr (inr h)) = omega (arith, h, wf .size)
 
 -- what lowering makes of an image that is made without limits
 pub data Answers (im : Image) : Option Image → Type 0 where
-  refuses : Passes im → Answers im none
-  makes : (Passes im → ⊥) → Answers im (some im)
+  refuses : OverLimit im → Answers im none
+  makes : (OverLimit im → ⊥) → Answers im (some im)
 
 -- ---- a changed body list passes what was passed
 
@@ -48,7 +48,7 @@ body-size im f list e o =
     (λ d. rw (same-order Functions o d, records-own im Functions _ e) (length-set (recordsOf im Functions) f _))
     (λ n. ap length (records-other im Functions o _ (λ d. n (sym d))))
 
-body-over : (im : Image) (f : ℕ) (list : Field) → Eight im → Over im → Passes (withBody im f list)
+body-over : (im : Image) (f : ℕ) (list : Field) → Eight im → Over im → OverLimit (withBody im f list)
 body-over im f list e (inl h) = inl h
 body-over im f list e (inr h) = inr (inl (h .0, rw (body-size im f list e (h .0)) (h .1)))
 

@@ -2,21 +2,20 @@
 -- Assumes nothing.
 use Prim.Native.Nat.{ℕ, zero, suc, _+_, _≤_, _<_}
 use mathlib.Core.Path.{_≡_, refl, ap, ap₂, _∙_}
-use mathlib.Core.Logic.{_⊎_, inl, inr}
 use mathlib.Core.List.{_∷_, map}
 use mathlib.Core.Option.{some, Option·map}
 use native.Mathlib.Omega.{arith}
 use lib.ListN.{getD}
 use lib.Seq.{getD-set-other}
-use borrow.Author.Tests.{ne-eqb}
+use Rattle.rl_spec.specs.declared.Optional.{Optional}
 use Rattle.rl_spec.specs.declared.Function as declared
 use Rattle.rl_spec.specs.declared.Section.the-variants.{Expressions, Clauses, Functions}
 use Rattle.rl_spec.specs.Image.{Field, Image, recordsOf, sizeOf, noRecord, recordOf, fieldOf, textOf, WellFormed}
-use Rattle.rl_spec.specs.Tree.{exprTree}
+use Rattle.rl_spec.specs.Tree.{exprTree, optionalTree}
 use Rattle.rl_spec.specs.Statement.{bodyTree}
 use Rattle.rl_spec.specs.Records.{clauseBy, functionBy, clauseAt, functionAt}
 use Rattle.rl_spec.specs.Ranges.{interval, upFrom, numbersIn}
-use Rattle.rl_spec.specs.Contracts.{paramOf, clauseOf, contractsOf, messageNode}
+use Rattle.rl_spec.specs.Contracts.{paramOf, clauseOf, contractsOf}
 use Rattle.rl_spec.specs.Mapped.{Text, mapExpr, mapBody, mapClause, mapContracts}
 use Rattle.rl_spec.specs.Functions.{contracted, contractFunction}
 use Rattle.rl_spec.specs.Reading.{Function}
@@ -27,9 +26,9 @@ use Rattle.rl_images.specs.Lowering.Gives.{given-is}
 use Rattle.rl_images.specs.Lowering.GrowsTo.{Later}
 use Rattle.rl_images.specs.Lowering.Adds.{adds-later}
 use Rattle.rl_images.specs.Lowering.AddsLower.{adds-new-body}
+use Rattle.rl_laws.specs.Optionals.{IfSome, noIndex, anIndex, optional-says}
 use Rattle.rl_theorems.specs.Trees.Denotes.{keep-holds, keep}
 use Rattle.rl_theorems.specs.Trees.DenotedTrees.{tree-of, body-of}
-use Rattle.rl_theorems.specs.Trees.DenotingExpressions.{few}
 use Rattle.rl_theorems.specs.Lowering.Guarded.{keep-lines}
 use Rattle.rl_theorems.specs.Trees.SameTrees.{expr-same, body-same}
 use Rattle.rl_images.specs.Images.FunctionFields.{ClauseFits, clause-fits, function-fits}
@@ -60,10 +59,10 @@ module _ (im : Image) (wf : WellFormed im) (f : ℕ) (c : Context) (later : Late
 
   -- ---- its clauses
 
-  same-message : (n : ℕ) → (n ≡ 65535) ⊎ (n < sizeOf im Expressions) →
-      Option·map (mapExpr (textOf end)) (messageNode end n) ≡ Option·map (mapExpr (textOf im)) (messageNode im n)
-  same-message n (inl q) = rw q refl
-  same-message n (inr h) = rw (ne-eqb n 65535 (λ q. omega (arith, few im wf Expressions))) (ap some (same-expr n h))
+  same-message : {o : Optional} → IfSome (λ n. n < sizeOf im Expressions) o →
+      Option·map (mapExpr (textOf end)) (optionalTree end o) ≡ Option·map (mapExpr (textOf im)) (optionalTree im o)
+  same-message noIndex = refl
+  same-message (anIndex {n = n} h) = ap some (same-expr n h)
 
   same-clauseOf : (i : ℕ) → i < sizeOf im Clauses → mapClause (textOf end) (clauseOf end i) ≡ mapClause (textOf im) (clauseOf im i)
   unfolding clauseOf clauseAt
@@ -71,9 +70,9 @@ module _ (im : Image) (wf : WellFormed im) (f : ℕ) (c : Context) (later : Late
       let x : ClauseFits im (recordOf im Clauses i) = clause-fits im wf i h in
       (λ j. record {
         condition = mapExpr (textOf end) (exprTree end (same-clause i j .condition));
-        message = Option·map (mapExpr (textOf end)) (messageNode end (same-clause i j .message));
+        message = Option·map (mapExpr (textOf end)) (optionalTree end (same-clause i j .message));
       })
-      ∙ (λ j. record { condition = same-expr _ (x .0) j; message = same-message _ (x .1) j })
+      ∙ (λ j. record { condition = same-expr _ (x .0) j; message = same-message (optional-says (fieldOf (recordOf im Clauses i) 1) (x .1)) j })
 
   same-clauses : (a n : ℕ) → a + n ≤ sizeOf im Clauses →
       map (mapClause (textOf end)) (map (clauseOf end) (upFrom a n)) ≡ map (mapClause (textOf im)) (map (clauseOf im) (upFrom a n))

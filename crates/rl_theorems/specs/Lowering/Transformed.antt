@@ -9,10 +9,13 @@ use native.Mathlib.Omega.{arith}
 use lib.Dec.{eqb, ltb}
 use borrow.Author.Tests.{eqb-true, ltb-true, ltb-false}
 use Rattle.rl_spec.specs.declared.Section.the-variants.{Statements}
+use Rattle.rl_spec.specs.declared.Optional.{Optional}
+use Rattle.rl_spec.specs.declared.Optional.the-variants.{None, Some}
 use Rattle.rl_spec.specs.declared.Clause.{Clause}
 use Rattle.rl_spec.specs.Image.{Field, num, Rec, Image, sizeOf, recordOf, fieldOf, first}
 use Rattle.rl_spec.specs.Tree.{Expr, null, ascii, number, below}
 use Rattle.rl_spec.specs.Statement.{Stmt, conditional, while, loop as loopTree, otherStatement, Body, nil, _▸_, Branch, branch, Else, statementBy, Item, aStatement, aBranch, asStatement}
+use Rattle.rl_spec.specs.Ranges.{optional, optionalField}
 use Rattle.rl_spec.specs.Mapped.{Text}
 use Rattle.rl_spec.specs.Reading.{Check}
 use Rattle.rl_spec.specs.Make.{Context, Make, andThen, _>>=_, give, imageSoFar, each, flatMap, made, stmt, entriesOf}
@@ -21,13 +24,25 @@ use Rattle.rl_laws.specs.Descend.{descend-is}
 use Rattle.rl_theorems.specs.Lowering.LowerTrees.{_⧺_}
 use Rattle.rl_theorems.specs.Lowering.LoweredTo.{StmtTo, declarationTo, expressionTo, returnTo, returnAloneTo, conditionalTo, whileTo, loopTo, breakTo, continueTo, otherTo, BodyTo, nilTo, consTo, BranchTo, branchTo, ElseTo, noElseTo, elseBranchTo, elseConditionalTo}
 use Rattle.rl_images.specs.Lowering.Grows.{Grows}
-use Rattle.rl_images.specs.Lowering.GrowsTo.{GrowsTo, _▷_, _▹_, given, stopped, test, Anything, only-grows, under}
+use Rattle.rl_images.specs.Lowering.GrowsTo.{GrowsTo, _▷_, _▹_, given, test, Anything, only-grows, under}
+use Rattle.rl_laws.specs.Optionals.{IfSome, noIndex, anIndex, optional-is}
 use Rattle.rl_theorems.specs.Trees.Denotes.{Holds, IsExpr, aNull, OtherLine, IsLine, standsLine, ReadsLine, aDeclaration, anExpression, aReturn, aReturnAlone, aConditional, anArm, aWhile, aLoop, aBreak, aContinue, anOtherLine, IsElse, withoutElse, anElse, aChain, Rows, noRows, aRow, keep, keep-condition, keep-line, keep-else, keep-rows}
-use Rattle.rl_theorems.specs.Trees.DenotedTrees.{not-none}
 use Rattle.rl_theorems.specs.Lowering.MadeTrees.{expr-ok, stmt-ok, list-ok}
 use Rattle.rl_theorems.specs.Trees.DenotingStatements.{not-other}
 use Rattle.rl_theorems.specs.Lowering.Guarded.{Lines, line-inside, a-line, keep-lines, both-lines, Checks, keep-checks}
 use Rattle.rl_theorems.specs.Lowering.Wrapped.{wrapped-ok}
+
+-- an else branch as a field has it: what stands for a statement is not 65,535
+small-line : {im : Image} {n : ℕ} {x : Item Text} → IsLine im n x → n < 65535
+small-line (standsLine k fs h d) = h .small
+
+small-else : {im : Image} {i : ℕ} {o : Optional} {e : Else Text} → IsElse im i o e → IfSome (λ n. n < 65535) o
+small-else withoutElse = noIndex
+small-else (anElse l h) = anIndex (small-line h)
+small-else (aChain l h) = anIndex (small-line h)
+
+held-else : {im : Image} {i : ℕ} {o : Optional} {e : Else Text} → IsElse im i o e → IsElse im i (optional (optionalField o)) e
+held-else h = rw (optional-is (small-else h)) h
 
 module _ (ensures : List Clause) where
   abbrev Ensures : Image → List (Check Text) → Type 0
@@ -121,13 +136,14 @@ module _ (ensures : List Clause) where
         test (eqb (r .kind) 69) _ (give s) ctx
         (λ q. only-grows (rebuilt (fieldOf r 2) 69 (number r 0) (λ body. fieldOf r 1 ∷ body ∷ num 0 ∷ []) ctx)) (λ q. given tt)
 
-    else-grows : (s : ℕ) (ctx : Context) → GrowsTo ctx Anything (transformElse walk s ctx)
-    else-grows s ctx = test (eqb s 65535) (give s) (transformBranch walk s) ctx (λ q. given tt) (λ q. branch-grows s ctx)
+    else-grows : (o : Optional) (ctx : Context) → GrowsTo ctx Anything (transformElse walk o ctx)
+    else-grows None ctx = given tt
+    else-grows (Some s) ctx = branch-grows s ctx ▷ λ n c k h. given tt
 
     conditional-grows : (r : Rec) (ctx : Context) → GrowsTo ctx Anything (only walk (makeConditional walk r) ctx)
     conditional-grows r ctx =
-        (branch-grows (number r 1) ctx ▷ λ branch c₁ k₁ h₁. else-grows (number r 2) c₁ ▷ λ other c₂ k₂ h₂.
-        only-grows (stmt-ok 68 (number r 0) (num branch ∷ num other ∷ []) c₂)) ▷ λ n c k h. given tt
+        (branch-grows (number r 1) ctx ▷ λ branch c₁ k₁ h₁. else-grows (optional (fieldOf r 2)) c₁ ▷ λ other c₂ k₂ h₂.
+        only-grows (stmt-ok 68 (number r 0) (num branch ∷ optionalField other ∷ []) c₂)) ▷ λ n c k h. given tt
 
     -- the loops and the match that trees do not show, and what is left as it is
     abbrev others : ℕ → Rec → Make (List ℕ)
@@ -165,8 +181,8 @@ module _ (ensures : List Clause) where
       branch-known : {s : ℕ} {b : Branch Text} → Among Met s → IsLine (ctx .image) s (aBranch b) →
           GrowsTo ctx (λ n c. (b′ : Branch Text) × IsLine (c .image) n (aBranch b′) × BranchTo r ks b b′) (transformBranch walk s ctx)
       unfolding transformBranch
-      branch-known {s} met (standsLine k fs h (anArm {n = n} {list = list} {ns = ns} {b = b} q c l rs)) =
-          rw (h .is, q) (rows-list list ctx ▷ λ g c₁ k₁ h₁. stmt-ok 69 _ (num n ∷ g ∷ num 0 ∷ []) c₁ ▹ λ m c₂ k₂ f.
+      branch-known {s} met (standsLine k fs h (anArm {o = o} {list = list} {ns = ns} {b = b} q c l rs)) =
+          rw (h .is, q) (rows-list list ctx ▷ λ g c₁ k₁ h₁. stmt-ok 69 _ (o ∷ g ∷ num 0 ∷ []) c₁ ▹ λ m c₂ k₂ f.
           let t = h₁ ks s ns b met d l rs in
           (_, f _ (anArm refl (keep-condition (k₁ .image) c) (t .2) (t .3)), branchTo (t .4)))
 
@@ -176,14 +192,13 @@ module _ (ensures : List Clause) where
       unfolding transformBranch
       chain-known (standsLine k fs h (aConditional q l x o)) = rw (h .is, q) (given (standsLine k fs h (aConditional q l x o)))
 
-      else-known : {i s : ℕ} {e : Else Text} → Among Met i → IsElse (ctx .image) i s e →
-          GrowsTo ctx (λ n c. (e′ : Else Text) × IsElse (c .image) (sizeOf (c .image) Statements) n e′ × ElseTo r ks e e′)
-          (transformElse walk s ctx)
-      else-known met (withoutElse q) = rw q (given (_, withoutElse refl, noElseTo))
+      else-known : {i : ℕ} {o : Optional} {e : Else Text} → Among Met i → IsElse (ctx .image) i o e →
+          GrowsTo ctx (λ o′ c. (e′ : Else Text) × IsElse (c .image) (sizeOf (c .image) Statements) o′ e′ × ElseTo r ks e e′)
+          (transformElse walk o ctx)
+      else-known met withoutElse = given (_, withoutElse, noElseTo)
       else-known met (anElse l h) =
-          rw (not-none (ctx .image) h) (branch-known (λ n k. met n (omega (arith, k, l))) h ▹ λ n c k t. (_, anElse (line-inside (t .1)) (t .1), elseBranchTo (t .2)))
-      else-known met (aChain l h) =
-          rw (not-none (ctx .image) h) (chain-known h ▹ λ n c k t. (_, aChain (line-inside t) t, elseConditionalTo))
+          branch-known (λ n k. met n (omega (arith, k, l))) h ▷ λ n c k t. given (_, anElse (line-inside (t .1)) (t .1), elseBranchTo (t .2))
+      else-known met (aChain l h) = chain-known h ▷ λ n c k t. given (_, aChain (line-inside t) t, elseConditionalTo)
 
     module _ (ctx : Context) (ks : List (Check Text)) (d : Ensures (ctx .image) ks) where
       abbrev Result : Stmt Text → List ℕ → Context → Type 0
@@ -196,16 +211,16 @@ module _ (ensures : List Clause) where
       alone : {s : Stmt Text} {o : Option (ℕ × Context)} → GrowsTo ctx (Single s) o → GrowsTo ctx (Result s) (andThen o (λ n. give (n ∷ [])))
       alone g = g ▷ λ n c k t. given (_, a-line (t .1) noRows, t .2)
 
-      conditional-known : {i : ℕ} (n o span : ℕ) {b : Branch Text} {e : Else Text} → Among Met i → n < i → IsLine (ctx .image) n (aBranch b) →
-          IsElse (ctx .image) i o e →
+      conditional-known : {i : ℕ} (n : ℕ) (o : Optional) (span : ℕ) {b : Branch Text} {e : Else Text} → Among Met i → n < i →
+          IsLine (ctx .image) n (aBranch b) → IsElse (ctx .image) i o e →
           GrowsTo ctx (Single (conditional b e))
-          ((transformBranch walk n >>= λ branch. transformElse walk o >>= λ other. stmt 68 span (num branch ∷ num other ∷ [])) ctx)
+          ((transformBranch walk n >>= λ branch. transformElse walk o >>= λ other. stmt 68 span (num branch ∷ optionalField other ∷ [])) ctx)
       conditional-known n o span met l h x =
           branch-known ctx ks d (λ k z. met k (omega (arith, z, l))) h ▷ λ branch c₁ k₁ t.
           else-known c₁ ks (keep-checks (k₁ .image) d) met (keep-else (k₁ .image) (λ n l. l) x) ▷ λ other c₂ k₂ u.
-          stmt-ok 68 span (num branch ∷ num other ∷ []) c₂ ▹ λ m c₃ k₃ f.
+          stmt-ok 68 span (num branch ∷ optionalField other ∷ []) c₂ ▹ λ m c₃ k₃ f.
           let b = keep-line (k₂ .image) (t .1) in
-          (_, f _ (aConditional refl (line-inside b) b (u .1)), conditionalTo (t .2) (rw (k₁ .isResult) at (u .2)))
+          (_, f _ (aConditional refl (line-inside b) b (held-else (u .1))), conditionalTo (t .2) (rw (k₁ .isResult) at (u .2)))
 
       while-known : {i : ℕ} (n span : ℕ) (list : Field) {ns : List ℕ} {e : Expr Text} {b : Body Text} → Among Met i → IsExpr (ctx .image) n e →
           Holds (ctx .image) list ns →
@@ -247,7 +262,7 @@ module _ (ensures : List Clause) where
       reads-known met is (aReturnAlone q) =
           rw q (expr-ok 16 [] ctx ▷ λ n c₁ k₁ h₁. wrapped-ok n ensures c₁ ▹ λ ns c₂ k₂ w.
           (_, rw (k₁ .isResult) at (w .2 null ks (h₁ _ (aNull refl)) (keep-checks (k₁ .image) d)), returnAloneTo (w .0) (w .1) refl))
-      reads-known met is (aConditional {n = n} {o = o} {s = span} q l h e) = rw q (alone (conditional-known n o (first span) met l h e))
+      reads-known met is (aConditional {n = n} {s = span} {o = o} q l h e) = rw q (alone (conditional-known n (optional o) (first span) met l h e))
       reads-known met is (anArm q c h b) = rw q (left is otherTo)
       reads-known met is (aWhile {n = n} {s = span} {list = list} q e h rs) = rw q (alone (while-known n (first span) list met e h rs))
       reads-known met is (aLoop {s = span} {list = list} q h rs) = rw q (alone (loop-known (first span) list met h rs))

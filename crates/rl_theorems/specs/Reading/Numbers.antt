@@ -129,7 +129,7 @@ module _ (s w p : List ℕ) (seen : Counts) (own : Section) (at : ℕ) where
       differ e = let z : _≡_ {A = ℕ} 0 1 = cc in omega arith
 
   -- by the part of the record that is refused
-  refused-by : {P : Type 0} (q : Cause) (n : ℕ) → (length s ≤ at → 3 ≡ numberOf q → n ≡ at → P) → (KindOutside s own at → 4 ≡ numberOf q → n ≡ at → P) → ((j : ℕ) → FieldAt s at n j → First (fieldRows s p seen (sortAt s at j) n) q n → P) → (tallest own < heightAt s w p seen own at → 9 ≡ numberOf q → n ≡ at → P) → First (recordRows s w p seen own at) q n → P
+  refused-by : {P : Type 0} (q : Cause) (n : ℕ) → (length s ≤ at → 3 ≡ numberOf q → n ≡ at → P) → (KindOutside s own at → 4 ≡ numberOf q → n ≡ at → P) → ((j : ℕ) → FieldAt s at n j → First (fieldRows s p seen (sortAt s at j) n) q n → P) → (tallest own < heightAt s w seen own at → 9 ≡ numberOf q → n ≡ at → P) → First (recordRows s w p seen own at) q n → P
   refused-by q n f g h k (inl x) = f (x .0) (ap numberOf (x .1)) (sym (x .2))
   refused-by q n f g h k (inr (a, inl x)) = g (x .0) (ap numberOf (x .1)) (sym (x .2))
   refused-by q n f g h k (inr (a, inr (b, x))) =
@@ -173,7 +173,7 @@ module _ (s w p : List ℕ) (seen : Counts) (own : Section) (at : ℕ) where
       (λ x d h. absurd (omega (arith, d))) (record-refuses BadReference n .0 e)
 
   -- 9: the height is over the section's
-  pub height-over : (n : ℕ) → recordAt s w p seen own at ≡ Stop TooHigh n → (n ≡ at) × (tallest own < heightAt s w p seen own at)
+  pub height-over : (n : ℕ) → recordAt s w p seen own at ≡ Stop TooHigh n → (n ≡ at) × (tallest own < heightAt s w seen own at)
   height-over n e =
       refused-by TooHigh n (λ x d h. absurd (omega (arith, d))) (λ x d h. absurd (omega (arith, d)))
       (λ j f x. ⊎-elim (λ d. absurd (omega (arith, d))) (λ d. absurd (omega (arith, d .1))) (field-number s p seen (sortAt s at j) n TooHigh n x)) (λ x d h. (h, x))

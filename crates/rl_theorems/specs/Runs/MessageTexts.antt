@@ -50,5 +50,5 @@ module _ (im : Image) (f n : ℕ) where
   refinement-text = refl
 
   pub requires-text : messageBy im f (Requires n) ≡ clauseText (mapClause (textOf im) (clauseOf im (functionAt im f .required .first + n)))
-  unfolding messageBy
+  unfolding messageBy clauseOf
   requires-text = ap (λ o. orDefault o (ascii "requires violated")) (sym (own-mapped (textOf im) (clauseOf im (functionAt im f .required .first + n) .message)))

@@ -6,18 +6,19 @@ use mathlib.Core.Bool.{Bool, true, false, cond}
 use mathlib.Core.List.{List, [], _∷_, map, map-map}
 use mathlib.Core.Option.{Option, none, some, Option·map}
 use native.Mathlib.Omega.{arith}
-use lib.Dec.{ltb, eqb}
+use lib.Dec.{ltb}
 use lib.IntN.{pos}
 use lib.ListN.{length, getD}
 use borrow.Author.Tests.{ne-eqb}
+use Rattle.rl_spec.specs.declared.Optional.{Optional}
 use Rattle.rl_spec.specs.declared.ConstVal.the-variants.{Int}
 use Rattle.rl_spec.specs.declared.Folded.the-variants.{Value, Nothing}
 use Rattle.rl_spec.specs.declared.Form.the-variants.{IsErr, ResultUnwrap, Other}
 use Rattle.rl_spec.specs.Image.{Field, num, Image, first, second, entryOf, textOf}
 use Rattle.rl_spec.specs.Values.{ConstVal, int, str}
 use Rattle.rl_spec.specs.Folded.{foldedOf}
-use Rattle.rl_spec.specs.Tree.{Expr, literal, identifier, unary, binary, grouping, assign, okLiteral, errLiteral, isErr, resultUnwrap, other, ascii, below, isResPath, callForm, formBy, treeBy, exprTree}
-use Rattle.rl_spec.specs.Statement.{declaration, expression, return, conditional, while, loop, otherStatement, Body, _▸_, branch, Else, Item, aStatement, aBranch, asStatement, asBranch, asElse, bodyFrom, bodyBy, conditionBy, elseBy, statementBy, itemBy, itemTree, bodyTree}
+use Rattle.rl_spec.specs.Tree.{Expr, literal, identifier, unary, binary, grouping, assign, okLiteral, errLiteral, isErr, resultUnwrap, other, ascii, below, isResPath, callForm, formBy, treeBy, exprTree, optionalTree}
+use Rattle.rl_spec.specs.Statement.{declaration, expression, return, conditional, while, loop, otherStatement, Body, _▸_, branch, Else, Item, aStatement, aBranch, asStatement, asBranch, asElse, bodyFrom, bodyBy, elseBy, statementBy, itemBy, itemTree, bodyTree}
 use Rattle.rl_spec.specs.Ranges.{interval, upFrom}
 use Rattle.rl_spec.specs.Mapped.{Text, mapConst, mapExpr, mapStmt, mapBody, mapElse, mapItem}
 use Rattle.rl_spec.specs.Make.{made}
@@ -127,10 +128,9 @@ module _ (im : Image) where
 
   -- ---- statements
 
-  condition-of : {n : ℕ} {c : Option (Expr Text)} → IsCondition im n c → Option·map (mapExpr texts) (conditionBy im n) ≡ c
-  condition-of (noCondition q) = rw q refl
-  condition-of (aCondition {n = n} (stands k fs h d)) =
-      rw (ne-eqb n 65535 (λ q. omega (arith, h .small))) (ap some (tree-of (stands k fs h d)))
+  condition-of : {o : Optional} {c : Option (Expr Text)} → IsCondition im o c → Option·map (mapExpr texts) (optionalTree im o) ≡ c
+  condition-of noCondition = refl
+  condition-of (aCondition h) = ap some (tree-of h)
 
   -- the items before the i-th
   abbrev items : ℕ → ℕ → Item ℕ
@@ -138,9 +138,6 @@ module _ (im : Image) where
 
   earlier : {i n : ℕ} {x : Item Text} → n < i → mapItem texts (itemTree im n) ≡ x → mapItem texts (items i n) ≡ x
   earlier {i} {n} l h = ap (mapItem texts) (under-earlier (λ _. aStatement otherStatement) (itemTree im) i n l) ∙ h
-
-  pub not-none : {n : ℕ} {x : Item Text} → IsLine im n x → eqb n 65535 ≡ false
-  not-none {n} (standsLine k fs h d) = ne-eqb n 65535 (λ q. omega (arith, h .small))
 
   list-is : (item : ℕ → Item ℕ) (list : Field) (ns : List ℕ) → Holds im list ns → bodyBy im item (interval list) ≡ bodyFrom (map item ns)
   list-is item list ns h = ap bodyFrom (sym (map-map item (entryOf im) (upFrom (first list) (second list))) ∙ ap (map item) (h .is))
@@ -169,10 +166,10 @@ module _ (im : Image) where
     line-reads (aContinue q) = rw q refl
     line-reads (anOtherLine {i = i} {fs = fs} k) = ap (λ f. mapItem texts (itemBy im f (items i))) (k fs)
 
-    else-reads : {i n : ℕ} {e : Else Text} → IsElse im i n e → mapElse texts (elseBy (items i) n) ≡ e
-    else-reads (withoutElse q) = rw q refl
-    else-reads (anElse {i = i} {n = n} l h) = rw (not-none h) (else-mapped texts (items i n) ∙ ap asElse (earlier l (line-of h)))
-    else-reads (aChain {i = i} {n = n} l h) = rw (not-none h) (else-mapped texts (items i n) ∙ ap asElse (earlier l (line-of h)))
+    else-reads : {i : ℕ} {o : Optional} {e : Else Text} → IsElse im i o e → mapElse texts (elseBy (items i) o) ≡ e
+    else-reads withoutElse = refl
+    else-reads (anElse {i = i} {n = n} l h) = else-mapped texts (items i n) ∙ ap asElse (earlier l (line-of h))
+    else-reads (aChain {i = i} {n = n} l h) = else-mapped texts (items i n) ∙ ap asElse (earlier l (line-of h))
 
     rows-read : {i : ℕ} {ns : List ℕ} {b : Body Text} → Rows im i ns b → mapBody texts (bodyFrom (map (items i) ns)) ≡ b
     rows-read noRows = refl

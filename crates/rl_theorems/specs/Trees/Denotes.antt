@@ -12,13 +12,15 @@ use lib.Ieee.{ofBits, binary32, binary64}
 use lib.ListN.{length}
 use Rattle.rl_spec.specs.declared.Section.{Section}
 use Rattle.rl_spec.specs.declared.Section.the-variants.{Texts, Lists, Expressions, Statements}
+use Rattle.rl_spec.specs.declared.Optional.{Optional}
+use Rattle.rl_spec.specs.declared.Optional.the-variants.{None, Some}
 use Rattle.rl_spec.specs.declared.Form.the-variants.{Other}
 use Rattle.rl_spec.specs.declared.StatementForm.the-variants as form
 use Rattle.rl_spec.specs.Image.{Field, num, Rec, Image, sizeOf, recordOf, fieldOf, first, second, entryOf, textOf}
 use Rattle.rl_spec.specs.Values.{ConstVal, int, float, str, bool, sameText}
 use Rattle.rl_spec.specs.Tree.{Expr, null, literal, identifier, unary, binary, grouping, assign, okLiteral, errLiteral, isErr, resultUnwrap, other, ascii, signed, formBy}
 use Rattle.rl_spec.specs.Statement.{Stmt, declaration, expression, return, returnAlone, conditional, while, loop, break, continue, otherStatement, Body, nil, _▸_, Branch, branch, Else, noElse, elseBranch, elseConditional, Item, aStatement, aBranch, asStatement, statementBy}
-use Rattle.rl_spec.specs.Ranges.{upFrom}
+use Rattle.rl_spec.specs.Ranges.{upFrom, optional}
 use Rattle.rl_spec.specs.Mapped.{Text}
 use Rattle.rl_spec.specs.Make.{made, entriesOf}
 use Rattle.rl_images.specs.Lowering.Grows.{Grows, size-grows, record-kept, entry-kept, text-kept, longer-length}
@@ -103,9 +105,9 @@ abbrev pub OtherLine : ℕ → Type 0
 OtherLine k = (fs : List Field) → statementBy (made k fs) ≡ form.Other
 
 -- a condition or none
-pub data IsCondition (im : Image) : ℕ → Option (Expr Text) → Type 0 where
-  noCondition : {n : ℕ} → n ≡ 65535 → IsCondition im n none
-  aCondition : {n : ℕ} {e : Expr Text} → IsExpr im n e → IsCondition im n (some e)
+pub data IsCondition (im : Image) : Optional → Option (Expr Text) → Type 0 where
+  noCondition : IsCondition im None none
+  aCondition : {n : ℕ} {e : Expr Text} → IsExpr im n e → IsCondition im (Some n) (some e)
 
 mutual
   pub data IsLine (im : Image) : ℕ → Item Text → Type 0 where
@@ -119,11 +121,11 @@ mutual
         ReadsLine im i k (s ∷ num n ∷ []) (aStatement (expression e))
     aReturn : {i n k : ℕ} {s : Field} {e : Expr Text} → k ≡ 66 → IsExpr im n e → ReadsLine im i k (s ∷ num n ∷ []) (aStatement (return e))
     aReturnAlone : {i k : ℕ} {s : Field} → k ≡ 67 → ReadsLine im i k (s ∷ []) (aStatement returnAlone)
-    aConditional : {i n o k : ℕ} {s : Field} {b : Branch Text} {e : Else Text} → k ≡ 68 → n < i → IsLine im n (aBranch b) → IsElse im i o e →
-        ReadsLine im i k (s ∷ num n ∷ num o ∷ []) (aStatement (conditional b e))
-    anArm : {i n k : ℕ} {s list scope : Field} {ns : List ℕ} {c : Option (Expr Text)} {b : Body Text} → k ≡ 69 → IsCondition im n c →
-        Holds im list ns →
-        Rows im i ns b → ReadsLine im i k (s ∷ num n ∷ list ∷ scope ∷ []) (aBranch (branch c b))
+    aConditional : {i n k : ℕ} {s o : Field} {b : Branch Text} {e : Else Text} → k ≡ 68 → n < i → IsLine im n (aBranch b) →
+        IsElse im i (optional o) e → ReadsLine im i k (s ∷ num n ∷ o ∷ []) (aStatement (conditional b e))
+    anArm : {i k : ℕ} {s o list scope : Field} {ns : List ℕ} {c : Option (Expr Text)} {b : Body Text} → k ≡ 69 →
+        IsCondition im (optional o) c → Holds im list ns →
+        Rows im i ns b → ReadsLine im i k (s ∷ o ∷ list ∷ scope ∷ []) (aBranch (branch c b))
     aWhile : {i n k : ℕ} {s list : Field} {ns : List ℕ} {e : Expr Text} {b : Body Text} → k ≡ 70 → IsExpr im n e → Holds im list ns →
         Rows im i ns b →
         ReadsLine im i k (s ∷ num n ∷ list ∷ []) (aStatement (while e b))
@@ -133,11 +135,11 @@ mutual
     aContinue : {i k : ℕ} {s : Field} → k ≡ 78 → ReadsLine im i k (s ∷ []) (aStatement continue)
     anOtherLine : {i k : ℕ} {fs : List Field} → OtherLine k → ReadsLine im i k fs (aStatement otherStatement)
 
-  pub data IsElse (im : Image) : ℕ → ℕ → Else Text → Type 0 where
-    withoutElse : {i n : ℕ} → n ≡ 65535 → IsElse im i n noElse
-    anElse : {i n : ℕ} {b : Branch Text} → n < i → IsLine im n (aBranch b) → IsElse im i n (elseBranch b)
+  pub data IsElse (im : Image) : ℕ → Optional → Else Text → Type 0 where
+    withoutElse : {i : ℕ} → IsElse im i None noElse
+    anElse : {i n : ℕ} {b : Branch Text} → n < i → IsLine im n (aBranch b) → IsElse im i (Some n) (elseBranch b)
     aChain : {i n : ℕ} {b : Branch Text} {e : Else Text} → n < i → IsLine im n (aStatement (conditional b e)) →
-        IsElse im i n (elseConditional b e)
+        IsElse im i (Some n) (elseConditional b e)
 
   -- statements in a row, all before the i-th
   pub data Rows (im : Image) : ℕ → List ℕ → Body Text → Type 0 where
@@ -195,8 +197,8 @@ module _ {im im′ : Image} (g : Grows im im′) where
     keep-args w noArgs = noArgs
     keep-args w (anArg {n = n} l h hs) = anArg (w n l) (keep h) (keep-args w hs)
 
-  pub keep-condition : {n : ℕ} {c : Option (Expr Text)} → IsCondition im n c → IsCondition im′ n c
-  keep-condition (noCondition q) = noCondition q
+  pub keep-condition : {o : Optional} {c : Option (Expr Text)} → IsCondition im o c → IsCondition im′ o c
+  keep-condition noCondition = noCondition
   keep-condition (aCondition h) = aCondition (keep h)
 
   mutual
@@ -216,8 +218,8 @@ module _ {im im′ : Image} (g : Grows im im′) where
     keep-reads-line (aContinue q) = aContinue q
     keep-reads-line (anOtherLine k) = anOtherLine k
 
-    pub keep-else : {i j n : ℕ} {e : Else Text} → ((n : ℕ) → n < i → n < j) → IsElse im i n e → IsElse im′ j n e
-    keep-else w (withoutElse q) = withoutElse q
+    pub keep-else : {i j : ℕ} {o : Optional} {e : Else Text} → ((n : ℕ) → n < i → n < j) → IsElse im i o e → IsElse im′ j o e
+    keep-else w withoutElse = withoutElse
     keep-else w (anElse {n = n} l h) = anElse (w n l) (keep-line h)
     keep-else w (aChain {n = n} l h) = aChain (w n l) (keep-line h)
 

@@ -24,7 +24,7 @@ use Rattle.rl_images.specs.Lowering.NewRecords.{At}
 use Rattle.rl_theorems.specs.Trees.Denotes.{Says, AllSay, noneSay, alsoSays, anInteger, anSInt, aUInt, aBool, aFloat, anSFloat, IsExpr, stands, Reads, aNull, aLiteral, aString, anIdentifier, aBinary, aUnary, aGrouping, anAssign, aCall, anOk, anErr, anOther, Args, noArgs, anArg}
 
 module _ (im : Image) (wf : WellFormed im) where
-  pub few : (o : Section) → sizeOf im o < 65535
+  few : (o : Section) → sizeOf im o < 65535
   unfolding limits
   few Texts = omega (arith, size-within im wf Texts)
   few Lists = omega (arith, size-within im wf Lists)

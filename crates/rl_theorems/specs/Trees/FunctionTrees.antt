@@ -1,26 +1,26 @@
 -- What a function of a well-formed image leads to: its clauses and its body stand for something.
 -- Assumes nothing.
 use Prim.Native.Nat.{ℕ, zero, suc, _+_, _≤_, _<_}
-use mathlib.Core.Path.{_≡_, refl, sym, subst}
-use mathlib.Core.Logic.{_⊎_, inl, inr}
+use mathlib.Core.Path.{refl, sym, subst}
 use mathlib.Core.List.{map}
 use mathlib.Core.Option.{Option·map}
 use native.Mathlib.Omega.{arith}
-use borrow.Author.Tests.{ne-eqb}
+use Rattle.rl_spec.specs.declared.Optional.{Optional}
 use Rattle.rl_spec.specs.declared.Section.the-variants.{Expressions, Clauses, Functions}
 use Rattle.rl_spec.specs.declared.Target.the-variants.{Statement}
 use Rattle.rl_spec.specs.Image.{Image, sizeOf, recordOf, fieldOf, first, second, entryOf, textOf, Entries, WellFormed}
-use Rattle.rl_spec.specs.Tree.{exprTree}
+use Rattle.rl_spec.specs.Tree.{exprTree, optionalTree}
 use Rattle.rl_spec.specs.Statement.{Body, nil, _▸_, bodyTree, asStatement}
 use Rattle.rl_spec.specs.Ranges.{interval, upFrom}
 use Rattle.rl_spec.specs.Records.{clauseAt}
-use Rattle.rl_spec.specs.Contracts.{clauseOf, messageNode}
+use Rattle.rl_spec.specs.Contracts.{clauseOf}
 use Rattle.rl_spec.specs.Mapped.{Text, mapExpr, mapBody, mapClause}
 use Rattle.rl_spec.specs.Functions.{messageOr, clauseCheck}
 use Rattle.rl_images.specs.Images.FunctionFields.{clause-fits, function-fits}
+use Rattle.rl_laws.specs.Optionals.{IfSome, noIndex, anIndex, optional-says}
 use Rattle.rl_theorems.specs.Trees.Denotes.{IsExpr, noRows, aRow}
 use Rattle.rl_theorems.specs.Trees.DenotedTrees.{tree-of, body-of}
-use Rattle.rl_theorems.specs.Trees.DenotingExpressions.{few, expression-stands}
+use Rattle.rl_theorems.specs.Trees.DenotingExpressions.{expression-stands}
 use Rattle.rl_theorems.specs.Trees.DenotingStatements.{statement-stands}
 use Rattle.rl_theorems.specs.Lowering.Guarded.{Lines, IsMessage, noMessage, aMessage, Checks, noChecks, aCheck}
 
@@ -32,10 +32,10 @@ module _ (im : Image) (wf : WellFormed im) where
 
   -- ---- clauses
 
-  message-is : (default : Text) (n : ℕ) → (n ≡ 65535) ⊎ (n < sizeOf im Expressions) →
-      IsMessage im default n (messageOr default (Option·map (mapExpr (textOf im)) (messageNode im n)))
-  message-is default n (inl q) = rw q (noMessage refl)
-  message-is default n (inr h) = rw (ne-eqb n 65535 (λ q. omega (arith, few im wf Expressions))) (aMessage (expression-is n h))
+  message-is : {o : Optional} (default : Text) → IfSome (λ n. n < sizeOf im Expressions) o →
+      IsMessage im default o (messageOr default (Option·map (mapExpr (textOf im)) (optionalTree im o)))
+  message-is default noIndex = noMessage
+  message-is default (anIndex {n = n} h) = aMessage (expression-is n h)
 
   pub clauses-check : (default : Text) (a n : ℕ) → a + n ≤ sizeOf im Clauses →
       Checks im default (map (clauseAt im) (upFrom a n)) (map (clauseCheck default) (map (mapClause (textOf im)) (map (clauseOf im) (upFrom a n))))
@@ -43,7 +43,8 @@ module _ (im : Image) (wf : WellFormed im) where
   clauses-check default a zero h = noChecks
   clauses-check default a (suc n) h =
       let f = clause-fits im wf a (omega arith) in
-      aCheck (expression-is _ (f .0)) (message-is default _ (f .1)) (clauses-check default (a + 1) n (omega arith))
+      aCheck (expression-is _ (f .0)) (message-is default (optional-says (fieldOf (recordOf im Clauses a) 1) (f .1)))
+      (clauses-check default (a + 1) n (omega arith))
 
   -- ---- its body
 

@@ -2,21 +2,21 @@
 -- Assumes nothing.
 use Prim.Native.Nat.{ℕ}
 use mathlib.Core.Path.{_≡_, refl, ap, sym, _∙_}
-use mathlib.Core.Bool.{cond}
 use mathlib.Core.List.{List, [], _∷_}
-use mathlib.Core.Option.{none, some}
+use mathlib.Core.Option.{some}
 use native.Mathlib.Omega.{arith}
-use lib.Dec.{eqb}
 use Rattle.rl_spec.specs.declared.Section.{Section}
 use Rattle.rl_spec.specs.declared.Section.the-variants.{Texts, Lists, Expressions, Statements, Functions}
 use Rattle.rl_spec.specs.declared.Interval.{Interval}
+use Rattle.rl_spec.specs.declared.Optional.{Optional}
+use Rattle.rl_spec.specs.declared.Optional.the-variants.{None, Some}
 use Rattle.rl_spec.specs.Image.{Field, Rec, Image, orderOf, recordsOf, recordOf, fieldOf, textOf}
 use Rattle.rl_spec.specs.declared.Form.{Form}
 use Rattle.rl_spec.specs.declared.Form.the-variants.{Null, Literal, Identifier, Unary, Binary, Grouping, Assign, OkLiteral, ErrLiteral, IsErr, ResultUnwrap, Other}
 use Rattle.rl_spec.specs.declared.StatementForm.{StatementForm}
 use Rattle.rl_spec.specs.declared.StatementForm.the-variants as line
 use Rattle.rl_spec.specs.declared.StatementForm.the-variants.{Declaration, Expression, Return, ReturnAlone, Conditional, Branch as ABranch, While, Loop, Break, Continue}
-use Rattle.rl_spec.specs.Tree.{Expr, other, isResPath, callForm, formBy, descend, treeBy, exprTree}
+use Rattle.rl_spec.specs.Tree.{Expr, other, isResPath, callForm, formBy, descend, treeBy, exprTree, optionalTree}
 use Rattle.rl_spec.specs.Statement.{declaration, expression, return, while, otherStatement, branch, Item, aStatement, aBranch, bodyBy, statementOf, itemBy, itemTree, bodyTree}
 use Rattle.rl_spec.specs.Mapped.{mapExpr, mapBody}
 use Rattle.rl_spec.specs.Make.{withRecords}
@@ -56,13 +56,17 @@ module _ (im : Image) where
   unfolding exprTree
   expr-tables = λ j. descend (λ _. other) (λ i tree. tree-by (form-tables (recordOf im Expressions i) j) tree j)
 
+  optional-tables : (o : Optional) → optionalTree im o ≡ optionalTree (tablesOf im) o
+  optional-tables None = refl
+  optional-tables (Some n) = λ i. some (expr-tables i n)
+
   item-by : (form : StatementForm) (item : ℕ → Item ℕ) → itemBy im form item ≡ itemBy (tablesOf im) form item
   item-by (Declaration x n) item = λ i. aStatement (declaration x (expr-tables i n))
   item-by (Expression n) item = λ i. aStatement (expression (expr-tables i n))
   item-by (Return n) item = λ i. aStatement (return (expr-tables i n))
   item-by ReturnAlone item = refl
   item-by (Conditional b e) item = refl
-  item-by (ABranch n list) item = λ i. aBranch (branch (cond (eqb n 65535) none (some (expr-tables i n))) (bodyBy im item list))
+  item-by (ABranch o list) item = λ i. aBranch (branch (optional-tables o i) (bodyBy im item list))
   item-by (While n list) item = λ i. aStatement (while (expr-tables i n) (bodyBy im item list))
   item-by (Loop list) item = refl
   item-by Break item = refl

@@ -1,76 +1,33 @@
-use mathlib.Core.Path.{refl, _∙_}
-use native.Mathlib.Omega.{arith}
+use mathlib.Core.Path.{refl}
 use borrow.Author.Needs.{needs}
-use Rattle.rl_spec.specs.Tree.{ascii}
-use Rattle.rl_bodies.proofs.NewBody.{required-inside, ready, body-inside, body-done}
+use Rattle.rl_bodies.proofs.NewBody.{body-done}
 use Rattle.rl_bodies.proofs.body.new_body.Statement.{statement}
 use Rattle.rl_bodies.proofs.body.new_body.Tie as tie
 
-function-at-requires : tie.Need-function-at-requires
-function-at-requires c κs = search needs
-
-refinement-guards-requires : tie.Need-refinement-guards-requires
-refinement-guards-requires c κs = search needs
-
-slice-aggregate-clause-guards : tie.Need-slice-aggregate-clause-guards
-slice-aggregate-clause-guards c = search needs
-
-clause-guards-requires : tie.Need-clause-guards-requires
-clause-guards-requires c κs = search needs
-
-rest-requires : tie.Need-rest-requires
-rest-requires c κs = search needs
+desugar-fn-contracts-requires : tie.Need-desugar-fn-contracts-requires
+desugar-fn-contracts-requires c κs = search needs
 
 new-list-requires : tie.Need-new-list-requires
 new-list-requires c κs = search needs
 
 same-length : tie.Need-same-length
-same-length c =
-    let listed = c .before .before in
-    let rest = listed .before .before .before .before .before .before .before in
-    let required = rest .before .before .before .before .before .before .before .before .before in
-    let refined = required .before .before .before .before .before .before .before .before .before .before .before in
-    refined .refinement-guards .kept .1 .1 .1 .0
+same-length c = search needs
 
 same-length-2 : tie.Need-same-length-2
-same-length-2 c =
-    let listed = c .before .before in
-    let rest = listed .before .before .before .before .before .before .before in
-    let required = rest .before .before .before .before .before .before .before .before .before in
-    let refined = required .before .before .before .before .before .before .before .before .before .before .before in
-    listed .new-list .kept .1 .0 ∙ rest .rest .kept .1 .1 .1 .1 .1 .1 .0 ∙ required .clause-guards .kept .1 .1 .1 .1 .1 .0 ∙ refined .refinement-guards .kept .1 .1 .1 .1 .0
+same-length-2 c = search needs
 
 same-length-3 : tie.Need-same-length-3
-same-length-3 c =
-    let listed = c .before .before in
-    let rest = listed .before .before .before .before .before .before .before in
-    let required = rest .before .before .before .before .before .before .before .before .before in
-    let refined = required .before .before .before .before .before .before .before .before .before .before .before in
-    rest .rest .kept .1 .1 .1 .1 .1 .1 .1 .0 ∙ required .clause-guards .kept .1 .1 .1 .1 .1 .1 .0 ∙ refined .refinement-guards .kept .1 .1 .1 .1 .1 .0
+same-length-3 c = search needs
 
 returns : tie.Need-returns
-unfolding ascii
 returns c rows there long well fresh =
-    let listed = c .before .before in
-    let rest = listed .before .before .before .before .before .before .before in
-    let required = rest .before .before .before .before .before .before .before .before .before in
-    let refined = required .before .before .before .before .before .before .before .before .before .before .before in
-    let f = refined .before .before .before .before .function-at in
-    body-done _ _ _ _ _ fresh _ _ (f .result) (f .ensures) _ _ _ _ _ _ refl
-    (refined .refinement-guards .ensures _ _ (omega (arith, long)) refl)
-    (required .clause-guards .ensures rows (required-inside _ _ _ _ there well _ (f .ensures)))
-    (rest .rest .ensures (ready _ _ _ _ there well _ (f .ensures) _ rows) (body-inside _ _ _ _ there well _ (f .ensures)))
-    (listed .new-list .ensures)
+    body-done _ _ _ _ _ _ _ _ _ refl (c .before .before .before .before .before .before .before .before .before .before .before .desugar-fn-contracts .ensures rows there long well fresh) (c .before .before .new-list .ensures)
 
 pub new-body-spec : {M : Type 1} → statement M
 new-body-spec =
     tie.close
     (tie.spec
-    function-at-requires
-    refinement-guards-requires
-    slice-aggregate-clause-guards
-    clause-guards-requires
-    rest-requires
+    desugar-fn-contracts-requires
     new-list-requires
     same-length
     same-length-2

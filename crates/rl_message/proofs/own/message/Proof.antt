@@ -1,18 +1,18 @@
 use borrow.Author.Needs.{needs}
 use Rattle.rl_message.proofs.own.message.Statement.{statement}
 use Rattle.rl_message.proofs.own.message.Tie as tie
-use Rattle.rl_message.proofs.OwnLaws.{by-own, by-default}
+use Rattle.rl_message.proofs.OwnLaws.{by-refinement, by-requires}
 
-ruleset laws = (by-own, by-default)
+ruleset laws = (by-refinement, by-requires)
 
-own-text-requires : tie.Need-own-text-requires
-own-text-requires c κs = search needs
+enum-known-violation : tie.Need-enum-known-violation
+enum-known-violation c = search needs
 
-enum-known-own : tie.Need-enum-known-own
-enum-known-own c = search needs
+clause-of-requires : tie.Need-clause-of-requires
+clause-of-requires c κs = search needs
 
-text-at-requires : tie.Need-text-at-requires
-text-at-requires c κs = search needs
+clause-message-requires : tie.Need-clause-message-requires
+clause-message-requires c κs = search needs
 
 enum-told : tie.Need-enum-told
 enum-told c = search needs
@@ -26,4 +26,10 @@ returns-2 c = search (laws, needs)
 pub message-spec : {M : Type 1} → statement M
 message-spec =
     tie.close
-    (tie.spec own-text-requires enum-known-own text-at-requires enum-told returns returns-2)
+    (tie.spec
+    enum-known-violation
+    clause-of-requires
+    clause-message-requires
+    enum-told
+    returns
+    returns-2)

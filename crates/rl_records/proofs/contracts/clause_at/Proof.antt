@@ -23,14 +23,14 @@ add-at c = search needs
 add-at-2 : tie.Need-add-at-2
 add-at-2 c = search needs
 
+add-optional-at : tie.Need-add-optional-at
+add-optional-at c = search needs
+
+optional-at-requires : tie.Need-optional-at-requires
+optional-at-requires c κs = search needs
+
 u16-at-requires : tie.Need-u16-at-requires
 u16-at-requires c κs = search needs
-
-add-u16-at : tie.Need-add-u16-at
-add-u16-at c = search needs
-
-u16-at-requires-2 : tie.Need-u16-at-requires-2
-u16-at-requires-2 c κs = search needs
 
 returns-2 : tie.Need-returns-2
 returns-2 c = search (laws, needs)
@@ -45,7 +45,7 @@ clause-at-spec =
     mul-at
     add-at
     add-at-2
+    add-optional-at
+    optional-at-requires
     u16-at-requires
-    add-u16-at
-    u16-at-requires-2
     returns-2)

@@ -35,14 +35,14 @@ u16-at-requires-4 c κs = search needs
 u16-at-requires-5 : tie.Need-u16-at-requires-5
 u16-at-requires-5 c κs = search needs
 
-add-u16-at-3 : tie.Need-add-u16-at-3
-add-u16-at-3 c = search needs
+add-optional-at : tie.Need-add-optional-at
+add-optional-at c = search needs
 
-u16-at-requires-6 : tie.Need-u16-at-requires-6
-u16-at-requires-6 c κs = search needs
+optional-at-requires : tie.Need-optional-at-requires
+optional-at-requires c κs = search needs
 
-u16-at-requires-7 : tie.Need-u16-at-requires-7
-u16-at-requires-7 c κs = search needs
+optional-at-requires-2 : tie.Need-optional-at-requires-2
+optional-at-requires-2 c κs = search needs
 
 add-interval-at : tie.Need-add-interval-at
 add-interval-at c = search needs
@@ -50,8 +50,8 @@ add-interval-at c = search needs
 interval-at-requires : tie.Need-interval-at-requires
 interval-at-requires c κs = search needs
 
-u16-at-requires-8 : tie.Need-u16-at-requires-8
-u16-at-requires-8 c κs = search needs
+u16-at-requires-6 : tie.Need-u16-at-requires-6
+u16-at-requires-6 c κs = search needs
 
 add-interval-at-2 : tie.Need-add-interval-at-2
 add-interval-at-2 c = search needs
@@ -109,12 +109,12 @@ statement-in-spec =
     u16-at-requires-3
     u16-at-requires-4
     u16-at-requires-5
-    add-u16-at-3
-    u16-at-requires-6
-    u16-at-requires-7
+    add-optional-at
+    optional-at-requires
+    optional-at-requires-2
     add-interval-at
     interval-at-requires
-    u16-at-requires-8
+    u16-at-requires-6
     add-interval-at-2
     interval-at-requires-2
     interval-at-requires-3

@@ -1,6 +1,6 @@
 use lib.ListN.{length}
-use Rattle.rl_resolver.proofs.Answers.{unread, refused-by, admitted-there, limit-passed, image-made}
 use borrow.Author.Needs.{needs}
+use Rattle.rl_resolver.proofs.Answers.{unread, refused-by, admitted-there, limit-passed, image-made}
 use Rattle.rl_resolver.proofs.lowering.lower.Statement.{statement}
 use Rattle.rl_resolver.proofs.lowering.lower.Tie as tie
 
@@ -53,6 +53,15 @@ put-lowered-requires c κs =
     let first = cleared .before .before .before .before in
     admitted-there _ _ _ (length (first .before .args .out .now)) _ (cleared .clear-bytes .ensures) _ (read .read-starts .ensures .0) _ _ (known .answer2 .given .1) (first .shared-slice-known .given) _ (read .read-starts .ensures .1 .0) _ (check .admit-lowering .ensures) (told .enum-told .given .1) _ (read .read-starts .ensures .1 .1)
 
+enum-known-put : tie.Need-enum-known-put
+enum-known-put c = search needs
+
+cast-t34 : tie.Need-cast-t34
+cast-t34 c = search ((c .before .before .before .before .before .put-lowered .ensures) .few _ (c .before .put .given .1), needs)
+
+enum-told-2 : tie.Need-enum-told-2
+enum-told-2 c = search needs
+
 clear-requires-2 : tie.Need-clear-requires-2
 clear-requires-2 c κs = search needs
 
@@ -64,17 +73,10 @@ same-length-2 c = search needs
 
 returns : tie.Need-returns
 returns c =
-    let put = c .before .before .before .before .before .before .before in
-    let told = put .before .before .before in
-    let check = told .before .before in
-    let known = check .before .before .before in
-    let read = known .before .before .before .before in
+    let read = c .before .before .before .before .before in
     let cleared = read .before .before .before .before .before in
     let first = cleared .before .before .before .before in
-    limit-passed _ _ _ (length (first .before .args .out .now)) _ (cleared .clear-bytes .ensures) _ (read .read-starts .ensures .0) _ _ (known .answer2 .given .1) (first .shared-slice-known .given) _ (read .read-starts .ensures .1 .0) _ (check .admit-lowering .ensures) (told .enum-told .given .1) _ (read .read-starts .ensures .1 .1) _ _ (put .put-lowered .ensures) (c .before .before .before .before .if1 .taken) _ _ (read .read-starts .kept .1 .0) (c .before .before .clear2 .ensures)
-
-cast-t37 : tie.Need-cast-t37
-cast-t37 c = search needs
+    unread _ _ _ (length (first .before .args .out .now)) _ (cleared .clear-bytes .ensures) _ (read .read-starts .ensures .0) _ _ (c .before .answer .given .1) _ (read .read-starts .ensures .1 .0)
 
 same-length-3 : tie.Need-same-length-3
 same-length-3 c = search needs
@@ -84,10 +86,12 @@ same-length-4 c = search needs
 
 returns-2 : tie.Need-returns-2
 returns-2 c =
-    let read = c .before .before .before .before .before in
+    let check = c .before .before .before .before .before .before .before in
+    let known = check .before .before .before in
+    let read = known .before .before .before .before in
     let cleared = read .before .before .before .before .before in
     let first = cleared .before .before .before .before in
-    unread _ _ _ (length (first .before .args .out .now)) _ (cleared .clear-bytes .ensures) _ (read .read-starts .ensures .0) _ _ (c .before .answer .given .1) _ (read .read-starts .ensures .1 .0)
+    refused-by _ _ _ (length (first .before .args .out .now)) _ (cleared .clear-bytes .ensures) _ (read .read-starts .ensures .0) _ _ (known .answer2 .given .1) (first .shared-slice-known .given) _ (read .read-starts .ensures .1 .0) _ (check .admit-lowering .ensures) _ (c .before .before .before .before .before .check .given .1) _ _ (read .read-starts .kept .1 .0) (c .before .before .clear .ensures)
 
 same-length-5 : tie.Need-same-length-5
 same-length-5 c = search needs
@@ -97,12 +101,14 @@ same-length-6 c = search needs
 
 returns-3 : tie.Need-returns-3
 returns-3 c =
-    let check = c .before .before .before .before .before .before .before in
+    let put = c .before .before .before .before .before in
+    let told = put .before .before .before in
+    let check = told .before .before in
     let known = check .before .before .before in
     let read = known .before .before .before .before in
     let cleared = read .before .before .before .before .before in
     let first = cleared .before .before .before .before in
-    refused-by _ _ _ (length (first .before .args .out .now)) _ (cleared .clear-bytes .ensures) _ (read .read-starts .ensures .0) _ _ (known .answer2 .given .1) (first .shared-slice-known .given) _ (read .read-starts .ensures .1 .0) _ (check .admit-lowering .ensures) _ (c .before .before .before .before .before .check .given .1) _ _ (read .read-starts .kept .1 .0) (c .before .before .clear .ensures)
+    image-made _ _ _ (length (first .before .args .out .now)) _ (cleared .clear-bytes .ensures) _ (read .read-starts .ensures .0) _ _ (known .answer2 .given .1) (first .shared-slice-known .given) _ (read .read-starts .ensures .1 .0) _ (check .admit-lowering .ensures) (told .enum-told .given .1) _ (read .read-starts .ensures .1 .1) _ _ (put .put-lowered .ensures) _ (c .before .put .given .1) _ (read .read-starts .ensures .1 .0)
 
 same-length-7 : tie.Need-same-length-7
 same-length-7 c = search needs
@@ -112,14 +118,14 @@ same-length-8 c = search needs
 
 returns-4 : tie.Need-returns-4
 returns-4 c =
-    let put = c .before .before .before in
+    let put = c .before .before .before .before .before .before .before .before in
     let told = put .before .before .before in
     let check = told .before .before in
     let known = check .before .before .before in
     let read = known .before .before .before .before in
     let cleared = read .before .before .before .before .before in
     let first = cleared .before .before .before .before in
-    image-made _ _ _ (length (first .before .args .out .now)) _ (cleared .clear-bytes .ensures) _ (read .read-starts .ensures .0) _ _ (known .answer2 .given .1) (first .shared-slice-known .given) _ (read .read-starts .ensures .1 .0) _ (check .admit-lowering .ensures) (told .enum-told .given .1) _ (read .read-starts .ensures .1 .1) _ _ (put .put-lowered .ensures) (c .if1 .left) _ (read .read-starts .ensures .1 .0)
+    limit-passed _ _ _ (length (first .before .args .out .now)) _ (cleared .clear-bytes .ensures) _ (read .read-starts .ensures .0) _ _ (known .answer2 .given .1) (first .shared-slice-known .given) _ (read .read-starts .ensures .1 .0) _ (check .admit-lowering .ensures) (told .enum-told .given .1) _ (read .read-starts .ensures .1 .1) _ _ (put .put-lowered .ensures) (c .before .before .before .before .enum-told2 .given .1) _ _ (read .read-starts .kept .1 .0) (c .before .before .clear2 .ensures)
 
 pub lower-spec : {M : Type 1} → statement M
 lower-spec =
@@ -135,11 +141,13 @@ lower-spec =
     enum-told
     cast-put-lowered
     put-lowered-requires
+    enum-known-put
+    cast-t34
+    enum-told-2
     clear-requires-2
     same-length
     same-length-2
     returns
-    cast-t37
     same-length-3
     same-length-4
     returns-2

@@ -31,8 +31,8 @@ list-requires c κs =
 outcome-after-requires : tie.Need-outcome-after-requires
 outcome-after-requires c κs = search needs
 
-sub-t26 : tie.Need-sub-t26
-sub-t26 c = search needs
+sub-t27 : tie.Need-sub-t27
+sub-t27 c = search needs
 
 returns : tie.Need-returns
 returns c = function-ran _ _ _ (c .before .before .before .before .before .before .before .before .before .before .before .before .before .shared-slice-known .given) _ _ _ _ _ _ _ (c .before .before .before .before .before .before .before .function-at .ensures) (c .before .before .before .before .before .before .before .before .before .before .before .before .before .before .pre .1 .1 .0) (c .before .before .before .before .before .before .before .before .before .before .before .before .before .before .pre .1 .1 .1) (c .before .before .before .before .bind-all .ensures .0) (c .before .list .ensures) (c .outcome-after .ensures)
@@ -49,5 +49,5 @@ run-function-spec =
     slice-aggregate-list
     list-requires
     outcome-after-requires
-    sub-t26
+    sub-t27
     returns)

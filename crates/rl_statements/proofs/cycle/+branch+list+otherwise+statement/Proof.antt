@@ -117,19 +117,19 @@ branch-returns-2 : (t : ℕ) → branch-lts.Need-returns-2 (branch-calls t) (bra
 branch-returns-2 t c = search (parts, needs)
 
 abbrev list-Inv-loop2 : list-lts.InvT-loop2
-list-Inv-loop2 image starts counts classes bound outermost looping conditional condition budget e left base done first count frames top name storing value class j₀ found₀ j found =
+list-Inv-loop2 image starts counts classes bound outermost looping condition budget e left base done first count frames top name storing value class j₀ found₀ j found =
     Sought classes (e .slots) name (e .len) j found
 
 abbrev list-μ-loop2 : list-lts.MeasureT-loop2
-list-μ-loop2 image starts counts classes bound outermost looping conditional condition budget e left base done first count frames top name storing value class j₀ found₀ j found =
+list-μ-loop2 image starts counts classes bound outermost looping condition budget e left base done first count frames top name storing value class j₀ found₀ j found =
     j
 
 abbrev list-Inv-loop : list-lts.InvT-loop
-list-Inv-loop image starts counts classes bound outermost looping conditional condition budget e₀ left₀ base₀ done₀ first count frames₀ top₀ state₀ e left base done frames top state =
-    Listing (imageFound image starts counts) bound outermost looping conditional condition (record { first = first; count = count }) budget e₀ e left base done frames top state
+list-Inv-loop image starts counts classes bound outermost looping condition budget e₀ left₀ base₀ done₀ first count frames₀ top₀ state₀ e left base done frames top state =
+    Listing (imageFound image starts counts) bound outermost looping condition (record { first = first; count = count }) budget e₀ e left base done frames top state
 
 abbrev list-μ-loop : list-lts.MeasureT-loop
-list-μ-loop image starts counts classes bound outermost looping conditional condition budget e₀ left₀ base₀ done₀ first count frames₀ top₀ state₀ e left base done frames top state =
+list-μ-loop image starts counts classes bound outermost looping condition budget e₀ left₀ base₀ done₀ first count frames₀ top₀ state₀ e left base done frames top state =
     fuel left top state
 
 abbrev list-calls : ℕ → list-lts.Claims
@@ -353,8 +353,8 @@ list-element-copy-out-b t c = search needs
 list-binding-requires : (t : ℕ) → list-lts.Need-binding-requires (list-calls t) (list-at t) list.Post list-Inv-loop2 list-μ-loop2 list-Inv-loop list-μ-loop
 list-binding-requires t c κs = search needs
 
-list-mul-t91 : (t : ℕ) → list-lts.Need-mul-t91 (list-calls t) (list-at t) list.Post list-Inv-loop2 list-μ-loop2 list-Inv-loop list-μ-loop
-list-mul-t91 t c = search needs
+list-mul-t90 : (t : ℕ) → list-lts.Need-mul-t90 (list-calls t) (list-at t) list.Post list-Inv-loop2 list-μ-loop2 list-Inv-loop list-μ-loop
+list-mul-t90 t c = search needs
 
 list-element-set-from-e : (t : ℕ) → list-lts.Need-element-set-from-e (list-calls t) (list-at t) list.Post list-Inv-loop2 list-μ-loop2 list-Inv-loop list-μ-loop
 list-element-set-from-e t c = search needs
@@ -383,8 +383,8 @@ list-enum-known-state-6 t c = search needs
 list-binding-requires-2 : (t : ℕ) → list-lts.Need-binding-requires-2 (list-calls t) (list-at t) list.Post list-Inv-loop2 list-μ-loop2 list-Inv-loop list-μ-loop
 list-binding-requires-2 t c κs = search needs
 
-list-mul-t98 : (t : ℕ) → list-lts.Need-mul-t98 (list-calls t) (list-at t) list.Post list-Inv-loop2 list-μ-loop2 list-Inv-loop list-μ-loop
-list-mul-t98 t c = search needs
+list-mul-t97 : (t : ℕ) → list-lts.Need-mul-t97 (list-calls t) (list-at t) list.Post list-Inv-loop2 list-μ-loop2 list-Inv-loop list-μ-loop
+list-mul-t97 t c = search needs
 
 list-element-set-from-e-2 : (t : ℕ) → list-lts.Need-element-set-from-e-2 (list-calls t) (list-at t) list.Post list-Inv-loop2 list-μ-loop2 list-Inv-loop list-μ-loop
 list-element-set-from-e-2 t c = search needs
@@ -444,13 +444,13 @@ list-enum-known-turn : (t : ℕ) → list-lts.Need-enum-known-turn (list-calls t
 list-enum-known-turn t c = search needs
 
 list-returns : (t : ℕ) → list-lts.Need-returns (list-calls t) (list-at t) list.Post list-Inv-loop2 list-μ-loop2 list-Inv-loop list-μ-loop
-list-returns t c = list-finished _ _ _ _ _ _ (c .before .before .before .before .before .before .before .before .before .before .before .before .before .before .before .args .looping) (c .before .before .before .before .before .before .before .before .before .before .before .before .before .before .before .args .conditional) (c .before .before .before .before .before .before .before .before .before .before .before .before .before .before .before .args .condition) _ _ _ _ _ _ _ _ (c .before .before .before .before .smaller .ensures) _ _ (c .before .before .before .before .before .before .before .before .loop .inv) (c .before .before .before .before .before .before .state8 .given .1) (sym (c .before .before .before .turn-after .ensures) ∙ (c .before .turn .given .1)) _ _ refl
+list-returns t c = list-finished _ _ _ _ _ _ (c .before .before .before .before .before .before .before .before .before .before .before .before .before .before .before .args .looping) (c .before .before .before .before .before .before .before .before .before .before .before .before .before .before .before .args .condition) _ _ _ _ _ _ _ _ (c .before .before .before .before .smaller .ensures) _ _ (c .before .before .before .before .before .before .before .before .loop .inv) (c .before .before .before .before .before .before .state8 .given .1) (sym (c .before .before .before .turn-after .ensures) ∙ (c .before .turn .given .1)) _ _ refl
 
 list-enum-told-2 : (t : ℕ) → list-lts.Need-enum-told-2 (list-calls t) (list-at t) list.Post list-Inv-loop2 list-μ-loop2 list-Inv-loop list-μ-loop
 list-enum-told-2 t c = search needs
 
 list-returns-2 : (t : ℕ) → list-lts.Need-returns-2 (list-calls t) (list-at t) list.Post list-Inv-loop2 list-μ-loop2 list-Inv-loop list-μ-loop
-list-returns-2 t c = turns-spent _ _ _ _ _ _ (c .before .before .before .before .before .before .before .before .before .before .before .before .before .before .before .args .looping) (c .before .before .before .before .before .before .before .before .before .before .before .before .before .before .before .args .conditional) (c .before .before .before .before .before .before .before .before .before .before .before .before .before .before .before .args .condition) _ _ _ _ _ _ _ _ (c .before .before .before .before .smaller .ensures) _ (c .before .before .before .before .before .before .before .before .loop .inv) (c .before .before .before .before .before .before .state8 .given .1) (sym (c .before .before .before .turn-after .ensures) ∙ (c .before .enum-told2 .given .1)) (c .if12 .taken) _ _ refl
+list-returns-2 t c = turns-spent _ _ _ _ _ _ (c .before .before .before .before .before .before .before .before .before .before .before .before .before .before .before .args .looping) (c .before .before .before .before .before .before .before .before .before .before .before .before .before .before .before .args .condition) _ _ _ _ _ _ _ _ (c .before .before .before .before .smaller .ensures) _ (c .before .before .before .before .before .before .before .before .loop .inv) (c .before .before .before .before .before .before .state8 .given .1) (sym (c .before .before .before .turn-after .ensures) ∙ (c .before .enum-told2 .given .1)) (c .if12 .taken) _ _ refl
 
 list-sub-left-4 : (t : ℕ) → list-lts.Need-sub-left-4 (list-calls t) (list-at t) list.Post list-Inv-loop2 list-μ-loop2 list-Inv-loop list-μ-loop
 list-sub-left-4 t c = search needs
@@ -462,7 +462,7 @@ list-loop-less-19 : (t : ℕ) → list-lts.Need-loop-less-19 (list-calls t) (lis
 list-loop-less-19 t c = search (falling, needs)
 
 list-loop-again-19 : (t : ℕ) → list-lts.Need-loop-again-19 (list-calls t) (list-at t) list.Post list-Inv-loop2 list-μ-loop2 list-Inv-loop list-μ-loop
-list-loop-again-19 t c = turns-again _ _ _ _ _ _ (c .before .before .before .before .before .before .before .before .before .before .before .before .before .before .before .before .args .looping) (c .before .before .before .before .before .before .before .before .before .before .before .before .before .before .before .before .args .conditional) (c .before .before .before .before .before .before .before .before .before .before .before .before .before .before .before .before .args .condition) _ _ _ _ _ _ _ _ (c .before .before .before .before .before .smaller .ensures) _ _ (c .before .before .before .before .before .before .before .before .before .loop .inv) (c .before .before .before .before .before .before .before .state8 .given .1) (sym (c .before .before .before .before .turn-after .ensures) ∙ (c .before .before .enum-told2 .given .1)) (c .before .if12 .left) (c .condition-first .ensures .0) (c .condition-first .ensures .1) (c .before .before .before .before .before .before .before .before .before .before .before .before .before .before .before .before .pre .1 .0 .low)
+list-loop-again-19 t c = turns-again _ _ _ _ _ _ (c .before .before .before .before .before .before .before .before .before .before .before .before .before .before .before .before .args .looping) (c .before .before .before .before .before .before .before .before .before .before .before .before .before .before .before .before .args .condition) _ _ _ _ _ _ _ _ (c .before .before .before .before .before .smaller .ensures) _ _ (c .before .before .before .before .before .before .before .before .before .loop .inv) (c .before .before .before .before .before .before .before .state8 .given .1) (sym (c .before .before .before .before .turn-after .ensures) ∙ (c .before .before .enum-told2 .given .1)) (c .before .if12 .left) (c .condition-first .ensures .0) (c .condition-first .ensures .1) (c .before .before .before .before .before .before .before .before .before .before .before .before .before .before .before .before .pre .1 .0 .low)
 
 abbrev otherwise-calls : ℕ → otherwise-lts.Claims
 otherwise-calls t = (
@@ -479,23 +479,23 @@ otherwise-calls t = (
 otherwise-else-at-requires : (t : ℕ) → otherwise-lts.Need-else-at-requires (otherwise-calls t) (otherwise-at t) otherwise.Post
 otherwise-else-at-requires t c κs = search needs
 
-otherwise-enum-told : (t : ℕ) → otherwise-lts.Need-enum-told (otherwise-calls t) (otherwise-at t) otherwise.Post
-otherwise-enum-told t c = search needs
+otherwise-enum-known-form : (t : ℕ) → otherwise-lts.Need-enum-known-form (otherwise-calls t) (otherwise-at t) otherwise.Post
+otherwise-enum-known-form t c = search needs
 
 otherwise-branch-requires : (t : ℕ) → otherwise-lts.Need-branch-requires (otherwise-calls t) (otherwise-at t) otherwise.Post
-otherwise-branch-requires t c κs = (omega (arith, (c .before .before .before .before .before .before .pre .0)), ((c .before .before .before .before .before .before .pre) .1 .0, (c .before .before .before .before .before .before .pre) .1 .1))
+otherwise-branch-requires t c κs = (omega (arith, (c .before .before .before .before .before .before .before .pre .0)), ((c .before .before .before .before .before .before .before .pre) .1 .0, (c .before .before .before .before .before .before .before .pre) .1 .1))
 
 otherwise-unskipped-requires : (t : ℕ) → otherwise-lts.Need-unskipped-requires (otherwise-calls t) (otherwise-at t) otherwise.Post
 otherwise-unskipped-requires t c κs = search needs
 
-otherwise-enum-told-2 : (t : ℕ) → otherwise-lts.Need-enum-told-2 (otherwise-calls t) (otherwise-at t) otherwise.Post
-otherwise-enum-told-2 t c = search needs
+otherwise-enum-known-form-2 : (t : ℕ) → otherwise-lts.Need-enum-known-form-2 (otherwise-calls t) (otherwise-at t) otherwise.Post
+otherwise-enum-known-form-2 t c = search needs
 
 otherwise-statement-requires : (t : ℕ) → otherwise-lts.Need-statement-requires (otherwise-calls t) (otherwise-at t) otherwise.Post
-otherwise-statement-requires t c κs = (omega (arith, (c .before .before .before .before .before .before .pre .0), else-lower _ _ _ _ (c .before .before .else-at .ensures) (c .enum-told2 .given .1)), ((c .before .before .before .before .before .before .pre) .1 .0, (c .before .before .before .before .before .before .pre) .1 .1))
+otherwise-statement-requires t c κs = (omega (arith, (c .before .before .before .before .before .before .before .pre .0), else-lower _ _ _ _ (c .before .before .before .else-at .ensures) _ (c .before .form2 .given .1)), ((c .before .before .before .before .before .before .before .pre) .1 .0, (c .before .before .before .before .before .before .before .pre) .1 .1))
 
-otherwise-enum-told-3 : (t : ℕ) → otherwise-lts.Need-enum-told-3 (otherwise-calls t) (otherwise-at t) otherwise.Post
-otherwise-enum-told-3 t c = search needs
+otherwise-enum-told : (t : ℕ) → otherwise-lts.Need-enum-told (otherwise-calls t) (otherwise-at t) otherwise.Post
+otherwise-enum-told t c = search needs
 
 otherwise-returns : (t : ℕ) → otherwise-lts.Need-returns (otherwise-calls t) (otherwise-at t) otherwise.Post
 otherwise-returns t c = search (parts, needs)
@@ -635,7 +635,7 @@ pub +branch+list+otherwise+statement-spec : {M : Type 1} → statement M
     (list-mul-b t)
     (list-element-copy-out-b t)
     (list-binding-requires t)
-    (list-mul-t91 t)
+    (list-mul-t90 t)
     (list-element-set-from-e t)
     (list-loop-less-13 t)
     (list-loop-again-13 t)
@@ -645,7 +645,7 @@ pub +branch+list+otherwise+statement-spec : {M : Type 1} → statement M
     (list-loop-again-14 t)
     (list-enum-known-state-6 t)
     (list-binding-requires-2 t)
-    (list-mul-t98 t)
+    (list-mul-t97 t)
     (list-element-set-from-e-2 t)
     (list-add-e t)
     (list-loop-less-15 t)
@@ -676,12 +676,12 @@ pub +branch+list+otherwise+statement-spec : {M : Type 1} → statement M
     (otherwise-at t)
     otherwise.Post
     (otherwise-else-at-requires t)
-    (otherwise-enum-told t)
+    (otherwise-enum-known-form t)
     (otherwise-branch-requires t)
     (otherwise-unskipped-requires t)
-    (otherwise-enum-told-2 t)
+    (otherwise-enum-known-form-2 t)
     (otherwise-statement-requires t)
-    (otherwise-enum-told-3 t)
+    (otherwise-enum-told t)
     (otherwise-returns t)
     (otherwise-returns-2 t)
     (otherwise-returns-3 t))

@@ -24,7 +24,7 @@ returns-3 : tie.Need-returns-3
 returns-3 c = search (laws, needs)
 
 returns-4 : tie.Need-returns-4
-returns-4 c = not-compound (c .before .args .form) (c .match .keys4)
+returns-4 c = search (laws, needs)
 
 pub compound-of-spec : {M : Type 1} → statement M
 compound-of-spec =

@@ -12,7 +12,7 @@ use Rattle.rl_context.proofs.Copying.{kind-in}
 use Rattle.rl_context.specs.Guards.{clausesIn}
 use Rattle.rl_transform.specs.Transforms.{walkBelow, Ready, ArmsIn}
 use Rattle.rl_transform.proofs.Loops.{Flat, flat-none, flat-more, flat-all, Each, each-none, each-more, each-all}
-use Rattle.rl_transform.proofs.Steps.{adds-walk, below-untouched, below-done, statement-full, statement-return, statement-alone, statement-conditional, statement-match, statement-loop, statement-kept, field-low, flag-low, place-fits, next-fits, body-done, branch-none, branch-body, branch-list, branch-kept, branch-earlier, else-earlier, conditional-done, arm-made, arms-in, match-done, kind-here, loop-list}
+use Rattle.rl_transform.proofs.Steps.{adds-walk, below-untouched, below-done, statement-full, statement-return, statement-alone, statement-conditional, statement-match, statement-loop, statement-kept, field-low, flag-low, place-fits, next-fits, body-done, branch-body, branch-list, branch-kept, branch-earlier, else-earlier, conditional-alone, conditional-both, arm-made, arms-in, match-done, kind-here, loop-list}
 use borrow.Fn.Kinds.{In}
 use borrow.Fn.PlainCycle.{Measures, is, falls, and}
 use Rattle.rl_transform.proofs.cycle.transform_arms.Reads as transform-arms
@@ -51,7 +51,8 @@ use Rattle.rl_records.proofs.entry_at.Reads as entry-at-reads
 use Rattle.rl_transform.proofs.rebuild.flag_field.Reads as flag-field-reads
 use Rattle.rl_transform.proofs.rebuild.list_field.Reads as list-field-reads
 use Rattle.rl_transform.proofs.rebuild.list_place.Reads as list-place-reads
-use Rattle.rl_transform.proofs.rebuild.list_word.Reads as list-word-reads
+use Rattle.rl_context.proofs.list_word.Reads as list-word-reads
+use Rattle.rl_records.proofs.optional_at.Reads as optional-at-reads
 use Rattle.rl_transform.proofs.rebuild.pushed.Reads as pushed-reads
 use Rattle.rl_transform.proofs.rebuild.rebuild.Reads as rebuild-reads
 use Rattle.rl_transform.proofs.rebuild.rebuild_conditional.Reads as rebuild-conditional-reads
@@ -276,6 +277,8 @@ transform-conditional-calls t = (
   u16-at-reads.Learnt,
   transform-branch-below t,
   transform-branch.Post,
+  optional-at-reads.Asked,
+  optional-at-reads.Learnt,
   rebuild-conditional-reads.Asked,
   rebuild-conditional-reads.Learnt,
 )
@@ -458,19 +461,14 @@ transform-body-returns t c = λ r h k l.
     (c .before .before .before .before .before .before .before .before .before .before .before .before .before .before .before .before .transform-returns .ensures r h) (c .before .before .before .before .before .before .before .before .before .new-list .ensures) (c .before .before .before .before .before .before .list-word .ensures) _ _ (c .before .before .before .before .before .list-field .ensures) (c .before .before .before .before .flag-field .ensures)
     (c .before .before .rebuild .ensures _ (r .rows-are) k (field-low (c .before .before .before .before .before .before .before .before .before .before .before .before .before .before .before .before .before .before .before .before .before .before .kind-at .result) _ (c .before .before .before .before .before .list-field .ensures)) (flag-low (c .before .before .before .before .before .before .before .before .before .before .before .before .before .before .before .before .before .before .before .before .before .before .kind-at .result) _ (c .before .before .before .before .flag-field .ensures)))
 
-transform-branch-returns : (t : ℕ) → transform-branch-lts.Need-returns (transform-branch-calls t) (transform-branch-at t) transform-branch.Post
-transform-branch-returns t c = λ r h k. branch-none _ _ _ _ _ r _ _ _ (c .if1 .taken)
-
-transform-branch-statement-start-requires :
-    (t : ℕ) → transform-branch-lts.Need-statement-start-requires (transform-branch-calls t) (transform-branch-at t) transform-branch.Post
+transform-branch-statement-start-requires : (t : ℕ) → transform-branch-lts.Need-statement-start-requires (transform-branch-calls t) (transform-branch-at t) transform-branch.Post
 transform-branch-statement-start-requires t c κs = search needs
 
 transform-branch-kind-at-requires : (t : ℕ) → transform-branch-lts.Need-kind-at-requires (transform-branch-calls t) (transform-branch-at t) transform-branch.Post
 transform-branch-kind-at-requires t c κs = search needs
 
-transform-branch-transform-body-requires :
-    (t : ℕ) → transform-branch-lts.Need-transform-body-requires (transform-branch-calls t) (transform-branch-at t) transform-branch.Post
-transform-branch-transform-body-requires t c κs = (omega (arith, c .before .before .before .before .before .before .before .before .before .before .before .pre .0), tt)
+transform-branch-transform-body-requires : (t : ℕ) → transform-branch-lts.Need-transform-body-requires (transform-branch-calls t) (transform-branch-at t) transform-branch.Post
+transform-branch-transform-body-requires t c κs = (omega (arith, c .before .before .before .before .before .before .before .before .before .before .pre .0), tt)
 
 transform-branch-same-length : (t : ℕ) → transform-branch-lts.Need-same-length (transform-branch-calls t) (transform-branch-at t) transform-branch.Post
 transform-branch-same-length t c = search needs
@@ -478,14 +476,13 @@ transform-branch-same-length t c = search needs
 transform-branch-same-length-2 : (t : ℕ) → transform-branch-lts.Need-same-length-2 (transform-branch-calls t) (transform-branch-at t) transform-branch.Post
 transform-branch-same-length-2 t c = search needs
 
+transform-branch-returns : (t : ℕ) → transform-branch-lts.Need-returns (transform-branch-calls t) (transform-branch-at t) transform-branch.Post
+transform-branch-returns t c = λ r h k. branch-body _ _ _ _ _ r _ _ _ _ _ k (c .before .before .before .before .before .before .before .before .before .statement-start .ensures) (c .before .before .before .before .before .before .before .before .kind-at .ensures ∙ kind-in _ _) _ _ (c .before .before .before .before .before .before .before .if1 .taken) (c .before .before .before .before .transform-body .ensures r h k (branch-list _ _ _ _ _ r _ _ _ k (c .before .before .before .before .before .before .before .before .before .statement-start .ensures) (c .before .before .before .before .before .before .before .before .kind-at .ensures ∙ kind-in _ _) (c .before .before .before .before .before .before .before .if1 .taken)))
+
 transform-branch-returns-2 : (t : ℕ) → transform-branch-lts.Need-returns-2 (transform-branch-calls t) (transform-branch-at t) transform-branch.Post
-transform-branch-returns-2 t c = λ r h k. branch-body _ _ _ _ _ r _ _ _ _ _ k (c .before .before .before .before .before .before .before .before .before .before .if1 .left) (c .before .before .before .before .before .before .before .before .before .statement-start .ensures) (c .before .before .before .before .before .before .before .before .kind-at .ensures ∙ kind-in _ _) _ _ (c .before .before .before .before .before .before .before .if2 .taken) (c .before .before .before .before .transform-body .ensures r h (k (c .before .before .before .before .before .before .before .before .before .before .if1 .left)) (branch-list _ _ _ _ _ r _ _ _ (k (c .before .before .before .before .before .before .before .before .before .before .if1 .left)) (c .before .before .before .before .before .before .before .before .before .statement-start .ensures) (c .before .before .before .before .before .before .before .before .kind-at .ensures ∙ kind-in _ _) (c .before .before .before .before .before .before .before .if2 .taken)))
+transform-branch-returns-2 t c = λ r h k. branch-kept _ _ _ _ _ r _ _ _ _ _ k (c .before .before .statement-start .ensures) (c .before .kind-at .ensures ∙ kind-in _ _) (c .if1 .left)
 
-transform-branch-returns-3 : (t : ℕ) → transform-branch-lts.Need-returns-3 (transform-branch-calls t) (transform-branch-at t) transform-branch.Post
-transform-branch-returns-3 t c = λ r h k. branch-kept _ _ _ _ _ r _ _ _ _ _ k (c .before .before .before .if1 .left) (c .before .before .statement-start .ensures) (c .before .kind-at .ensures ∙ kind-in _ _) (c .if2 .left)
-
-transform-conditional-statement-start-requires :
-    (t : ℕ) → transform-conditional-lts.Need-statement-start-requires (transform-conditional-calls t) (transform-conditional-at t) transform-conditional.Post
+transform-conditional-statement-start-requires : (t : ℕ) → transform-conditional-lts.Need-statement-start-requires (transform-conditional-calls t) (transform-conditional-at t) transform-conditional.Post
 transform-conditional-statement-start-requires t c κs = search needs
 
 transform-conditional-cast-place : (t : ℕ) → transform-conditional-lts.Need-cast-place (transform-conditional-calls t) (transform-conditional-at t) transform-conditional.Post
@@ -497,37 +494,54 @@ transform-conditional-add-u16-at t c = search needs
 transform-conditional-u16-at-requires : (t : ℕ) → transform-conditional-lts.Need-u16-at-requires (transform-conditional-calls t) (transform-conditional-at t) transform-conditional.Post
 transform-conditional-u16-at-requires t c κs = search needs
 
-transform-conditional-transform-branch-requires :
-    (t : ℕ) → transform-conditional-lts.Need-transform-branch-requires (transform-conditional-calls t) (transform-conditional-at t) transform-conditional.Post
+transform-conditional-transform-branch-requires : (t : ℕ) → transform-conditional-lts.Need-transform-branch-requires (transform-conditional-calls t) (transform-conditional-at t) transform-conditional.Post
 transform-conditional-transform-branch-requires t c κs = (omega (arith, c .before .before .before .before .before .before .before .before .before .pre .0), tt)
 
-transform-conditional-add-u16-at-2 : (t : ℕ) → transform-conditional-lts.Need-add-u16-at-2 (transform-conditional-calls t) (transform-conditional-at t) transform-conditional.Post
-transform-conditional-add-u16-at-2 t c = search needs
+transform-conditional-add-optional-at : (t : ℕ) → transform-conditional-lts.Need-add-optional-at (transform-conditional-calls t) (transform-conditional-at t) transform-conditional.Post
+transform-conditional-add-optional-at t c = search needs
 
-transform-conditional-u16-at-requires-2 :
-    (t : ℕ) → transform-conditional-lts.Need-u16-at-requires-2 (transform-conditional-calls t) (transform-conditional-at t) transform-conditional.Post
-transform-conditional-u16-at-requires-2 t c κs = search needs
+transform-conditional-optional-at-requires : (t : ℕ) → transform-conditional-lts.Need-optional-at-requires (transform-conditional-calls t) (transform-conditional-at t) transform-conditional.Post
+transform-conditional-optional-at-requires t c κs = search needs
 
-transform-conditional-transform-branch-requires-2 :
-    (t : ℕ) → transform-conditional-lts.Need-transform-branch-requires-2 (transform-conditional-calls t) (transform-conditional-at t) transform-conditional.Post
-transform-conditional-transform-branch-requires-2 t c κs = (omega (arith, c .before .before .before .before .before .before .before .before .before .before .before .before .before .before .before .before .before .pre .0), tt)
+transform-conditional-enum-known-other : (t : ℕ) → transform-conditional-lts.Need-enum-known-other (transform-conditional-calls t) (transform-conditional-at t) transform-conditional.Post
+transform-conditional-enum-known-other t c = search needs
 
-transform-conditional-rebuild-conditional-requires :
-    (t : ℕ) → transform-conditional-lts.Need-rebuild-conditional-requires (transform-conditional-calls t) (transform-conditional-at t) transform-conditional.Post
+transform-conditional-transform-branch-requires-2 : (t : ℕ) → transform-conditional-lts.Need-transform-branch-requires-2 (transform-conditional-calls t) (transform-conditional-at t) transform-conditional.Post
+transform-conditional-transform-branch-requires-2 t c κs = (omega (arith, c .before .before .before .before .before .before .before .before .before .before .before .before .before .before .before .before .before .before .before .before .pre .0), tt)
+
+transform-conditional-rebuild-conditional-requires : (t : ℕ) → transform-conditional-lts.Need-rebuild-conditional-requires (transform-conditional-calls t) (transform-conditional-at t) transform-conditional.Post
 transform-conditional-rebuild-conditional-requires t c κs = search needs
 
+transform-conditional-enum-told : (t : ℕ) → transform-conditional-lts.Need-enum-told (transform-conditional-calls t) (transform-conditional-at t) transform-conditional.Post
+transform-conditional-enum-told t c = search needs
+
+transform-conditional-rebuild-conditional-requires-2 : (t : ℕ) → transform-conditional-lts.Need-rebuild-conditional-requires-2 (transform-conditional-calls t) (transform-conditional-at t) transform-conditional.Post
+transform-conditional-rebuild-conditional-requires-2 t c κs = search needs
+
 transform-conditional-same-length : (t : ℕ) → transform-conditional-lts.Need-same-length (transform-conditional-calls t) (transform-conditional-at t) transform-conditional.Post
-transform-conditional-same-length t c = search needs
+transform-conditional-same-length t c = c .before .before .rebuild-conditional .kept .1 .1 .1 .1 .1 .1 .1 .0 ∙ c .before .before .before .before .before .before .before .before .transform-branch2 .kept .1 .1 .1 .1 .1 .1 .1 .0 ∙ c .before .before .before .before .before .before .before .before .before .before .before .before .before .before .before .before .before .before .before .transform-branch .kept .1 .1 .1 .1 .1 .1 .1 .0
 
 transform-conditional-same-length-2 : (t : ℕ) → transform-conditional-lts.Need-same-length-2 (transform-conditional-calls t) (transform-conditional-at t) transform-conditional.Post
-transform-conditional-same-length-2 t c = search needs
+transform-conditional-same-length-2 t c = c .before .before .before .before .before .before .before .before .transform-branch2 .kept .1 .1 .1 .1 .1 .1 .1 .1 .0 ∙ c .before .before .before .before .before .before .before .before .before .before .before .before .before .before .before .before .before .before .before .transform-branch .kept .1 .1 .1 .1 .1 .1 .1 .1 .0
 
 transform-conditional-returns : (t : ℕ) → transform-conditional-lts.Need-returns (transform-conditional-calls t) (transform-conditional-at t) transform-conditional.Post
 transform-conditional-returns t c = λ r h k.
-    conditional-done _ _ _ _ _ r _ _ h (c .before .before .before .before .before .before .before .before .before .before .before .before .before .before .before .before .before .before .before .before .statement-start .ensures) k _ _ _ _ _ _ _ _ _ (c .before .before .before .before .before .before .before .before .before .before .before .before .before .before .before .before .before .before .before .u16-at .ensures) (c .before .before .before .before .before .before .before .before .before .before .before .u16-at2 .ensures)
-    (c .before .before .before .before .before .before .before .before .before .before .before .before .before .before .before .before .transform-branch .ensures r (omega (arith, h)) (λ _. branch-earlier _ _ _ _ _ r _ _ h (c .before .before .before .before .before .before .before .before .before .before .before .before .before .before .before .before .before .before .before .before .statement-start .ensures) k _ (c .before .before .before .before .before .before .before .before .before .before .before .before .before .before .before .before .before .before .before .u16-at .ensures)))
-    (c .before .before .before .before .before .before .before .before .transform-branch2 .ensures r (omega (arith, h)) (else-earlier _ _ _ _ _ r _ _ h (c .before .before .before .before .before .before .before .before .before .before .before .before .before .before .before .before .before .before .before .before .statement-start .ensures) k _ (c .before .before .before .before .before .before .before .before .before .before .before .u16-at2 .ensures)))
+    conditional-both _ _ _ _ _ r _ _ h (c .before .before .before .before .before .before .before .before .before .before .before .before .before .before .before .before .before .before .before .before .before .before .before .statement-start .ensures) k _ _ _ _ _ _ _ _ _ _ (c .before .before .before .before .before .before .before .before .before .before .before .before .before .before .before .before .before .before .before .before .before .before .u16-at .ensures) (c .before .before .before .before .before .before .before .before .before .before .before .before .before .before .optional-at .ensures) (c .before .before .before .before .before .before .before .before .before .before .before .before .other .given .1)
+    (c .before .before .before .before .before .before .before .before .before .before .before .before .before .before .before .before .before .before .before .transform-branch .ensures r (omega (arith, h)) (branch-earlier _ _ _ _ _ r _ _ h (c .before .before .before .before .before .before .before .before .before .before .before .before .before .before .before .before .before .before .before .before .before .before .before .statement-start .ensures) k _ (c .before .before .before .before .before .before .before .before .before .before .before .before .before .before .before .before .before .before .before .before .before .before .u16-at .ensures)))
+    (c .before .before .before .before .before .before .before .before .transform-branch2 .ensures r (omega (arith, h)) (else-earlier _ _ _ _ _ r _ _ h (c .before .before .before .before .before .before .before .before .before .before .before .before .before .before .before .before .before .before .before .before .before .before .before .statement-start .ensures) k _ _ (c .before .before .before .before .before .before .before .before .before .before .before .before .before .before .optional-at .ensures) (c .before .before .before .before .before .before .before .before .before .before .before .before .other .given .1)))
     (c .before .before .rebuild-conditional .ensures _ (r .rows-are) h)
+
+transform-conditional-same-length-3 : (t : ℕ) → transform-conditional-lts.Need-same-length-3 (transform-conditional-calls t) (transform-conditional-at t) transform-conditional.Post
+transform-conditional-same-length-3 t c = search needs
+
+transform-conditional-same-length-4 : (t : ℕ) → transform-conditional-lts.Need-same-length-4 (transform-conditional-calls t) (transform-conditional-at t) transform-conditional.Post
+transform-conditional-same-length-4 t c = search needs
+
+transform-conditional-returns-2 : (t : ℕ) → transform-conditional-lts.Need-returns-2 (transform-conditional-calls t) (transform-conditional-at t) transform-conditional.Post
+transform-conditional-returns-2 t c = λ r h k.
+    conditional-alone _ _ _ _ _ r _ _ h (c .before .before .before .before .before .before .before .before .before .before .before .before .before .before .before .statement-start .ensures) k _ _ _ _ _ _ _ (c .before .before .before .before .before .before .before .before .before .before .before .before .before .before .u16-at .ensures) (c .before .before .before .before .before .before .optional-at .ensures) (c .before .before .before .before .enum-told .given .1)
+    (c .before .before .before .before .before .before .before .before .before .before .before .transform-branch .ensures r (omega (arith, h)) (branch-earlier _ _ _ _ _ r _ _ h (c .before .before .before .before .before .before .before .before .before .before .before .before .before .before .before .statement-start .ensures) k _ (c .before .before .before .before .before .before .before .before .before .before .before .before .before .before .u16-at .ensures)))
+    (c .before .before .rebuild-conditional2 .ensures _ (r .rows-are) h)
 
 transform-match-statement-start-requires :
     (t : ℕ) → transform-match-lts.Need-statement-start-requires (transform-match-calls t) (transform-match-at t) transform-match.Post
@@ -830,14 +844,13 @@ pub +transform-arms+transform-below+transform-body+transform-branch+transform-co
     (λ t. transform-branch-lts.spec (transform-branch-calls t)
     (transform-branch-at t)
     transform-branch.Post
-    (transform-branch-returns t)
     (transform-branch-statement-start-requires t)
     (transform-branch-kind-at-requires t)
     (transform-branch-transform-body-requires t)
     (transform-branch-same-length t)
     (transform-branch-same-length-2 t)
-    (transform-branch-returns-2 t)
-    (transform-branch-returns-3 t))
+    (transform-branch-returns t)
+    (transform-branch-returns-2 t))
     (λ t. transform-conditional-lts.spec (transform-conditional-calls t)
     (transform-conditional-at t)
     transform-conditional.Post
@@ -846,13 +859,19 @@ pub +transform-arms+transform-below+transform-body+transform-branch+transform-co
     (transform-conditional-add-u16-at t)
     (transform-conditional-u16-at-requires t)
     (transform-conditional-transform-branch-requires t)
-    (transform-conditional-add-u16-at-2 t)
-    (transform-conditional-u16-at-requires-2 t)
+    (transform-conditional-add-optional-at t)
+    (transform-conditional-optional-at-requires t)
+    (transform-conditional-enum-known-other t)
     (transform-conditional-transform-branch-requires-2 t)
     (transform-conditional-rebuild-conditional-requires t)
+    (transform-conditional-enum-told t)
+    (transform-conditional-rebuild-conditional-requires-2 t)
     (transform-conditional-same-length t)
     (transform-conditional-same-length-2 t)
-    (transform-conditional-returns t))
+    (transform-conditional-returns t)
+    (transform-conditional-same-length-3 t)
+    (transform-conditional-same-length-4 t)
+    (transform-conditional-returns-2 t))
     (λ t. transform-match-lts.spec (transform-match-calls t)
     (transform-match-at t)
     transform-match.Post

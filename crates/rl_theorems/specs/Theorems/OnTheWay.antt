@@ -1,39 +1,74 @@
--- WHAT IS PROVED ON THE WAY to what Theorems states: where the records of accepted bytes stand, every part of a run at two budgets, and
--- texts by their bytes.
+-- WHAT IS PROVED ON THE WAY to the three demands: what is answered for the bytes of a well-formed image, where the records of accepted
+-- bytes stand, every part of a run at two budgets, and texts by their bytes.
 -- Assumes nothing.
-use Prim.Native.Nat.{ℕ, _+_, _*_, _<_}
+use Prim.Native.Nat.{ℕ, _+_, _*_, _≤_, _<_}
 use mathlib.Core.Path.{_≡_}
-use mathlib.Core.Bool.{Bool}
-use mathlib.Core.List.{List, map}
+use mathlib.Core.Bool.{true, false, Bool}
+use mathlib.Core.List.{List, [], map}
 use lib.ListN.{getD, take, drop}
-use Rattle.rl_spec.specs.declared.ArenaNo.{ArenaNo}
-use Rattle.rl_spec.specs.declared.Counts.{Counts}
 use Rattle.rl_spec.specs.declared.Answer.the-variants.{Accepted}
-use Rattle.rl_spec.specs.declared.Section.{Section}
+use Rattle.rl_spec.specs.declared.ArenaNo.{ArenaNo}
+use Rattle.rl_spec.specs.declared.Arguments.{Arguments}
+use Rattle.rl_spec.specs.declared.Counts.{Counts}
 use Rattle.rl_spec.specs.declared.FoldAnswer.the-variants.{Found}
-use Rattle.rl_spec.specs.declared.Section.the-variants.{Expressions, Statements}
+use Rattle.rl_spec.specs.declared.Section.the-variants.{Expressions, Statements, Functions, Calls}
+use Rattle.rl_spec.specs.declared.Section.{Section}
 use Rattle.rl_spec.specs.Bytes.{u16At}
 use Rattle.rl_spec.specs.Schema.{textBytesAt, countOf}
 use Rattle.rl_spec.specs.Fields.{entryAt}
 use Rattle.rl_spec.specs.Read.{answerOf, startsOf}
-use Rattle.rl_spec.specs.Image.{imageOf, entryOf, textOf, sizeOf}
+use Rattle.rl_spec.specs.Image.{Image, encode, imageOf, textOf, sizeOf, WellFormed, entryOf}
 use Rattle.rl_spec.specs.Found.{imageFound}
-use Rattle.rl_spec.specs.Tree.{Expr}
-use Rattle.rl_spec.specs.Prove.{proveCall}
-use Rattle.rl_spec.specs.Statement.{Stmt, Body}
+use Rattle.rl_spec.specs.Folded.{asFolded}
+use Rattle.rl_spec.specs.Tree.{exprTree, Expr}
+use Rattle.rl_spec.specs.Fold.{constEval, foldOf}
+use Rattle.rl_spec.specs.Records.{functionAt}
 use Rattle.rl_spec.specs.Contracts.{FnContracts}
-use Rattle.rl_spec.specs.Mapped.{mapValue, mapExpr, mapStmt, mapBody, mapContracts}
+use Rattle.rl_spec.specs.Prove.{callEntries, allEntries, fitting, sliceBy, proveOf, reportsOf, proveAllOf, allReportsOf, proveCall}
+use Rattle.rl_spec.specs.Lower.{lowered}
+use Rattle.rl_spec.specs.Lowerer.{tooTall, orLimit, lowerOf}
+use Rattle.rl_spec.specs.Statement.{Stmt, Body}
 use Rattle.rl_spec.specs.Run.{Value, Env, tick, _>>_, eval}
-use Rattle.rl_spec.specs.Reading.{Check, Function, Mode, repeat, loopTurn, whileTurn, checks, stmt, body, top, runFunction, reading}
-use Rattle.rl_theorems.specs.Reading.Access as Access
+use Rattle.rl_spec.specs.Reading.{Function, runFunction, reading, Check, Mode, repeat, loopTurn, whileTurn, checks, stmt, body, top}
+use Rattle.rl_spec.specs.Mapped.{mapValue, mapExpr, mapStmt, mapBody, mapContracts}
+use Rattle.rl_spec.specs.Runner.{allHave, given, isFor, ranIn, runOf}
+use Rattle.rl_laws.specs.Steps as Steps
+use Rattle.rl_images.specs.Encoding.ReaderKnows.{counts}
 use Rattle.rl_images.specs.Reading.Found as Found
 use Rattle.rl_images.specs.Reading.Starts as Starts
-use Rattle.rl_laws.specs.Steps as Steps
-use Rattle.rl_theorems.specs.Runs.Texts as Texts
-use Rattle.rl_theorems.specs.Runs.TextRuns as TextRuns
+use Rattle.rl_theorems.specs.Reading.Access as Access
+use Rattle.rl_theorems.specs.Reading.EncodedAnswers as EncodedAnswers
 use Rattle.rl_theorems.specs.Runs.ProvesTexts as ProvesTexts
+use Rattle.rl_theorems.specs.Runs.TextRuns as TextRuns
+use Rattle.rl_theorems.specs.Runs.Texts as Texts
 
--- ---- where the records stand (Starts)
+-- ---- what folding, proving, lowering and running answer for the bytes of a well-formed image (EncodedAnswers)
+
+module _ (im : Image) (wf : WellFormed im) (k : ℕ) (long : 8192 ≤ k) where
+  pub folded-encoded : (n : ℕ) → n < sizeOf im Expressions → foldOf (encode im) k (record { arena = record { 0 = im .arena }; node = record { 0 = n } }) ≡ Found (asFolded (constEval (textOf im) [] (exprTree im n)))
+  folded-encoded = EncodedAnswers.folded-encoded im wf k long
+
+  -- one call, and what is left in a slice of so many entries
+  pub proved-encoded : (call room : ℕ) → call < sizeOf im Calls → proveOf (encode im) k call room ≡ fitting room (callEntries im call)
+  proved-encoded = EncodedAnswers.proved-encoded im wf k long
+
+  pub reports-encoded : (call room : ℕ) → call < sizeOf im Calls → reportsOf (encode im) k call room ≡ sliceBy room (callEntries im call) (fitting room (callEntries im call))
+  reports-encoded = EncodedAnswers.reports-encoded im wf k long
+
+  -- all calls
+  pub all-proved-encoded : (room : ℕ) → proveAllOf (encode im) k room ≡ fitting room (allEntries im (sizeOf im Calls) 0)
+  all-proved-encoded = EncodedAnswers.all-proved-encoded im wf k long
+
+  pub all-reports-encoded : (room : ℕ) → allReportsOf (encode im) k room ≡ sliceBy room (allEntries im (sizeOf im Calls) 0) (fitting room (allEntries im (sizeOf im Calls) 0))
+  all-reports-encoded = EncodedAnswers.all-reports-encoded im wf k long
+
+  -- lowering a function of an image that is not too tall, with an output slice that is long enough
+  pub lowered-encoded : (f room : ℕ) → f < sizeOf im Functions → tooTall im ≡ false → 65535 ≤ room → lowerOf (encode im) k f room ≡ orLimit (lowered im f)
+  lowered-encoded = EncodedAnswers.lowered-encoded im wf k long
+
+  -- running a function, on as many values as it has parameters, whose texts the image has, with a budget that is taken
+  pub ran-encoded : (f : ℕ) (args : Arguments) (budget : ℕ) → f < sizeOf im Functions → isFor (args .count) (functionAt im f .params .count) ≡ true → allHave (counts im) (given args) ≡ true → budget ≤ 1000000 → runOf (encode im) k f args budget ≡ ranIn im f (given args) budget
+  ran-encoded = EncodedAnswers.ran-encoded im wf k long
 
 module _ (s : List ℕ) (k : ℕ) (a : ArenaNo) (c : Counts) (e : answerOf s k ≡ Accepted a c) where
   pub sizes-are-counts : (o : Section) → sizeOf (imageOf s) o ≡ countOf c o
