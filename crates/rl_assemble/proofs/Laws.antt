@@ -41,11 +41,11 @@ module _ (out x : List ℕ) (room : length x ≤ length out) where
   unfolding withText
   with-front = ap (paste out 0 x) fits ∙ ap₂ (λ a n. a ++ drop n out) (take-length x) (zero-add (length x))
 
-abbrev IsPast : Assembled → Type 0
+abbrev pub IsPast : Assembled → Type 0
 IsPast (Length n) = ⊥
 IsPast PastLimit = Unit {0}
 
-abbrev lengthIn : Assembled → ℕ
+abbrev pub lengthIn : Assembled → ℕ
 lengthIn (Length n) = n
 lengthIn PastLimit = 0
 

@@ -11,7 +11,7 @@ use Rattle.rl_spec.specs.declared.Interval.{Interval}
 use Rattle.rl_spec.specs.Image.{num, Image}
 use Rattle.rl_spec.specs.Records.{clauseAt}
 use Rattle.rl_spec.specs.Ranges.{upFrom}
-use Rattle.rl_spec.specs.Make.{Make, give, each}
+use Rattle.rl_spec.specs.Make.{Make, each}
 use Rattle.rl_spec.specs.Lower.{expr, strLit, deepCloneExpr, violation, onlyIf, guard, msgExprBy, msgExpr, clauseGuard}
 use Rattle.rl_schema.specs.Codes.{table}
 use Rattle.rl_context.specs.Does.{State, nothing, Does, Pushes}

@@ -4,7 +4,7 @@ use Prim.Native.Nat.{ℕ, zero, suc}
 use mathlib.Core.Path.{_≡_, refl}
 use mathlib.Core.List.{List, [], _∷_, _++_, map}
 use lib.ListN.{replicate}
-use Rattle.rl_examples.specs.ByteRows.{u16, Row, actual, expected, reading}
+use Rattle.rl_examples.specs.ByteRows.{Row, actual, expected, reading}
 use Rattle.rl_examples.specs.FieldRows.{anExpression, aStatement, aParameter, aClause, aFunction, aCall, Field, field, cut, changed, kind, u32, raw, set, flag, operator, scalar, t, n, nOrNone, s, branch, elseBranch, l, lOfT, pairsNN, pairsTN, body, arms, parameters, clauses}
 
 -- ---- expressions and statements, with their span

@@ -3,7 +3,7 @@
 use Prim.Native.Nat.{ℕ, zero, suc, _+_}
 use mathlib.Core.Path.{_≡_, refl}
 use mathlib.Core.List.{List, [], _∷_, _++_, map}
-use Rattle.rl_examples.specs.ByteRows.{joined, u16, two, header, Row, accepted, refused, actual, expected, reading}
+use Rattle.rl_examples.specs.ByteRows.{u16, two, header, Row, accepted, refused, actual, expected, reading}
 
 -- ---- counts: 3 behind the header where a count is at its limit, 5 at the count where it is one more
 

@@ -1,6 +1,5 @@
 -- The numbers of 01's table, one for each cause; the words of an answer and of a value; and what the other tables write rows with.
 -- Assumes nothing.
-use Prim.Native.Nat.{ℕ}
 use mathlib.Core.Path.{_≡_, refl}
 use mathlib.Core.Bool.{true, false}
 use mathlib.Core.List.{List, [], _∷_, map}

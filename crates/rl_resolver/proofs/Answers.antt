@@ -38,6 +38,7 @@ use Rattle.rl_images.specs.Reading.Refusals.{zeros-unless, refused-work}
 use Rattle.rl_images.specs.Reading.Starts.{sizes-are-counts}
 use Rattle.rl_assemble.specs.Pieces.{Source}
 use Rattle.rl_assemble.proofs.Accepted.{accepted-source}
+use Rattle.rl_assemble.proofs.Laws.{IsPast, lengthIn}
 use Rattle.rl_admission.specs.declared.Admission.{Admission}
 use Rattle.rl_admission.specs.declared.Admission.the-variants.{Admitted, Refused}
 use Rattle.rl_admission.specs.Lowering.{tallIn, loweringAdmission, loweringOr}
@@ -68,16 +69,6 @@ all-held false c d h = absurd (subst IsRefused h tt)
 all-held true true d h = absurd (subst IsRefused h tt)
 all-held true false true h = absurd (subst IsRefused h tt)
 all-held true false false h = (refl, refl)
-
--- ---- what was put
-
-abbrev IsPast : Assembled → Type 0
-IsPast (Length n) = ⊥
-IsPast PastLimit = Unit {0}
-
-abbrev lengthIn : Assembled → ℕ
-lengthIn (Length n) = n
-lengthIn PastLimit = 0
 
 module _ (s : List ℕ) (k f room : ℕ) (out : List ℕ) (cleared : out ≡ replicate room 0) (a : Answer) (e : a ≡ answerOf s k) where
   abbrev lowering : Lowering

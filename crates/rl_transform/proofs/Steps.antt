@@ -9,7 +9,7 @@ use mathlib.Core.Option.{Option, none, some}
 use native.Mathlib.Omega.{arith}
 use lib.Dec.{eqb, ltb}
 use lib.ListN.{getD, set, List·getD-append}
-use borrow.Author.Tests.{eq-eqb, ne-eqb, lt-ltb, le-ltb, eqb-true}
+use borrow.Author.Tests.{ne-eqb, lt-ltb, le-ltb, eqb-true}
 use Rattle.rl_spec.specs.declared.Counts.{Counts}
 use Rattle.rl_spec.specs.declared.Clause.{Clause}
 use Rattle.rl_spec.specs.declared.Target.the-variants.{ElseBranch, Arm}
@@ -18,7 +18,7 @@ use Rattle.rl_spec.specs.declared.Optional.{Optional}
 use Rattle.rl_spec.specs.declared.Optional.the-variants.{None, Some}
 use Rattle.rl_spec.specs.declared.Section.the-variants.{Lists, Statements}
 use Rattle.rl_spec.specs.Bytes.{u16At}
-use Rattle.rl_spec.specs.Schema.{limits, sections, sortOf, schema, fieldsIn, fieldsOf}
+use Rattle.rl_spec.specs.Schema.{sortOf, schema, fieldsIn, fieldsOf}
 use Rattle.rl_spec.specs.Image.{Field, num, pair, Image, recordsOf, sizeOf, noRecord, recordOf, fieldOf, first, second, entryOf, fieldsAt, Refers, FieldsFit, Entries, WellFormed}
 use Rattle.rl_spec.specs.Found.{recordAs, imageFound}
 use Rattle.rl_spec.specs.Tree.{number}

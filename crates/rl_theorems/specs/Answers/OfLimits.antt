@@ -1,7 +1,7 @@
 -- What lowering answers, with 14 for limits alone: by the reader's table, then 11, 12 and 13, and 14 exactly where the image that lowering
 -- without limits makes passes a limit; else that image is the answer.
 -- Assumes nothing.
-use Prim.Native.Nat.{ℕ, _<_}
+use Prim.Native.Nat.{ℕ}
 use mathlib.Core.Path.{_≡_, refl, sym, _∙_, subst}
 use mathlib.Core.List.{List, [], _∷_, _++_}
 use mathlib.Core.Logic.{inl, inr, _↔_}

@@ -1,10 +1,9 @@
 -- Refusal 14 is for limits alone: lowering without limits makes an image of every accepted one, and lowering refuses where that image passes
 -- a limit, and makes it where it passes none.
 -- Assumes nothing.
-use Prim.Native.Nat.{ℕ, _≤_, _<_}
-use mathlib.Core.Path.{_≡_, refl, sym, ap, _∙_, subst}
-use mathlib.Core.Bool.{Bool, true, false, not, cond}
-use mathlib.Core.List.{List}
+use Prim.Native.Nat.{ℕ, _<_}
+use mathlib.Core.Path.{_≡_, refl, sym, ap}
+use mathlib.Core.Bool.{Bool, true, false, cond}
 use mathlib.Core.Option.{Option, none, some}
 use mathlib.Core.Logic.{inl, inr}
 use native.Mathlib.Omega.{arith}
@@ -15,7 +14,7 @@ use Rattle.rl_spec.specs.declared.Section.{Section}
 use Rattle.rl_spec.specs.declared.Section.the-variants.{Expressions, Statements, Functions}
 use Rattle.rl_spec.specs.Schema.{limits}
 use Rattle.rl_spec.specs.Image.{Field, Image, orderOf, recordsOf, sizeOf, heights, encode, WellFormed}
-use Rattle.rl_spec.specs.Make.{Context, most}
+use Rattle.rl_spec.specs.Make.{Context}
 use Rattle.rl_spec.specs.Lower.{newBody, start, withBody, hasContracts, fitting, finished, loweredBy, lowered, unlimited}
 use Rattle.rl_laws.specs.Tests.{by-eqb}
 use Rattle.rl_images.specs.Encoding.Header.{size-within}
