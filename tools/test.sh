@@ -1,6 +1,6 @@
 #!/bin/sh
 # The whole test: formatting, the gate, and what is compared beside it on the libraries that the gate has proved. The last line is
-# the gate's own.
+# the gate's own, the line before it says whether the original was compared.
 set -eu
 cd "$(dirname "$0")/.."
 
@@ -35,7 +35,8 @@ sh tools/definition_edits.sh
 sh tools/shared_condition.sh
 phase definitions
 
-# the library, compared with an independent reader, folder, prover, runner and lowering and with the original; the printer too
+# the library, compared with an independent reader, folder, prover, runner and lowering and, where it is here, with the original;
+# the printer too
 rt staticlib rl_abi >"$new/library" 2>&1 || { cat "$new/library"; exit 1; }
 (cd tools && cargo test --quiet -p rlimg -p oracle >"$new/tests" 2>&1) || { cat "$new/tests"; exit 1; }
 (cd tools && cargo build --quiet --release)
@@ -44,6 +45,7 @@ tools/target/release/compare_prove 100000
 tools/target/release/compare_run 200000
 tools/target/release/run_limits
 tools/target/release/compare_lower 100000
+tools/target/release/compare_lowered 10000
 tools/target/release/compare_reading 100000
 tools/target/release/lower_limits
 tools/target/release/compare_print
@@ -61,13 +63,10 @@ cmp "$new/lower/stdout" crates/vectors_lower/stdout
 tools/target/release/rlimg build samples/flow.txt -o "$new/flow.img"
 cmp "$new/flow.img" samples/flow.img
 cmp samples/flow.img crates/rl_printer/stdin
-
-# without the original, the stored cases of proving are not made anew
 tools/target/release/vectors_prove "$new/prove"
-if [ -e "$new/prove/stdin" ]; then
-    cmp "$new/prove/stdin" crates/vectors_prove/stdin
-    cmp "$new/prove/stdout" crates/vectors_prove/stdout
-fi
+cmp "$new/prove/stdin" crates/vectors_prove/stdin
+cmp "$new/prove/stdout" crates/vectors_prove/stdout
 phase comparisons
 
+tools/target/release/original
 echo "$last"

@@ -14,6 +14,8 @@ const FILES: [&str; 6] = [
     "rl-checker/src/contracts.rs",
     "rl-resolver/src/contracts.rs",
 ];
+/// Ours, in the module of the checker's contracts.
+const INSIDE: &str = "src/const_eval.rs";
 
 fn main() {
     let package = PathBuf::from(env::var_os("CARGO_MANIFEST_DIR").expect("set by cargo"));
@@ -27,9 +29,12 @@ fn main() {
     }
     if files.iter().all(|file| file.exists()) {
         println!("cargo:rustc-cfg=original");
-        let modules = [("ast", &files[0]), ("contracts", &files[4]), ("resolver", &files[5])];
-        let modules = modules.map(|(name, file)| module(name, file)).concat();
         let out = PathBuf::from(env::var_os("OUT_DIR").expect("set by cargo"));
+        let contracts = out.join("contracts.rs");
+        let text = with_inside(&files[4], &package.join(INSIDE));
+        fs::write(&contracts, text).expect("OUT_DIR can be written");
+        let modules = [("ast", &files[0]), ("contracts", &contracts), ("resolver", &files[5])];
+        let modules = modules.map(|(name, file)| module(name, file)).concat();
         fs::write(out.join("original.rs"), modules).expect("OUT_DIR can be written");
     }
 }
@@ -38,4 +43,11 @@ fn main() {
 fn module(name: &str, file: &Path) -> String {
     let file = file.canonicalize().expect("a file that exists");
     format!("#[allow(warnings, clippy::all)]\n#[path = {file:?}]\nmod {name};\n")
+}
+
+/// The text of a file as it is, and a module of ours behind it: from inside,
+/// what is private there can be called.
+fn with_inside(file: &Path, ours: &Path) -> String {
+    let text = fs::read_to_string(file).expect("a file that can be read");
+    format!("{text}\n#[path = {ours:?}]\npub mod inside;\n")
 }

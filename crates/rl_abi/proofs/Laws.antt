@@ -1,13 +1,12 @@
 -- One law for each way out of the functions for C and Rust.
 -- Assumes nothing.
-use Prim.Native.Nat.{ℕ, _-_, _/_, _≤_, _<_}
+use Prim.Native.Nat.{ℕ, _/_, _≤_}
 use mathlib.Core.Path.{_≡_, refl, sym, ap, subst, _∙_}
 use mathlib.Core.Bool.{Bool, true, false, cond}
 use mathlib.Core.List.{List, [], _∷_}
 use native.Mathlib.Omega.{arith}
 use lib.Dec.{eqb, ltb}
-use lib.ListN.{length, replicate}
-use borrow.Author.Tests.{lt-ltb, le-ltb}
+use lib.ListN.{length}
 use Rattle.rl_spec.specs.declared.Cause.{Cause}
 use Rattle.rl_spec.specs.declared.Cause.the-variants.{OtherArena, NoSuchNode, NoSuchCall, ReportsTooShort}
 use Rattle.rl_spec.specs.declared.Answer.{Answer}
@@ -19,15 +18,14 @@ use Rattle.rl_spec.specs.declared.Id.{Id}
 use Rattle.rl_spec.specs.declared.ProveAnswer.{ProveAnswer}
 use Rattle.rl_spec.specs.declared.ProveAnswer.the-variants as prove
 use Rattle.rl_spec.specs.Read.{numberOf, placeIn, packed, answerOf}
-use Rattle.rl_spec.specs.Fold.{constEval, foldBy, foldOf, foldNumber, workUnless}
+use Rattle.rl_spec.specs.Fold.{constEval, foldBy, foldOf}
 use Rattle.rl_spec.specs.Prove.{callEntries, allEntries, proveFrom, proveOf, proveAllFrom, proveAllOf}
 use Rattle.rl_spec.specs.Image.{textOf, imageOf}
 use Rattle.rl_spec.specs.Folded.{asFolded}
 use Rattle.rl_spec.specs.Tree.{exprTree}
 use Rattle.rl_spec.specs.Words.{sortWordOf, payloadWordOf}
 use Rattle.rl_images.specs.Reading.Places.{place-small}
-use Rattle.rl_boundary.specs.Answers.{above, provePacked, provedPlace}
-use Rattle.rl_abi.specs.Boundary.{foldAnswer, foldValue, foldWork}
+use Rattle.rl_spec.specs.Boundary.{above, provePacked, provedPlace, foldPacked, foldWords}
 
 -- ---- reading
 
@@ -64,45 +62,23 @@ fold-place s k id q p h = go (answerOf s k) refl h
     go (Refused c n) e f = let m : n ≡ p = ap place f in omega (arith, place-small s k c n e)
     go (Accepted m c) e f = let z : 0 ≡ p = sym (chosen (eqb (id .arena .0) (m .0)) (ltb (id .node .0) (c .expressions)) (asFolded (constEval (textOf (imageOf s)) [] (exprTree (imageOf s) (id .node .0))))) ∙ ap place f in omega arith
 
-module _ (s : List ℕ) (k : ℕ) (id : Id) (room : ℕ) where
-  module _ (h : room < 2) where
-    pub fold-short : 429496729600 ≡ foldAnswer s k id room
-    unfolding foldAnswer
-    fold-short = rw (lt-ltb room 2 h) refl
+module _ (s : List ℕ) (k : ℕ) (id : Id) (a : FoldAnswer) (e : a ≡ foldOf s k id) where
+  module _ (q : Cause) (p : ℕ) (f : a ≡ fold.Refused q p) where
+    pub fold-refused-place : p ≤ 65535
+    fold-refused-place = fold-place s k id q p (sym e ∙ f)
 
-    pub fold-short-value : (l : List ℕ) → l ≡ replicate room 0 → l ≡ foldValue s k id room
-    unfolding foldValue
-    fold-short-value l e = rw (lt-ltb room 2 h) e
+    pub fold-refused : (r : ℕ) → r ≡ above (numberOf q) p → r ≡ foldPacked (foldOf s k id)
+    fold-refused r g = rw (← e, f) g
 
-    pub fold-short-work : (w : List ℕ) → w ≡ replicate k 0 → w ≡ foldWork s k id room
-    unfolding foldWork
-    fold-short-work w e = rw (lt-ltb room 2 h) e
+    pub fold-refused-value : (l : List ℕ) → l ≡ 0 ∷ 0 ∷ [] → l ≡ foldWords (foldOf s k id)
+    fold-refused-value l g = rw (← e, f) g
 
-  module _ (h : 2 ≤ room) (a : FoldAnswer) (e : a ≡ foldOf s k id) where
-    pub fold-work : (w : List ℕ) → w ≡ workUnless (foldNumber (foldOf s k id)) s k → w ≡ foldWork s k id room
-    unfolding foldWork
-    fold-work w g = rw (le-ltb room 2 h) g
+  module _ (v : Folded) (f : a ≡ fold.Found v) where
+    pub fold-found : 0 ≡ foldPacked (foldOf s k id)
+    fold-found = rw (← e, f) refl
 
-    module _ (q : Cause) (p : ℕ) (f : a ≡ fold.Refused q p) where
-      pub fold-refused-place : p ≤ 65535
-      fold-refused-place = fold-place s k id q p (sym e ∙ f)
-
-      pub fold-refused : (r : ℕ) → r ≡ above (numberOf q) p → r ≡ foldAnswer s k id room
-      unfolding foldAnswer
-      fold-refused r g = rw (le-ltb room 2 h, ← e, f) g
-
-      pub fold-refused-value : (l : List ℕ) → l ≡ replicate room 0 → l ≡ foldValue s k id room
-      unfolding foldValue
-      fold-refused-value l g = rw (le-ltb room 2 h, ← e, f) g
-
-    module _ (v : Folded) (f : a ≡ fold.Found v) where
-      pub fold-found : 0 ≡ foldAnswer s k id room
-      unfolding foldAnswer
-      fold-found = rw (le-ltb room 2 h, ← e, f) refl
-
-      pub fold-found-value : (l : List ℕ) → l ≡ sortWordOf v ∷ payloadWordOf v ∷ replicate (room - 2) 0 → l ≡ foldValue s k id room
-      unfolding foldValue
-      fold-found-value l g = rw (le-ltb room 2 h, ← e, f) g
+    pub fold-found-value : (l : List ℕ) → l ≡ sortWordOf v ∷ payloadWordOf v ∷ [] → l ≡ foldWords (foldOf s k id)
+    fold-found-value l g = rw (← e, f) g
 
 -- ---- proving
 

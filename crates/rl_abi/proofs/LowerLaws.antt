@@ -16,7 +16,7 @@ use Rattle.rl_spec.specs.Image.{Image, imageOf}
 use Rattle.rl_spec.specs.Lower.{lowered}
 use Rattle.rl_spec.specs.Lowerer.{refused, tooTall, orLimit, lowerBy, lowerOf, lowerAnswer}
 use Rattle.rl_images.specs.Reading.Places.{place-small}
-use Rattle.rl_boundary.specs.Answers.{lowerPacked, loweredPlace}
+use Rattle.rl_spec.specs.Boundary.{lowerPacked, loweredPlace}
 
 lower-place : (s : List ℕ) (k f room : ℕ) → loweredPlace (lowerAnswer (lowerOf s k f room)) ≤ 65535
 unfolding lowerOf

@@ -1,12 +1,10 @@
 -- The ways out of `rl_run`. Assumes nothing.
-use Prim.Native.Nat.{ℕ, _-_, _≤_}
-use mathlib.Core.Path.{_≡_, refl, ap, _∙_, sym, subst}
-use mathlib.Core.Bool.{Bool, true, false, not, cond, _||_}
-use mathlib.Core.List.{List, _++_}
+use Prim.Native.Nat.{ℕ, _≤_}
+use mathlib.Core.Path.{_≡_, refl, ap, _∙_, sym}
+use mathlib.Core.Bool.{Bool, true, false, not, cond}
+use mathlib.Core.List.{List, [], _∷_}
 use native.Mathlib.Omega.{arith}
 use lib.Dec.{ltb}
-use lib.ListN.{replicate}
-use borrow.Author.Tests.{ltb-false}
 use Rattle.rl_spec.specs.declared.Answer.{Answer}
 use Rattle.rl_spec.specs.declared.Answer.the-variants as read
 use Rattle.rl_spec.specs.declared.Arguments.{Arguments}
@@ -20,18 +18,8 @@ use Rattle.rl_spec.specs.Image.{imageOf}
 use Rattle.rl_spec.specs.Fold.{workUnless}
 use Rattle.rl_spec.specs.Records.{functionAt}
 use Rattle.rl_spec.specs.Runner.{isFor, allHave, given, ranIn, runBy, runOf, runNumber}
-use Rattle.rl_boundary.specs.Answers.{above}
-use Rattle.rl_boundary.specs.Values.{areValues, argumentsOf, outcomeWords, isBadCall}
-use Rattle.rl_abi.specs.Boundary.{runAnswer, runOutcome, runWork}
+use Rattle.rl_spec.specs.Boundary.{above, argumentsOf, outcomeWords, runPacked, runWords}
 use Rattle.rl_images.specs.Reading.Places.{place-small}
-
-or-false : (b c : Bool) → (b || c) ≡ false → c ≡ false
-or-false true c e = absurd (subst IsTrue e tt)
-  where
-    IsTrue : Bool → Type 0
-    IsTrue true = Unit {0}
-    IsTrue false = ⊥
-or-false false c e = e
 
 -- ---- the place of a refusal
 
@@ -59,49 +47,26 @@ run-place s k f args budget q p h = go (answerOf s k) refl h
 
 -- ---- the ways out
 
-module _ (s : List ℕ) (k f : ℕ) (words : List ℕ) (budget room : ℕ) (b : Bool) (g : b ≡ isBadCall words room) where
-  module _ (h : b ≡ true) where
-    pub run-bad : 429496729600 ≡ runAnswer s k f words budget room
-    unfolding runAnswer
-    run-bad = rw (sym g ∙ h) refl
+module _ (s : List ℕ) (k f : ℕ) (words : List ℕ) (budget : ℕ) (args : Arguments) (d : args ≡ argumentsOf words) (a : RunAnswer) (e : a ≡ runOf s k f args budget) where
+  abbrev whole : a ≡ runOf s k f (argumentsOf words) budget
+  whole = e ∙ ap (λ x. runOf s k f x budget) d
 
-    pub run-bad-outcome : (l : List ℕ) → l ≡ replicate room 0 → l ≡ runOutcome s k f words budget room
-    unfolding runOutcome
-    run-bad-outcome l e = rw (sym g ∙ h) e
+  pub run-work : (w : List ℕ) → w ≡ workUnless (runNumber (runOf s k f args budget)) s k → w ≡ workUnless (runNumber (runOf s k f (argumentsOf words) budget)) s k
+  run-work w y = y ∙ ap (λ x. workUnless (runNumber (runOf s k f x budget)) s k) d
 
-    pub run-bad-work : (w : List ℕ) → w ≡ replicate k 0 → w ≡ runWork s k f words budget room
-    unfolding runWork
-    run-bad-work w e = rw (sym g ∙ h) e
+  module _ (q : Cause) (p : ℕ) (y : a ≡ Refused q p) where
+    pub run-refused-place : p ≤ 65535
+    run-refused-place = run-place s k f args budget q p (sym e ∙ y)
 
-  module _ (h : b ≡ false) where
-    pub run-room : 4 ≤ room
-    run-room = ltb-false room 4 (or-false (not (areValues words)) (ltb room 4) (sym g ∙ h))
+    pub run-refused : (r : ℕ) → r ≡ above (numberOf q) p → r ≡ runPacked (runOf s k f (argumentsOf words) budget)
+    run-refused r z = rw (← whole, y) z
 
-    module _ (args : Arguments) (d : args ≡ argumentsOf words) (a : RunAnswer) (e : a ≡ runOf s k f args budget) where
-      abbrev whole : a ≡ runOf s k f (argumentsOf words) budget
-      whole = e ∙ ap (λ x. runOf s k f x budget) d
+    pub run-refused-outcome : (l : List ℕ) → l ≡ 0 ∷ 0 ∷ 0 ∷ 0 ∷ [] → l ≡ runWords (runOf s k f (argumentsOf words) budget)
+    run-refused-outcome l z = rw (← whole, y) z
 
-      pub run-work : (w : List ℕ) → w ≡ workUnless (runNumber (runOf s k f args budget)) s k → w ≡ runWork s k f words budget room
-      unfolding runWork
-      run-work w y = rw (sym g ∙ h) (y ∙ ap (λ x. workUnless (runNumber (runOf s k f x budget)) s k) d)
+  module _ (o : Outcome) (n : ℕ) (y : a ≡ Ran o n) where
+    pub run-ran : 0 ≡ runPacked (runOf s k f (argumentsOf words) budget)
+    run-ran = rw (← whole, y) refl
 
-      module _ (q : Cause) (p : ℕ) (y : a ≡ Refused q p) where
-        pub run-refused-place : p ≤ 65535
-        run-refused-place = run-place s k f args budget q p (sym e ∙ y)
-
-        pub run-refused : (r : ℕ) → r ≡ above (numberOf q) p → r ≡ runAnswer s k f words budget room
-        unfolding runAnswer
-        run-refused r z = rw (sym g ∙ h, ← whole, y) z
-
-        pub run-refused-outcome : (l : List ℕ) → l ≡ replicate room 0 → l ≡ runOutcome s k f words budget room
-        unfolding runOutcome
-        run-refused-outcome l z = rw (sym g ∙ h, ← whole, y) z
-
-      module _ (o : Outcome) (n : ℕ) (y : a ≡ Ran o n) where
-        pub run-ran : 0 ≡ runAnswer s k f words budget room
-        unfolding runAnswer
-        run-ran = rw (sym g ∙ h, ← whole, y) refl
-
-        pub run-ran-outcome : (l : List ℕ) → l ≡ outcomeWords o n ++ replicate (room - 4) 0 → l ≡ runOutcome s k f words budget room
-        unfolding runOutcome
-        run-ran-outcome l z = rw (sym g ∙ h, ← whole, y) z
+    pub run-ran-outcome : (l : List ℕ) → l ≡ outcomeWords o n → l ≡ runWords (runOf s k f (argumentsOf words) budget)
+    run-ran-outcome l z = rw (← whole, y) z

@@ -1,27 +1,26 @@
 // The functions that C and Rust call. include/rl_contracts.h declares them for C.
 use rl_boundary::arguments_of;
-use rl_boundary::is_bad_call;
 use rl_boundary::pack;
 use rl_boundary::pack_lowered;
 use rl_boundary::pack_proved;
 use rl_boundary::pack_read;
 use rl_boundary::put_outcome;
 use rl_boundary::put_value;
-use rl_bytes::clear;
-use rl_memory::clear as clear_words;
+use rl_boundary::put_words;
 use rl_spec::ArenaNo;
 use rl_spec::FoldAnswer;
+use rl_spec::Folded;
 use rl_spec::Id;
 use rl_spec::NodeNo;
 use rl_spec::RunAnswer;
 ghost use mathlib.Core.Path.{_≡_};
 ghost use lib.ListN.{length};
 ghost use Rattle.rl_spec.specs.Read.{packed, answerOf, workOf};
-ghost use Rattle.rl_spec.specs.Fold.{workUnless};
+ghost use Rattle.rl_spec.specs.Fold.{foldOf, foldNumber, workUnless};
 ghost use Rattle.rl_spec.specs.Prove.{proveOf, reportsOf, proveAllOf, allReportsOf, proveNumber};
 ghost use Rattle.rl_spec.specs.Lowerer.{lowerOf, lowerAnswer, lowerNumber, lowerOut};
-ghost use Rattle.rl_boundary.specs.Answers.{provePacked, lowerPacked};
-ghost use Rattle.rl_abi.specs.Boundary.{idOf, foldAnswer, foldValue, foldWork, runAnswer, runOutcome, runWork};
+ghost use Rattle.rl_spec.specs.Runner.{runOf, runNumber};
+ghost use Rattle.rl_spec.specs.Boundary.{provePacked, lowerPacked, idOf, foldPacked, foldWords, argumentsOf, runPacked, runWords};
 
 // Reads an image. The high 32 bits are the refusal's number, 0 where the image is accepted, and the low 32 bits its place.
 #[no_mangle]
@@ -33,24 +32,19 @@ pub extern "C" fn rl_read(image: &[u8], work: &mut [u16]) -> u64
 }
 
 // Reads an image and folds a node without names. value[0]: 0 none, 1 Int, 2 Float, 3 Str, 4 Bool; value[1]: the i64's or f64's
-// bits, the text's index, 0 or 1. 100, before anything else, for a value of under two words.
+// bits, the text's index, 0 or 1.
 #[no_mangle]
 pub extern "C" fn rl_fold(
     image: &[u8],
     work: &mut [u16],
     arena: u32,
     node: u32,
-    value: &mut [u64],
+    value: &mut [u64; 2],
 ) -> u64
-    ensures { λ r. ⌜ r ≡ foldAnswer (now (image .entry)) (length (now (work .entry))) (idOf arena node) (length (now (value .entry))) ⌝ }
-    ensures { λ r. ⌜ now (value .exit) ≡ foldValue (now (image .entry)) (length (now (work .entry))) (idOf arena node) (length (now (value .entry))) ⌝ }
-    ensures { λ r. ⌜ now (work .exit) ≡ foldWork (now (image .entry)) (length (now (work .entry))) (idOf arena node) (length (now (value .entry))) ⌝ }
+    ensures { λ r. ⌜ r ≡ foldPacked (foldOf (now (image .entry)) (length (now (work .entry))) (idOf arena node)) ⌝ }
+    ensures { λ r. ⌜ now (value .exit) ≡ foldWords (foldOf (now (image .entry)) (length (now (work .entry))) (idOf arena node)) ⌝ }
+    ensures { λ r. ⌜ now (work .exit) ≡ workUnless (foldNumber (foldOf (now (image .entry)) (length (now (work .entry))) (idOf arena node))) (now (image .entry)) (length (now (work .entry))) ⌝ }
 {
-    if value.len() < 2 {
-        clear_words(value);
-        clear(work);
-        return 429496729600;
-    }
     let id = Id {
         arena: ArenaNo(arena),
         node: NodeNo(node),
@@ -58,7 +52,7 @@ pub extern "C" fn rl_fold(
     let answer = rl_checker::fold(image, work, id);
     match answer {
         FoldAnswer::Refused { cause, place } => {
-            clear_words(value);
+            put_value(value, Folded::Nothing);
             pack(cause, place)
         }
         FoldAnswer::Found(v) => {
@@ -90,8 +84,7 @@ pub extern "C" fn rl_prove_all(image: &[u8], work: &mut [u16], reports: &mut [u3
 }
 
 // Reads an image and runs a function on values, two words each, within a budget. outcome[0]: 1 Returned, 2 Stopped, 3 Fault, 4 Spent;
-// outcome[1]: the steps; outcome[2] and [3]: the value's words, or the fault's number and 0. 100, before anything else, for words that
-// are no values or an outcome of under four words.
+// outcome[1]: the steps; outcome[2] and [3]: the value's words, or the fault's number and 0. Words that are no values are 19.
 #[no_mangle]
 pub extern "C" fn rl_run(
     image: &[u8],
@@ -99,21 +92,16 @@ pub extern "C" fn rl_run(
     function: u32,
     values: &[u64],
     budget: u32,
-    outcome: &mut [u64],
+    outcome: &mut [u64; 4],
 ) -> u64
-    ensures { λ r. ⌜ r ≡ runAnswer (now (image .entry)) (length (now (work .entry))) function (now (values .entry)) budget (length (now (outcome .entry))) ⌝ }
-    ensures { λ r. ⌜ now (outcome .exit) ≡ runOutcome (now (image .entry)) (length (now (work .entry))) function (now (values .entry)) budget (length (now (outcome .entry))) ⌝ }
-    ensures { λ r. ⌜ now (work .exit) ≡ runWork (now (image .entry)) (length (now (work .entry))) function (now (values .entry)) budget (length (now (outcome .entry))) ⌝ }
+    ensures { λ r. ⌜ r ≡ runPacked (runOf (now (image .entry)) (length (now (work .entry))) function (argumentsOf (now (values .entry))) budget) ⌝ }
+    ensures { λ r. ⌜ now (outcome .exit) ≡ runWords (runOf (now (image .entry)) (length (now (work .entry))) function (argumentsOf (now (values .entry))) budget) ⌝ }
+    ensures { λ r. ⌜ now (work .exit) ≡ workUnless (runNumber (runOf (now (image .entry)) (length (now (work .entry))) function (argumentsOf (now (values .entry))) budget)) (now (image .entry)) (length (now (work .entry))) ⌝ }
 {
-    if is_bad_call(values, outcome) {
-        clear_words(outcome);
-        clear(work);
-        return 429496729600;
-    }
     let answer = rl_runner::run(image, work, function, arguments_of(values), budget);
     match answer {
         RunAnswer::Refused { cause, place } => {
-            clear_words(outcome);
+            put_words(outcome, 0, 0, 0, 0);
             pack(cause, place)
         }
         RunAnswer::Ran { outcome: o, steps } => {

@@ -11,12 +11,17 @@ use Rattle.rl_spec.specs.declared.ArenaNo.{ArenaNo}
 use Rattle.rl_spec.specs.declared.Cause.{Cause}
 use Rattle.rl_spec.specs.declared.Cause.the-variants.{ImageTooLong, WorkTooShort, BytesEnd, WrongKind, CountOverLimit, BadText, BadValue, BadReference, TooHigh, BytesLeft, OtherArena, NoSuchNode, NoSuchCall, ReportsTooShort, NoSuchFunction, HeightOverLimit, OutputTooShort, LimitPassed, WrongValues, NoSuchText, BudgetOverLimit}
 use Rattle.rl_spec.specs.declared.Counts.{Counts}
+use Rattle.rl_spec.specs.declared.Interval.{Interval}
 use Rattle.rl_spec.specs.declared.LowerAnswer.{LowerAnswer}
 use Rattle.rl_spec.specs.declared.LowerAnswer.the-variants as lower
+use Rattle.rl_spec.specs.declared.MessageAnswer.{MessageAnswer}
+use Rattle.rl_spec.specs.declared.MessageAnswer.the-variants as message
 use Rattle.rl_spec.specs.declared.ProveAnswer.{ProveAnswer}
 use Rattle.rl_spec.specs.declared.ProveAnswer.the-variants as prove
+use Rattle.rl_spec.specs.declared.TextAnswer.{TextAnswer}
+use Rattle.rl_spec.specs.declared.TextAnswer.the-variants as text
 use Rattle.rl_spec.specs.Read.{numberOf, placeIn, packed}
-use Rattle.rl_boundary.specs.Answers.{above, provePacked, provedPlace, lowerPacked, loweredPlace}
+use Rattle.rl_spec.specs.Boundary.{above, provePacked, provedPlace, lowerPacked, loweredPlace, textPacked, textPlace, messagePacked, messagePlace}
 
 number-small : (q : Cause) → numberOf q ≤ 21
 number-small ImageTooLong = omega arith
@@ -78,3 +83,25 @@ module _ (a : LowerAnswer) (q : Cause) (p : ℕ) (f : a ≡ lower.Refused q p) w
 
   pub lowered-packed : (r : ℕ) → r ≡ above (numberOf q) p → r ≡ lowerPacked a
   lowered-packed r g = rw f g
+
+-- ---- texts
+
+module _ (a : TextAnswer) where
+  pub text-packed : (i : Interval) → a ≡ text.Found i → i .first + i .count * 65536 ≡ textPacked a
+  text-packed i f = rw f refl
+
+  module _ (q : Cause) (p : ℕ) (f : a ≡ text.Refused q p) where
+    pub text-near : textPlace a ≤ 65535 → p ≤ 65535
+    text-near h = rw f at h
+
+    pub no-text-packed : (r : ℕ) → r ≡ above (numberOf q) p → r ≡ textPacked a
+    no-text-packed r g = rw f g
+
+-- ---- messages
+
+module _ (a : MessageAnswer) (q : Cause) (p : ℕ) (f : a ≡ message.Refused q p) where
+  pub message-near : messagePlace a ≤ 65535 → p ≤ 65535
+  message-near h = rw f at h
+
+  pub message-packed : (r : ℕ) → r ≡ above (numberOf q) p → r ≡ messagePacked a
+  message-packed r g = rw f g

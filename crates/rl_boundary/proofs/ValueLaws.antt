@@ -2,12 +2,12 @@
 -- Assumes nothing.
 use Prim.Native.Nat.{ℕ, zero, suc, _+_, _-_, _*_, _/_, _≤_, _<_, min}
 use mathlib.Core.Path.{_≡_, refl, sym, ap, _∙_}
-use mathlib.Core.Bool.{Bool, true, false, _&&_, _||_, not, Bool·not-not}
+use mathlib.Core.Bool.{Bool, true, false, _&&_, not, cond, Bool·not-not}
 use mathlib.Core.List.{List, [], _∷_, _++_, map}
 use native.Mathlib.Omega.{arith}
 use native.Mathlib.Numerals.{add-one}
 use lib.Dec.{eqb, ltb}
-use lib.ListN.{length, getD, take, drop, set, replicate, drop-of-length-le, length-set}
+use lib.ListN.{length, getD, take, drop, set, replicate, drop-of-length-le}
 use lib.Seq.{drop-cons, take-all, take-suc-set}
 use borrow.Author.Tests.{lt-ltb, le-ltb, eq-eqb, ne-eqb}
 use Rattle.rl_laws.specs.Tests.{by-eqb}
@@ -21,7 +21,7 @@ use Rattle.rl_spec.specs.declared.Value.the-variants.{Plain as Bare}
 use Rattle.rl_spec.specs.Ranges.{upFrom}
 use Rattle.rl_spec.specs.Runner.{valueSort, valuePayload, valueOfWords}
 use Rattle.rl_spec.specs.Words.{sortWordOf, payloadWordOf}
-use Rattle.rl_boundary.specs.Values.{isPlain, isValue, areValues, argumentAt, argumentsOf, outcomeWords, isBadCall}
+use Rattle.rl_spec.specs.Boundary.{isPlain, isValue, areValues, argumentAt, countOfWords, argumentsOf, outcomeWords}
 
 -- ---- two words
 
@@ -30,17 +30,13 @@ module _ (sort payload : ℕ) where
   unfolding isPlain
   plain-null e = rw e refl
 
-  pub plain-text : sort ≡ 3 → ltb payload 65536 ≡ isPlain sort payload
-  unfolding isPlain
-  plain-text e = rw e refl
-
   pub plain-truth : sort ≡ 4 → ltb payload 2 ≡ isPlain sort payload
   unfolding isPlain
   plain-truth e = rw e refl
 
-  pub plain-number : (sort ≡ 0 → ⊥) → (sort ≡ 3 → ⊥) → (sort ≡ 4 → ⊥) → ltb sort 3 ≡ isPlain sort payload
+  pub plain-other : (sort ≡ 0 → ⊥) → (sort ≡ 4 → ⊥) → ltb sort 4 ≡ isPlain sort payload
   unfolding isPlain
-  plain-number a b c = rw (ne-eqb sort 0 a, ne-eqb sort 3 b, ne-eqb sort 4 c) refl
+  plain-other a b = rw (ne-eqb sort 0 a, ne-eqb sort 4 b) refl
 
   module _ (r : Bool) where
     pub value-bare : sort < 8 → r ≡ isPlain sort payload → r ≡ isValue sort payload
@@ -111,58 +107,49 @@ module _ (words : List ℕ) (values : List Argument) (i : ℕ) where
         let z : i ≡ 16 = omega arith in
         sym (take-all i values (omega arith)) ∙ e ∙ ap (λ (j : ℕ). map (argumentAt words) (upFrom 0 j)) z
 
-    given : (count : ℕ) → count ≡ min (length words / 2) 17 → record { values = values; count = count } ≡ argumentsOf words
+    pub arguments-given : (count : ℕ) → count ≡ countOfWords words → record { values = values; count = count } ≡ argumentsOf words
     unfolding argumentsOf
-    given count c = rw (whole, c) refl
+    arguments-given count c = rw (whole, c) refl
 
-    pub arguments-few : length words / 2 < 17 → record { values = values; count = length words / 2 } ≡ argumentsOf words
-    arguments-few p = given (length words / 2) (omega arith)
+-- how many
 
-    pub arguments-many : 17 ≤ length words / 2 → record { values = values; count = 17 } ≡ argumentsOf words
-    arguments-many p = given 17 (omega arith)
+module _ (words : List ℕ) where
+  pub count-few : length words / 2 < 17 → (b : Bool) → b ≡ areValues words → b ≡ true → length words / 2 ≡ countOfWords words
+  unfolding countOfWords
+  count-few h b e f = rw (← e, f) (omega arith)
+
+  pub count-none : (b : Bool) → b ≡ areValues words → b ≡ false → 17 ≡ countOfWords words
+  unfolding countOfWords
+  count-none b e f = rw (← e, f) refl
+
+  pub count-many : 17 ≤ length words / 2 → 17 ≡ countOfWords words
+  unfolding countOfWords
+  count-many h = go (areValues words)
+    where
+      go : (b : Bool) → 17 ≡ cond b (min (length words / 2) 17) 17
+      go true = omega arith
+      go false = refl
 
 -- ---- an outcome
 
-module _ (n : ℕ) (l : List ℕ) (a b : ℕ) (h : 4 ≤ n) (z : length l ≡ n) where
-  pub put-second : 1 < length (set l 0 a)
-  put-second = omega (arith, length-set l 0 a)
+pub put-four : (n : ℕ) (l : List ℕ) (a b c d : ℕ) → n ≡ 4 → l ≡ replicate n 0 → set (set (set (set l 0 a) 1 b) 2 c) 3 d ≡ a ∷ b ∷ c ∷ d ∷ []
+put-four n l a b c d h z = rw (z, h) refl
 
-  pub put-third : 2 < length (set (set l 0 a) 1 b)
-  put-third = omega (arith, length-set l 0 a, length-set (set l 0 a) 1 b)
-
-pub put-four : (n : ℕ) (l : List ℕ) (a b c d : ℕ) → 4 ≤ n → l ≡ replicate n 0 → set (set (set (set l 0 a) 1 b) 2 c) 3 d ≡ (a ∷ b ∷ c ∷ d ∷ []) ++ replicate (n - 4) 0
-put-four zero l a b c d h z = absurd (omega arith)
-put-four (suc zero) l a b c d h z = absurd (omega arith)
-put-four (suc (suc zero)) l a b c d h z = absurd (omega arith)
-put-four (suc (suc (suc zero))) l a b c d h z = absurd (omega arith)
-put-four (suc (suc (suc (suc n)))) l a b c d h z = let m : suc (suc (suc (suc n))) - 4 ≡ n = omega arith in rw (z, m) refl
-
-module _ (o : Outcome) (steps : ℕ) (zeros l : List ℕ) where
+module _ (o : Outcome) (steps : ℕ) (l : List ℕ) where
   module _ (sort payload : ℕ) where
-    pub outcome-returned : (v : Value) → o ≡ outcome.Returned v → sort ≡ valueSort v → payload ≡ valuePayload v → l ≡ (1 ∷ steps ∷ sort ∷ payload ∷ []) ++ zeros → l ≡ outcomeWords o steps ++ zeros
+    pub outcome-returned : (v : Value) → o ≡ outcome.Returned v → sort ≡ valueSort v → payload ≡ valuePayload v → l ≡ 1 ∷ steps ∷ sort ∷ payload ∷ [] → l ≡ outcomeWords o steps
     outcome-returned v e f g h = h ∙ rw (e, f, g) refl
 
-    pub outcome-stopped : (p : Plain) → o ≡ outcome.Stopped p → sort ≡ valueSort (Bare p) → payload ≡ valuePayload (Bare p) → l ≡ (2 ∷ steps ∷ sort ∷ payload ∷ []) ++ zeros → l ≡ outcomeWords o steps ++ zeros
+    pub outcome-stopped : (p : Plain) → o ≡ outcome.Stopped p → sort ≡ valueSort (Bare p) → payload ≡ valuePayload (Bare p) → l ≡ 2 ∷ steps ∷ sort ∷ payload ∷ [] → l ≡ outcomeWords o steps
     outcome-stopped p e f g h = h ∙ rw (e, f, g) refl
 
-  pub outcome-fault : (k : ℕ) → o ≡ outcome.Fault k → l ≡ (3 ∷ steps ∷ k ∷ 0 ∷ []) ++ zeros → l ≡ outcomeWords o steps ++ zeros
+  pub outcome-fault : (k : ℕ) → o ≡ outcome.Fault k → l ≡ 3 ∷ steps ∷ k ∷ 0 ∷ [] → l ≡ outcomeWords o steps
   outcome-fault k e h = h ∙ rw e refl
 
-  pub outcome-spent : o ≡ outcome.Spent → l ≡ (4 ∷ steps ∷ 0 ∷ 0 ∷ []) ++ zeros → l ≡ outcomeWords o steps ++ zeros
+  pub outcome-spent : o ≡ outcome.Spent → l ≡ 4 ∷ steps ∷ 0 ∷ 0 ∷ [] → l ≡ outcomeWords o steps
   outcome-spent e h = h ∙ rw e refl
 
 -- ---- a folded value
 
--- the two words of a value, before zeros
-pub put-words : (n : ℕ) (l : List ℕ) (v : Folded) (a b : ℕ) → 2 ≤ n → l ≡ replicate n 0 → a ≡ sortWordOf v → b ≡ payloadWordOf v → set (set l 0 a) 1 b ≡ sortWordOf v ∷ payloadWordOf v ∷ replicate (n - 2) 0
-put-words zero l v a b h z e f = absurd (omega arith)
-put-words (suc zero) l v a b h z e f = absurd (omega arith)
-put-words (suc (suc n)) l v a b h z e f = let m : suc (suc n) - 2 ≡ n = omega arith in rw (z, e, f, m) refl
-
--- ---- which calls are bad
-
-pub bad-values : (words : List ℕ) (room : ℕ) (b : Bool) → b ≡ areValues words → b ≡ false → true ≡ isBadCall words room
-bad-values words room b e f = sym (ap (λ x. not x || ltb room 4) (sym e ∙ f))
-
-pub short-outcome : (words : List ℕ) (room : ℕ) (b : Bool) → b ≡ areValues words → b ≡ true → ltb room 4 ≡ isBadCall words room
-short-outcome words room b e f = sym (ap (λ x. not x || ltb room 4) (sym e ∙ f))
+pub put-two : (n : ℕ) (l : List ℕ) (v : Folded) (a b : ℕ) → n ≡ 2 → l ≡ replicate n 0 → a ≡ sortWordOf v → b ≡ payloadWordOf v → set (set l 0 a) 1 b ≡ sortWordOf v ∷ payloadWordOf v ∷ []
+put-two n l v a b h z e f = rw (z, h, e, f) refl

@@ -3,11 +3,13 @@ use rl_numbers::number_of;
 use rl_spec::Answer;
 use rl_spec::Cause;
 use rl_spec::LowerAnswer;
+use rl_spec::MessageAnswer;
 use rl_spec::ProveAnswer;
+use rl_spec::TextAnswer;
 ghost use mathlib.Core.Path.{_≡_};
 ghost use Prim.Native.Nat.{_≤_};
 ghost use Rattle.rl_spec.specs.Read.{numberOf, placeIn, packed};
-ghost use Rattle.rl_boundary.specs.Answers.{above, provePacked, provedPlace, lowerPacked, loweredPlace};
+ghost use Rattle.rl_spec.specs.Boundary.{above, provePacked, provedPlace, lowerPacked, loweredPlace, textPacked, textPlace, messagePacked, messagePlace};
 
 pub fn pack(cause: Cause, place: usize) -> u64
     requires { ⌜ place ≤ 65535 ⌝ }
@@ -46,5 +48,27 @@ pub fn pack_lowered(answer: LowerAnswer) -> u64
     match answer {
         LowerAnswer::Lowered(n) => n as u64,
         LowerAnswer::Refused { cause, place } => pack(cause, place),
+    }
+}
+
+// Where a text starts, and above 16 bits how many bytes it has, or a refusal.
+pub fn pack_text(answer: TextAnswer) -> u64
+    requires { ⌜ textPlace answer ≤ 65535 ⌝ }
+    ensures { λ r. ⌜ r ≡ textPacked answer ⌝ }
+{
+    match answer {
+        TextAnswer::Found(part) => (part.first as u64) + (part.count as u64) * 65536,
+        TextAnswer::Refused { cause, place } => pack(cause, place),
+    }
+}
+
+// The length of a message, or a refusal.
+pub fn pack_message(answer: MessageAnswer) -> u64
+    requires { ⌜ messagePlace answer ≤ 65535 ⌝ }
+    ensures { λ r. ⌜ r ≡ messagePacked answer ⌝ }
+{
+    match answer {
+        MessageAnswer::Message(n) => n as u64,
+        MessageAnswer::Refused { cause, place } => pack(cause, place),
     }
 }

@@ -4,9 +4,11 @@ mod values;
 
 pub use answers::pack;
 pub use answers::pack_lowered;
+pub use answers::pack_message;
 pub use answers::pack_proved;
 pub use answers::pack_read;
+pub use answers::pack_text;
 pub use values::arguments_of;
-pub use values::is_bad_call;
 pub use values::put_outcome;
 pub use values::put_value;
+pub use values::put_words;

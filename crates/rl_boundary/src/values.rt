@@ -13,16 +13,13 @@ use rl_words::value_of_words;
 use rl_words::value_payload;
 use rl_words::value_sort;
 ghost use mathlib.Core.Path.{_≡_};
-ghost use mathlib.Core.List.{[], _∷_, _++_};
-ghost use Prim.Native.Nat.{_-_, _≤_};
-ghost use lib.ListN.{length, replicate};
+ghost use mathlib.Core.List.{[], _∷_};
 ghost use Rattle.rl_spec.specs.Words.{sortWordOf, payloadWordOf};
-ghost use Rattle.rl_boundary.specs.Values.{isPlain, isValue, areValues, argumentsOf, outcomeWords, isBadCall};
+ghost use Rattle.rl_spec.specs.Boundary.{isPlain, isValue, areValues, countOfWords, argumentsOf, outcomeWords};
 
-// The words of a folded value, then zeros.
-pub fn put_value(value: &mut [u64], v: Folded)
-    requires { ⌜ 2 ≤ length (now value) ⌝ }
-    ensures { λ _. ⌜ now (value .exit) ≡ sortWordOf v ∷ payloadWordOf v ∷ replicate (length (now (value .entry)) - 2) 0 ⌝ }
+// The two words of a folded value.
+pub fn put_value(value: &mut [u64; 2], v: Folded)
+    ensures { λ _. ⌜ now (value .exit) ≡ sortWordOf v ∷ payloadWordOf v ∷ [] ⌝ }
 {
     clear_words(value);
     value[0] = sort_word(v);
@@ -34,9 +31,8 @@ fn is_plain(sort: u64, payload: u64) -> bool
 {
     match sort {
         0 => payload == 0,
-        3 => payload < 65536,
         4 => payload < 2,
-        _ => sort < 3,
+        _ => sort < 4,
     }
 }
 
@@ -66,17 +62,20 @@ fn are_values(words: &[u64]) -> bool
     i == words.len()
 }
 
-// Whether words are no values, or an outcome is too short.
-pub fn is_bad_call(values: &[u64], outcome: &[u64]) -> bool
-    ensures { λ r. ⌜ r ≡ isBadCall (now (values .entry)) (length (now (outcome .entry))) ⌝ }
+// How many values there are; 17 for more than sixteen, and for words that are no values.
+fn count_of_words(words: &[u64]) -> u32
+    ensures { λ r. ⌜ r ≡ countOfWords (now (words .entry)) ⌝ }
 {
-    if are_values(values) {
-        return outcome.len() < 4;
+    let pairs = words.len() / 2;
+    if pairs < 17 {
+        if are_values(words) {
+            return pairs as u32;
+        }
     }
-    true
+    17
 }
 
-// The first sixteen values; a count of more is 17.
+// The first sixteen values, and how many there are.
 pub fn arguments_of(words: &[u64]) -> Arguments
     ensures { λ r. ⌜ r ≡ argumentsOf (now (words .entry)) ⌝ }
 {
@@ -91,42 +90,38 @@ pub fn arguments_of(words: &[u64]) -> Arguments
         };
         i = i + 1;
     }
-    let pairs = words.len() / 2;
-    let mut count: u32 = 17;
-    if pairs < 17 {
-        count = pairs as u32;
-    }
+    let count = count_of_words(words);
     Arguments { values, count }
 }
 
-fn put_words(outcome: &mut [u64], tag: u64, steps: u32, sort: u64, payload: u64)
-    requires { ⌜ 4 ≤ length (now outcome) ⌝ }
-    ensures { λ _. ⌜ now (outcome .exit) ≡ (tag ∷ steps ∷ sort ∷ payload ∷ []) ++ replicate (length (now (outcome .entry)) - 4) 0 ⌝ }
+// The four words of an outcome.
+pub fn put_words(outcome: &mut [u64; 4], tag: u64, steps: u64, sort: u64, payload: u64)
+    ensures { λ _. ⌜ now (outcome .exit) ≡ tag ∷ steps ∷ sort ∷ payload ∷ [] ⌝ }
 {
     clear_words(outcome);
     outcome[0] = tag;
-    outcome[1] = steps as u64;
+    outcome[1] = steps;
     outcome[2] = sort;
     outcome[3] = payload;
 }
 
-pub fn put_outcome(outcome: &mut [u64], o: Outcome, steps: u32)
-    requires { ⌜ 4 ≤ length (now outcome) ⌝ }
-    ensures { λ _. ⌜ now (outcome .exit) ≡ outcomeWords o steps ++ replicate (length (now (outcome .entry)) - 4) 0 ⌝ }
+pub fn put_outcome(outcome: &mut [u64; 4], o: Outcome, steps: u32)
+    ensures { λ _. ⌜ now (outcome .exit) ≡ outcomeWords o steps ⌝ }
 {
+    let used = steps as u64;
     match o {
         Outcome::Returned(v) => {
-            put_words(outcome, 1, steps, value_sort(v), value_payload(v));
+            put_words(outcome, 1, used, value_sort(v), value_payload(v));
         }
         Outcome::Stopped(p) => {
             let v = Value::Plain(p);
-            put_words(outcome, 2, steps, value_sort(v), value_payload(v));
+            put_words(outcome, 2, used, value_sort(v), value_payload(v));
         }
         Outcome::Fault(k) => {
-            put_words(outcome, 3, steps, k as u64, 0);
+            put_words(outcome, 3, used, k as u64, 0);
         }
         Outcome::Spent => {
-            put_words(outcome, 4, steps, 0, 0);
+            put_words(outcome, 4, used, 0, 0);
         }
     }
 }

@@ -27,9 +27,12 @@ pub mod Reading
 pub mod Mapped
 pub mod Message
 pub mod Printed
+pub mod Texts
 pub mod Functions
 pub mod Runner
 -- ---- lowering
 pub mod Make
 pub mod Lower
 pub mod Lowerer
+-- ---- what C and Rust get
+pub mod Boundary

@@ -1,6 +1,6 @@
 -- A value in two words: its sort, 1 Int, 2 Float, 3 Str, 4 Bool, 0 none, and its payload: the i64's or f64's bits, the text's index, 0
 -- or 1. For a NaN the bits are those that lib.Ieee writes.
-use Prim.Native.Nat.{ℕ, suc, _-_, _^_, _%_}
+use Prim.Native.Nat.{ℕ, suc, _-_, _^_, min}
 use mathlib.Core.Bool.{cond}
 use lib.Dec.{eqb}
 use lib.IntN.{ℤ, pos, negsuc}
@@ -36,10 +36,10 @@ abbrev pub payloadWordOf : Folded → ℕ
 payloadWordOf (Value v) = payloadWord v
 payloadWordOf Nothing = 0
 
--- the value of two words; any other sort is none
+-- the value of two words; any other sort is none, and an index above 65,535 is 65,535, which no image has
 unfoldable pub wordsValue : ℕ → ℕ → Folded
 wordsValue sort payload =
     cond (eqb sort 1) (Value (Int (signed 64 payload)))
     (cond (eqb sort 2) (Value (Float (ofBits binary64 payload)))
-    (cond (eqb sort 3) (Value (Str (payload % 65536)))
+    (cond (eqb sort 3) (Value (Str (min payload 65535)))
     (cond (eqb sort 4) (Value (Truth (eqb payload 1))) Nothing)))

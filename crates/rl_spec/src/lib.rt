@@ -311,3 +311,15 @@ pub enum LowerAnswer {
     Lowered(u32),
     Refused { cause: Cause, place: usize },
 }
+
+// Where a text's bytes are in the image: the first and how many.
+pub enum TextAnswer {
+    Found(Interval),
+    Refused { cause: Cause, place: usize },
+}
+
+// What is answered for the message of a report: its length.
+pub enum MessageAnswer {
+    Message(u32),
+    Refused { cause: Cause, place: usize },
+}

@@ -1,6 +1,6 @@
 -- One law for each way out of a function.
 -- Assumes nothing.
-use Prim.Native.Nat.{ℕ, suc, _+_, _-_, _^_, _%_, _≤_, _<_}
+use Prim.Native.Nat.{ℕ, suc, _+_, _-_, _^_, _%_, _≤_, _<_, min}
 use mathlib.Core.Path.{_≡_, refl, sym, ap, subst, _∙_}
 use mathlib.Core.Bool.{Bool, true, false, not}
 use native.Mathlib.Omega.{arith}
@@ -113,7 +113,7 @@ module _ (v : Folded) where
 
       pub str-back : Fits w16 t → wordsValue (sortWordOf v) t ≡ v
       unfolding wordsValue
-      str-back h = let p : t % 65536 ≡ t = omega (arith, h .fits) in rw (e, f) (ap (λ n. Value (kind.Str n)) p)
+      str-back h = let p : min t 65535 ≡ t = omega (arith, h .fits) in rw (e, f) (ap (λ n. Value (kind.Str n)) p)
 
     module _ (b : Bool) (f : w ≡ kind.Bool b) where
       pub true-payload : b ≡ true → 1 ≡ payloadWordOf v
@@ -139,9 +139,9 @@ module _ (sort payload : ℕ) where
   unfolding wordsValue
   value-float e x f = rw (e, f) refl
 
-  pub value-str : sort ≡ 3 → Value (kind.Str (payload % 65536)) ≡ wordsValue sort payload
+  pub value-str : sort ≡ 3 → (t : ℕ) → t ≡ min payload 65535 → Value (kind.Str t) ≡ wordsValue sort payload
   unfolding wordsValue
-  value-str e = rw e refl
+  value-str e t f = rw (e, f) refl
 
   pub value-bool : sort ≡ 4 → Value (kind.Bool (eqb payload 1)) ≡ wordsValue sort payload
   unfolding wordsValue

@@ -14,6 +14,7 @@ pub use values::value_of_words;
 pub use values::value_payload;
 pub use values::value_sort;
 ghost use mathlib.Core.Path.{_≡_};
+ghost use Prim.Native.Nat.{min};
 ghost use lib.Ieee.{toBits, ofBits, binary64};
 ghost use Rattle.rl_spec.specs.Tree.{signed};
 ghost use Rattle.rl_spec.specs.Words.{bits64, sortWordOf, payloadWordOf, wordsValue};
@@ -69,13 +70,20 @@ pub fn payload_word(v: Folded) -> u64
     }
 }
 
+// An index above 65,535 is 65,535, which no image has.
+fn text_index(payload: u64) -> u16
+    ensures { λ r. ⌜ r ≡ min payload 65535 ⌝ }
+{
+    if payload < 65535 { payload as u16 } else { 65535 }
+}
+
 pub fn words_value(sort: u64, payload: u64) -> Folded
     ensures { λ r. ⌜ r ≡ wordsValue sort payload ⌝ }
 {
     match sort {
         1 => Folded::Value(ConstVal::Int(signed64(payload))),
         2 => Folded::Value(ConstVal::Float(float64(payload))),
-        3 => Folded::Value(ConstVal::Str((payload % 65536) as u16)),
+        3 => Folded::Value(ConstVal::Str(text_index(payload))),
         4 => Folded::Value(ConstVal::Bool(payload == 1)),
         _ => Folded::Nothing,
     }

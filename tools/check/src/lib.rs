@@ -10,7 +10,7 @@ pub mod timing;
 use ffi::Answer;
 use oracle::Report;
 use rlimg::image::Image;
-use rlimg::{prove, reader};
+use rlimg::reader;
 
 /// The independent reader's answer, in the library's form.
 pub fn expected(image: &[u8], work: &mut [u16]) -> Answer {
@@ -23,7 +23,5 @@ pub fn expected(image: &[u8], work: &mut [u16]) -> Answer {
 /// A report of the lent slice in the original's form; none where the image
 /// cannot have it.
 pub fn said(image: &Image, report: &[u32]) -> Option<Report> {
-    let report: prove::Report = report.try_into().ok()?;
-    let [call, span, ..] = report;
-    Some(Report { call, span, message: prove::message(image, report)? })
+    Report::of(image, report.try_into().ok()?)
 }

@@ -8,22 +8,43 @@ use rlimg::image::{Image, Record, Value};
 use rlimg::lower::Contract;
 use rlimg::schema::{self, Section, Sort};
 
-/// `desugar_fn_contracts` for one function of an accepted image. Panics where
-/// the original is not `HERE`.
+/// What a function gives back, as far as lowering could tell it apart.
+#[derive(Debug, Clone, Copy, PartialEq, Eq)]
+pub enum Returns {
+    Plain,
+    Result,
+    CResult,
+}
+
+/// What the function's result flag stands for.
+pub fn returns(image: &Image, function: usize) -> &'static [Returns] {
+    match image.of(Section::Function)[function].number(3) {
+        1 => &[Returns::Result, Returns::CResult],
+        _ => &[Returns::Plain],
+    }
+}
+
+/// `desugar_fn_contracts` for one function of an accepted image, as if it gave
+/// that back. Panics where the original is not `HERE`.
 #[cfg(original)]
-pub fn lowered(image: &Image, function: usize) -> Shapes {
-    let mut original = Original::new(image, function);
+pub fn lowered(image: &Image, function: usize, returns: Returns) -> Shapes {
+    let mut original = Original::new(image, function, returns);
     let body = original.lowered();
     shapes::of(&mut original.arena, &body)
 }
 
-/// How a lowered image differs from what the original makes of the function.
+/// How a lowered image differs from what the original makes of the function,
+/// whatever its result flag stands for.
 pub fn differ(image: &Image, lowered: &Image, function: usize) -> Option<String> {
-    Shapes::of(lowered, function).differ(&self::lowered(image, function))
+    let ours = Shapes::of(lowered, function);
+    returns(image, function).iter().find_map(|returns| {
+        let differs = ours.differ(&self::lowered(image, function, *returns))?;
+        Some(format!("as {returns:?}: {differs}"))
+    })
 }
 
 #[cfg(not(original))]
-pub fn lowered(_: &Image, _: usize) -> Shapes {
+pub fn lowered(_: &Image, _: usize, _: Returns) -> Shapes {
     panic!("{}", crate::NOT_HERE)
 }
 
@@ -89,12 +110,13 @@ pub use original::Original;
 
 #[cfg(not(original))]
 mod original {
+    use super::Returns;
     use rlimg::image::Image;
 
     pub struct Original;
 
     impl Original {
-        pub fn new(_: &Image, _: usize) -> Original {
+        pub fn new(_: &Image, _: usize, _: Returns) -> Original {
             panic!("{}", crate::NOT_HERE)
         }
 
@@ -106,6 +128,7 @@ mod original {
 
 #[cfg(original)]
 mod original {
+    use super::Returns;
     use crate::ast::Ast;
     use crate::ast::statements::{ContractClause, Param, Statement, TypeAnnotation};
     use crate::fields::{Fields, alloc_exprs};
@@ -126,19 +149,16 @@ mod original {
     }
 
     impl Original {
-        /// Takes a function of an accepted image over.
-        pub fn new(image: &Image, function: usize) -> Original {
+        /// Takes a function of an accepted image over, as if it gave that
+        /// back.
+        pub fn new(image: &Image, function: usize, returns: Returns) -> Original {
             let mut arena = Ast::new();
             let ids = alloc_exprs(image, &mut arena);
             let record = &image.of(Section::Function)[function];
             let function = Fields { image, ids: &ids, record };
-            let return_type = match function.number(3) {
-                1 => TypeAnnotation::Result(Box::new(TypeAnnotation::Infer)),
-                _ => TypeAnnotation::Infer,
-            };
             Original {
                 params: function.range(2, Section::Parameter, Fields::param),
-                return_type,
+                return_type: type_of(returns),
                 body: function.statements(4),
                 requires: function.range(5, Section::Clause, Fields::clause),
                 ensures: function.range(6, Section::Clause, Fields::clause),
@@ -162,6 +182,14 @@ mod original {
                 &self.ensures,
                 self.span,
             )
+        }
+    }
+
+    fn type_of(returns: Returns) -> TypeAnnotation {
+        match returns {
+            Returns::Plain => TypeAnnotation::Infer,
+            Returns::Result => TypeAnnotation::Result(Box::new(TypeAnnotation::Infer)),
+            Returns::CResult => TypeAnnotation::CResult(Box::new(TypeAnnotation::Infer)),
         }
     }
 }

@@ -1,15 +1,18 @@
-//! What the original reports of an image's calls.
+//! What the original reports of an image's calls, and what it folds its
+//! expressions to.
 
-use crate::Report;
 use crate::ast::ExprId;
+use crate::contracts::inside;
 use crate::fields::{Fields, alloc_exprs};
 use crate::stand_ins::{TypeChecker, span::Span};
+use crate::{ConstVal, Report};
 use rlimg::image::Image;
 use rlimg::schema::Section;
 
 /// The functions and calls of an image, as the original has them.
 pub struct Original {
     checker: TypeChecker,
+    ids: Vec<ExprId>,
     calls: Vec<Call>,
 }
 
@@ -39,7 +42,7 @@ impl Original {
             checker.record_fn_contracts(&function.text(0), &params, &requires);
         }
         let calls = image.of(Section::Call).iter().map(|record| Call::of(fields(record))).collect();
-        Original { checker, calls }
+        Original { checker, ids, calls }
     }
 
     /// `prove_call` for each call in order.
@@ -51,5 +54,10 @@ impl Original {
             reports.extend(self.checker.errors.drain(..).map(of_call));
         }
         reports
+    }
+
+    /// `const_eval` of an expression, under no names.
+    pub fn const_eval(&self, node: usize) -> Option<ConstVal> {
+        inside::const_eval(&self.checker, self.ids[node])
     }
 }

@@ -8,11 +8,7 @@ use rlimg::schema::Section;
 /// How many expressions it visits to prove every call, as far as it can be
 /// counted. The image is one that the reader accepts.
 pub fn steps(image: &Image) -> u64 {
-    let mut sizes: Vec<u64> = Vec::new();
-    for node in image.of(Section::Expression) {
-        let children = children(node).iter().map(|position| node.number(*position) as usize);
-        sizes.push(children.fold(1, |size: u64, child| size.saturating_add(sizes[child])));
-    }
+    let sizes = sizes(image);
     let mut steps: u64 = 0;
     for call in image.of(Section::Call) {
         let Some(callee) = callee(image, call) else { continue };
@@ -27,6 +23,16 @@ pub fn steps(image: &Image) -> u64 {
         }
     }
     steps
+}
+
+/// How many it visits to fold each expression.
+pub fn sizes(image: &Image) -> Vec<u64> {
+    let mut sizes: Vec<u64> = Vec::new();
+    for node in image.of(Section::Expression) {
+        let children = children(node).iter().map(|position| node.number(*position) as usize);
+        sizes.push(children.fold(1, |size: u64, child| size.saturating_add(sizes[child])));
+    }
+    sizes
 }
 
 /// The positions of the expressions that are folded for a node.

@@ -1,7 +1,7 @@
 //! The independent folder and prover against the original.
 #![cfg(original)]
 
-use oracle::{Report, marked, pairs, picked, reports, steps, tables};
+use oracle::{independent_reports, marked, pairs, picked, reports, steps, tables};
 use rlimg::builder::{Builder, Function};
 use rlimg::decode::decode;
 use rlimg::encode::encode;
@@ -9,7 +9,7 @@ use rlimg::fold::{self, Folded, Names};
 use rlimg::image::{Image, Value};
 use rlimg::rng::Rng;
 use rlimg::schema::Section;
-use rlimg::{hostile, prove, rules};
+use rlimg::{hostile, rules};
 use std::collections::HashSet;
 
 const PROVEN: &str = "contract violation (proven at compile time): ";
@@ -115,14 +115,9 @@ fn the_prover_agrees_with_the_original() {
     let mut count = 0;
     for image in images(3_000).chain(pairs::images()) {
         assert!(decode(&encode(&image)).as_ref() == Ok(&image), "not accepted as it is");
-        let ours = prove::reports(&image);
+        let ours = independent_reports(&image);
         count += ours.len();
-        let message = |report| prove::message(&image, report).expect("a report of a call");
-        let ours = ours.into_iter().map(|report| {
-            let [call, span, ..] = report;
-            Report { call, span, message: message(report) }
-        });
-        assert_eq!(ours.collect::<Vec<Report>>(), reports(&image));
+        assert_eq!(ours, reports(&image));
     }
     assert!(count > 1_000);
 }

@@ -1,9 +1,9 @@
 //! The independent lowering against the original's.
 #![cfg(original)]
 
-use oracle::lower::{differ, steps};
+use oracle::lower::{Returns, differ, lowered as original, returns, steps};
 use oracle::shape::{Part, Shapes};
-use rlimg::image::Image;
+use rlimg::image::{Image, Value};
 use rlimg::lower::lowered;
 use rlimg::lowerings::limits::{self, NO_LIMITS};
 use rlimg::lowerings::{any, listed};
@@ -38,6 +38,43 @@ fn the_lowering_agrees_with_the_original() {
     }
     // All kinds but the lambdas are copied or made.
     assert_eq!((count > 2_000, kinds.len()), (true, 40), "{count} {kinds:?}");
+}
+
+/// The flag stands for two types, of which the original makes the same; of a
+/// plain one it makes something else.
+#[test]
+fn a_result_is_lowered_alike_whatever_its_type() {
+    let mut counts = [0; 2];
+    for image in images(500) {
+        for (function, record) in image.of(Section::Function).iter().enumerate() {
+            let both: &[Returns] = &[Returns::Result, Returns::CResult];
+            assert_eq!(returns(&image, function) == both, record.number(3) == 1);
+            if steps(&image, function) > STEPS {
+                continue;
+            }
+            let [plain, result, other] = [Returns::Plain, Returns::Result, Returns::CResult]
+                .map(|returns| original(&image, function, returns));
+            assert_eq!(result, other);
+            counts[usize::from(result != plain)] += 1;
+        }
+    }
+    assert!(counts.iter().all(|count| *count > 100), "{counts:?}");
+}
+
+/// A plain function's body is none of a result function's.
+#[test]
+fn a_result_taken_for_another_is_seen() {
+    let mut seen = 0;
+    for mut image in images(0) {
+        if image.of(Section::Function).len() != 1 || steps(&image, 0) > STEPS {
+            continue;
+        }
+        let flag = image.of(Section::Function)[0].number(3);
+        let good = lowered(&image, 0, NO_LIMITS).expect("a small function");
+        image.of_mut(Section::Function)[0].values[3] = Value::Number(1 - flag);
+        seen += usize::from(differ(&image, &good, 0).is_some());
+    }
+    assert!(seen > 10, "{seen}");
 }
 
 /// A changed span, a statement less, another statement.

@@ -12,27 +12,21 @@ use Rattle.rl_spec.specs.declared.Cause.{Cause}
 use Rattle.rl_spec.specs.declared.Cause.the-variants.{ReportsTooShort}
 use Rattle.rl_spec.specs.declared.Section.the-variants.{Calls}
 use Rattle.rl_spec.specs.declared.ProveAnswer.the-variants.{Proved, Refused}
-use Rattle.rl_spec.specs.declared.Violation.{Violation}
-use Rattle.rl_spec.specs.declared.Violation.the-variants.{Refinement, Requires}
 use Rattle.rl_spec.specs.Image.{Image, sizeOf, imageOf}
-use Rattle.rl_spec.specs.Prove.{violationsOf, reportEntries, callEntries, allEntries, fitting, proveFrom, proveOf, proveAllFrom, proveAllOf}
+use Rattle.rl_spec.specs.Records.{callAt}
+use Rattle.rl_spec.specs.Prove.{violationsOf, callEntries, allEntries, fitting, proveFrom, proveOf, proveAllFrom, proveAllOf}
 use Rattle.rl_images.specs.Reading.Table.{row, Unmet, First, By, accepts, checks, checks-not, refuses-exactly, accepts-exactly}
 use Rattle.rl_images.specs.Reading.Rows.{readRows}
 use Rattle.rl_images.specs.Reading.Starts.{sizes-are-counts}
+use Rattle.rl_images.specs.Images.Reports.{entries-length}
 use Rattle.rl_theorems.specs.Answers.Tables.{proveRows, reportsFrom, proveAllRows}
 use Rattle.rl_theorems.specs.Answers.AfterReading.{after-reading}
 
 -- ---- four entries a report
 
-entries-length : (call span : ℕ) (vs : List Violation) → length (reportEntries call span vs) ≡ 4 * length vs
-unfolding reportEntries
-entries-length call span [] = refl
-entries-length call span (Refinement n ∷ vs) = let e = entries-length call span vs in omega (arith, e)
-entries-length call span (Requires n ∷ vs) = let e = entries-length call span vs in omega (arith, e)
-
 call-length : (im : Image) (call : ℕ) → length (callEntries im call) ≡ 4 * length (violationsOf im call)
 unfolding callEntries
-call-length im call = entries-length call _ (violationsOf im call)
+call-length im call = omega (arith, entries-length call (callAt im call .span) (violationsOf im call))
 
 all-length : (im : Image) (n i : ℕ) → length (allEntries im n i) ≡ 4 * reportsFrom im n i
 unfolding allEntries reportsFrom

@@ -1,37 +1,31 @@
--- What the printer writes of a call: a line that begins with a call's number is of a violation of that call; and a call has at most 512.
+-- What the printer writes of a call: a line that begins with a call's number is of a violation of that call.
 -- Assumes nothing.
 use Prim.Native.Nat.{ℕ, zero, suc, _+_, _/_, _%_, _^_, _≤_, _<_}
 use mathlib.Core.Path.{_≡_, refl, ap, ap₂, sym, _∙_, subst}
-use mathlib.Core.Bool.{Bool, true, false}
 use mathlib.Core.List.{List, [], _∷_, _++_, map, append-assoc, head-eq-of-cons-eq, tail-eq-of-cons-eq}
 use mathlib.Core.Option.{Option, none, some}
 use native.Mathlib.Omega.{arith}
 use native.Mathlib.Nat.{pow-suc, div-lt-iff-lt-mul}
 use borrow.Author.Tests.{lt-ltb, le-ltb}
 use lib.Dec.{lit<}
-use lib.ListN.{length, getD, length-append, length-map}
+use lib.ListN.{length, getD, length-append}
 use Rattle.rl_spec.specs.declared.Answer.{Answer}
 use Rattle.rl_spec.specs.declared.Answer.the-variants.{Accepted, Refused}
 use Rattle.rl_spec.specs.declared.ArenaNo.{ArenaNo}
 use Rattle.rl_spec.specs.declared.Cause.{Cause}
 use Rattle.rl_spec.specs.declared.Counts.{Counts}
 use Rattle.rl_spec.specs.declared.Violation.{Violation}
-use Rattle.rl_spec.specs.declared.Violation.the-variants.{Refinement, Requires}
 use Rattle.rl_spec.specs.Schema.{limits}
 use Rattle.rl_spec.specs.Read.{countsOf, answerOf}
-use Rattle.rl_spec.specs.Image.{Image, textOf, imageOf, WellFormed}
-use Rattle.rl_spec.specs.Tree.{Expr, ascii}
-use Rattle.rl_spec.specs.Fold.{Binding, constEval}
-use Rattle.rl_spec.specs.Records.{functionAt, callAt}
-use Rattle.rl_spec.specs.Ranges.{numbersIn}
-use Rattle.rl_spec.specs.Contracts.{Param, ContractClause, paramOf, clauseOf, contractsOf, calleeOf, argumentsOf}
-use Rattle.rl_spec.specs.Prove.{bindArguments, isFalse, report, failsAt, failedRefinements, failedRequires, proveCall, violationsBy, violationsOf}
+use Rattle.rl_spec.specs.Image.{Image, imageOf}
+use Rattle.rl_spec.specs.Tree.{ascii}
+use Rattle.rl_spec.specs.Records.{callAt}
+use Rattle.rl_spec.specs.Contracts.{calleeOf}
+use Rattle.rl_spec.specs.Prove.{violationsOf}
 use Rattle.rl_spec.specs.Message.{decimalBy, decimal, opening}
 use Rattle.rl_spec.specs.Printed.{refusedLine, lineWith, lineOf, linesBy, callLines, allLines, linesFrom, linesOf}
 use Rattle.rl_laws.specs.Tests.{by-ltb}
 use Rattle.rl_images.specs.Reading.ReadOutcome.{accepted-header, accepted-reads}
-use Rattle.rl_images.specs.Images.Limits.{parameters-within, required-within}
-use Rattle.rl_theorems.specs.Images.SoundCopies.{length-up}
 use Rattle.rl_theorems.specs.DemandThree.FoldsEntry.{NonEmpty, AllOf}
 
 -- ---- the digits of a number
@@ -206,52 +200,3 @@ module _ (s : List ℕ) where
       NonEmpty (violationsOf (imageOf s) call)
   unfolding linesOf
   line-reported call i rest l e = line-at (Tells (imageOf s) call rest) (linesOf s) (of-answer call rest (answerOf s 8192) refl) i l e
-
--- ---- how many: at most one for each parameter and each requires of the callee
-
-few-more : (b : Bool) (v : Violation) (vs : List Violation) → length (report b v vs) ≤ suc (length vs)
-few-more true v vs = omega arith
-few-more false v vs = omega arith
-
-module _ (bytes : ℕ → List ℕ) (env : List (Binding ℕ)) where
-  few-refinements : (n : ℕ) (ps : List (Param ℕ)) (args : List (Expr ℕ)) → length (failedRefinements bytes env n ps args) ≤ length ps
-  unfolding failedRefinements
-  few-refinements n [] args = omega arith
-  few-refinements n (p ∷ ps) [] = omega arith
-  few-refinements n (p ∷ ps) (a ∷ args) =
-      let rest : List Violation = failedRefinements bytes env (n + 1) ps args in
-      omega (arith, few-more (failsAt bytes env (p .refinement) a) (Refinement n) rest, few-refinements (n + 1) ps args)
-
-  few-requires : (n : ℕ) (cs : List (ContractClause ℕ)) → length (failedRequires bytes env n cs) ≤ length cs
-  unfolding failedRequires
-  few-requires n [] = omega arith
-  few-requires n (c ∷ cs) =
-      let rest : List Violation = failedRequires bytes env (n + 1) cs in
-      omega (arith, few-more (isFalse (constEval bytes env (c .condition))) (Requires n) rest, few-requires (n + 1) cs)
-
-module _ (im : Image) (wf : WellFormed im) where
-  few-by : (call : ℕ) (o : Option ℕ) → length (violationsBy im call o) ≤ 512
-  unfolding proveCall contractsOf
-  few-by call none = omega arith
-  few-by call (some f) =
-      let ps : List ℕ = numbersIn (functionAt im f .params) in
-      let cs : List ℕ = numbersIn (functionAt im f .required) in
-      let names : List (Binding ℕ) = bindArguments (textOf im) [] (map (paramOf im) ps) (argumentsOf im call) in
-      let failed : List Violation = failedRefinements (textOf im) names 0 (map (paramOf im) ps) (argumentsOf im call) in
-      omega (
-        arith,
-        length-append failed (failedRequires (textOf im) names 0 (map (clauseOf im) cs)),
-        few-refinements (textOf im) names 0 (map (paramOf im) ps) (argumentsOf im call),
-        few-requires (textOf im) names 0 (map (clauseOf im) cs),
-        length-map ps (paramOf im),
-        length-map cs (clauseOf im),
-        length-up (functionAt im f .params .first) (functionAt im f .params .count),
-        length-up (functionAt im f .required .first) (functionAt im f .required .count),
-        parameters-within im wf f,
-        required-within im wf f,
-      )
-
-  -- THEOREM: the printer's slice, which takes 512 reports, takes those of any call
-  pub at-most-512 : (call : ℕ) → length (violationsOf im call) ≤ 512
-  unfolding violationsOf
-  at-most-512 call = few-by call (calleeOf im call)

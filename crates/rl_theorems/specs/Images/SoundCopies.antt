@@ -21,6 +21,7 @@ use Rattle.rl_spec.specs.Make.{Context, Make, _>>=_, give, imageSoFar, append, 
 use Rattle.rl_spec.specs.Lower.{isNode, cloneEntries, cloneField, cloneFields, isLambda, cloneRecord, deepCloneExpr}
 use Rattle.rl_images.specs.Images.FieldFacts.{list-says}
 use Rattle.rl_images.specs.Images.SchemaSorts.{all-at, and-left, and-right, kind-range}
+use Rattle.rl_images.specs.Images.Reports.{length-up}
 use Rattle.rl_theorems.specs.Images.NewReferences.{Ref, ref-there, ref-higher, Refs, noRefs, ref, Held, AllHeld, own-held, own-tall, one-ref, many-refs}
 use Rattle.rl_theorems.specs.Images.NewFields.{allPlain, plain, nil-held, cons-held, one-held}
 use Rattle.rl_theorems.specs.Images.KeepsSound.{Ready, KeepsSound, ref-on, refs-on, held-on, all-on, Node, sure-given, sure-test, sure-ready, list-sure, node-sure, _⇝_, _↠_}
@@ -34,11 +35,6 @@ expression-plain k e =
     all-at (λ j. allPlain (fieldsOf j)) 42 16 k refl (r .0) (omega (arith, r .1))
 
 -- ---- lists
-
-pub length-up : (k n : ℕ) → length (upFrom k n) ≡ n
-unfolding upFrom
-length-up k zero = refl
-length-up k (suc n) = ap suc (length-up (k + 1) n)
 
 length-entries : (im : Image) (f : Field) → length (entriesOf im f) ≡ second f
 length-entries im f = length-map (upFrom (first f) (second f)) (entryOf im) ∙ length-up (first f) (second f)

@@ -25,6 +25,7 @@ use Rattle.rl_spec.specs.Lower.{lowered, expr, fitting}
 use Rattle.rl_spec.specs.Functions.{plainFunction, contractFunction}
 use Rattle.rl_spec.specs.Runner.{valueSort, valuePayload}
 use Rattle.rl_spec.specs.Values.{int}
+use Rattle.rl_images.specs.Images.Reports as Reports
 use Rattle.rl_images.specs.Reading.Utf8 as Utf8
 use Rattle.rl_examples.specs.CallTable as CallTable
 use Rattle.rl_examples.specs.ContractRows as ContractRows
@@ -44,7 +45,6 @@ use Rattle.rl_examples.specs.RefinementTable as RefinementTable
 use Rattle.rl_examples.specs.Utf8Examples as Utf8Examples
 use Rattle.rl_examples.specs.ValueExamples as ValueExamples
 use Rattle.rl_theorems.specs.DemandThree.Marked as Marked
-use Rattle.rl_theorems.specs.DemandThree.PrintedLines as PrintedLines
 use Rattle.rl_theorems.specs.Values.Distance.{Same, apart}
 use Rattle.rl_theorems.specs.Values.Nearest as Nearest
 
@@ -195,7 +195,7 @@ pub too-long : isSome (fitting true (LowerLimitExamples.sized 4073)) ≡ false
 too-long = LowerLimitExamples.too-long
 
 -- ---- what the printer writes, closed: 01's two lines, a call with two reports, refusals (PrinterExamples); a call has at most the 512 reports
--- that its slice takes (PrintedLines)
+-- that its slice takes (rl_images: Images.Reports)
 
 pub two-lines : outputOf (encode MarkedImages.flow) ≡ ascii "0 7 contract violation (proven at compile time): refinement failed: flow >= 1\n1 9 contract violation (proven at compile time): flow id range\n"
 two-lines = PrinterExamples.two-lines
@@ -207,7 +207,7 @@ pub refusals : (outputOf [] ≡ ascii "refused 3 at 0\n") × (outputOf (encode M
 refusals = PrinterExamples.refusals
 
 pub at-most-512 : (im : Image) → WellFormed im → (call : ℕ) → length (violationsOf im call) ≤ 512
-at-most-512 = PrintedLines.at-most-512
+at-most-512 = Reports.at-most-512
 
 -- ---- the marked cases, and the printer's example (Marked has both lists, MarkedImages the images)
 

@@ -11,8 +11,8 @@ signed64-requires c κs = search needs
 float64-requires : tie.Need-float64-requires
 float64-requires c κs = search needs
 
-cast-t9 : tie.Need-cast-t9
-cast-t9 c = search needs
+text-index-requires : tie.Need-text-index-requires
+text-index-requires c κs = search needs
 
 returns : tie.Need-returns
 returns c = search (laws, needs)
@@ -35,7 +35,7 @@ words-value-spec =
     (tie.spec
     signed64-requires
     float64-requires
-    cast-t9
+    text-index-requires
     returns
     returns-2
     returns-3

@@ -4,7 +4,7 @@
 
 use check::ffi;
 use check::timing::{measure, measure_one};
-use oracle::lower::{differ, Original};
+use oracle::lower::{differ, Original, Returns};
 use oracle::{HERE, NOT_HERE};
 use rlimg::builder::{Builder, Function, Operand};
 use rlimg::code::Code;
@@ -88,9 +88,9 @@ fn row(name: &str, image: &Image) {
     assert_eq!(differ(image, &lowered, 0), None);
     let mut original = || {
         let image = decode(black_box(&bytes)).expect("an accepted image");
-        black_box(Original::new(&image, 0).lower());
+        black_box(Original::new(&image, 0, Returns::Plain).lower());
     };
-    let mut records = || _ = black_box(Original::new(black_box(image), 0).lower());
+    let mut records = || _ = black_box(Original::new(black_box(image), 0, Returns::Plain).lower());
     let [ours, original, records] = measure([&mut ours, &mut original, &mut records]);
     print!("{ours:>13.0}{original:>13.0}{:>13.2}", ours / original);
     println!("{records:>13.0}{:>13.2}", ours / records);

@@ -1,11 +1,11 @@
 //! `compare_lower [IMAGES] [SEED]`: the library's `rl_lower` against the
 //! independent lowering, on generated images, on images at the limits and on
-//! damaged ones, answers and every entry of the slices; and against the
-//! original: every node at its index, and the new body as trees.
+//! damaged ones, answers and every entry of the slices; and, where it is here,
+//! against the original: every node at its index, and the new body as trees.
 
 use check::lowerings::{compare, Slices};
 use check::runs::Case;
-use oracle::{lower as original, HERE, NOT_HERE};
+use oracle::{lower as original, HERE};
 use rlimg::damage::damage;
 use rlimg::decode::decode;
 use rlimg::encode::encode;
@@ -29,8 +29,10 @@ struct Tally {
     images: usize,
     calls: usize,
     lowered: usize,
-    /// Held against the original too.
+    /// Held against the original too, and those of them that were handed over
+    /// as Result and as CResult.
     original: usize,
+    results: usize,
     /// New text bytes, texts, list entries, nodes and statements.
     made: [usize; 5],
     refusals: BTreeMap<u32, usize>,
@@ -67,6 +69,7 @@ impl Comparison {
         }
         if HERE && original::steps(image, function) <= STEPS {
             self.tally.original += 1;
+            self.tally.results += usize::from(original::returns(image, function).len() == 2);
             return original::differ(image, &lowered, function).map_or(Ok(()), Err);
         }
         Ok(())
@@ -124,9 +127,6 @@ fn main() -> ExitCode {
     let seed = arguments.next().unwrap_or(1);
     let (tally, rng, slices) = (Tally::default(), Rng::new(seed), Slices::default());
     let mut comparison = Comparison { tally, rng, slices };
-    if !HERE {
-        println!("{NOT_HERE}");
-    }
     if let Err(fault) = comparison.all(images) {
         println!("compare_lower: {fault} (seed {seed}, image {})", comparison.tally.images);
         return ExitCode::FAILURE;
@@ -138,16 +138,19 @@ fn summary(tally: &Tally) -> ExitCode {
     let [bytes, texts, entries, nodes, statements] = tally.made;
     let refusals = tally.refusals.iter().map(|(number, count)| format!("{number}: {count}"));
     println!(
-        "compare_lower: {} images, {} calls, {} functions ({} by the original too), 0 differ; made {nodes} nodes, \
-         {statements} statements, {entries} entries, {texts} texts of {bytes} bytes; refusals {}",
+        "compare_lower: {} images, {} calls, {} functions, 0 differ; made {nodes} nodes, {statements} statements, \
+         {entries} entries, {texts} texts of {bytes} bytes; refusals {}",
         tally.images,
         tally.calls,
         tally.lowered,
-        tally.original,
         refusals.collect::<Vec<String>>().join(", "),
     );
+    let Tally { original, results, .. } = tally;
+    let said = format!("{original} functions, {results} of them as Result and as CResult");
+    println!("compare_lower: {}", oracle::compared(&said));
     let refused = |number: &u32| tally.refusals.get(number).copied().unwrap_or(0);
-    if REFUSALS.iter().map(refused).min() < Some(ENOUGH) {
+    let compared = [*original, *results].into_iter().filter(|_| HERE);
+    if REFUSALS.iter().map(refused).chain(compared).min() < Some(ENOUGH) {
         println!("something was seen fewer than {ENOUGH} times");
         return ExitCode::FAILURE;
     }

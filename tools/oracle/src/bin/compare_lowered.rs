@@ -1,8 +1,9 @@
-//! `compare_lowered [IMAGES] [SEED]`: the independent lowering against the
-//! original's `desugar_fn_contracts`, on generated images and on images at the
-//! limits: every node at its index, and the new body as trees.
+//! `compare_lowered [IMAGES] [SEED]`: the independent lowering with its limits
+//! against the same without any and, where it is here, against the original's
+//! `desugar_fn_contracts`, on generated images and on images at the limits:
+//! every node at its index, and the new body as trees.
 
-use oracle::{HERE, NOT_HERE, lower as original};
+use oracle::{HERE, lower as original};
 use rlimg::encode::encode;
 use rlimg::image::Image;
 use rlimg::lower::{self, Call, Contract, FORMAT};
@@ -29,6 +30,10 @@ struct Tally {
     past: usize,
     /// Functions that the original would take too long for.
     left_out: usize,
+    /// Held against the original, and those of them that were handed over as
+    /// Result and as CResult.
+    original: usize,
+    results: usize,
     /// New text bytes, texts, list entries, nodes and statements.
     made: [usize; 5],
     refusals: BTreeMap<u32, usize>,
@@ -75,8 +80,8 @@ impl Tally {
         if ours.as_ref().is_some_and(|ours| *ours != encode(&lowered)) {
             return Err(format!("function {function}: not the same without limits"));
         }
-        if let Some(differs) = original::differ(image, &lowered, function) {
-            return Err(format!("function {function}: {differs}"));
+        if HERE {
+            self.original(image, &lowered, function)?;
         }
         if Contract::of(image, &image.of(Section::Function)[function]).is_empty() {
             self.unchanged += 1;
@@ -91,6 +96,24 @@ impl Tally {
             *made += after - before;
         }
         Ok(())
+    }
+
+    fn original(&mut self, image: &Image, lowered: &Image, function: usize) -> Result<(), String> {
+        self.original += 1;
+        self.results += usize::from(original::returns(image, function).len() == 2);
+        match original::differ(image, lowered, function) {
+            Some(differs) => Err(format!("function {function}: {differs}")),
+            None => Ok(()),
+        }
+    }
+
+    /// Everything that is counted has been seen often enough.
+    fn is_enough(&self) -> bool {
+        let refused = |number: &u32| self.refusals.get(number).copied().unwrap_or(0);
+        let counts = [self.unchanged, self.past, self.left_out].into_iter();
+        let counts = counts.chain([2, 11, 12, 13, 14].iter().map(refused));
+        let original = [self.original, self.results].into_iter().filter(|_| HERE);
+        counts.chain(original).min() >= Some(ENOUGH)
     }
 }
 
@@ -108,10 +131,6 @@ fn all(tally: &mut Tally, images: usize, seed: u64) -> Result<(), String> {
 }
 
 fn main() -> ExitCode {
-    if !HERE {
-        println!("{NOT_HERE}");
-        return ExitCode::SUCCESS;
-    }
     let mut arguments = std::env::args().skip(1).map(|word| word.parse::<u64>().expect("a number"));
     let images = arguments.next().unwrap_or(100_000) as usize;
     let seed = arguments.next().unwrap_or(1);
@@ -120,6 +139,14 @@ fn main() -> ExitCode {
         println!("compare_lowered: {fault} (seed {seed}, image {})", tally.images);
         return ExitCode::FAILURE;
     }
+    print(&tally);
+    match tally.is_enough() {
+        true => ExitCode::SUCCESS,
+        false => ExitCode::FAILURE,
+    }
+}
+
+fn print(tally: &Tally) {
     let [bytes, texts, entries, nodes, statements] = tally.made;
     let refusals = tally.refusals.iter().map(|(number, count)| format!("{number}: {count}"));
     println!(
@@ -132,11 +159,10 @@ fn main() -> ExitCode {
         tally.left_out,
         refusals.collect::<Vec<String>>().join(", "),
     );
-    let refused = |number: &u32| tally.refusals.get(number).copied().unwrap_or(0);
-    let counts = [tally.unchanged, tally.past, tally.left_out].into_iter();
-    if counts.chain([2, 11, 12, 13, 14].iter().map(refused)).min() < Some(ENOUGH) {
+    let Tally { original, results, .. } = tally;
+    let said = format!("{original} functions, {results} of them as Result and as CResult");
+    println!("compare_lowered: {}", oracle::compared(&said));
+    if !tally.is_enough() {
         println!("something was seen fewer than {ENOUGH} times");
-        return ExitCode::FAILURE;
     }
-    ExitCode::SUCCESS
 }

@@ -1,9 +1,9 @@
-//! `compare_print [N] [SEED]`: what the printer prints, against the original's
-//! reports and the independent reader's refusals, on listed images and on N
-//! generated and damaged ones. The printer is RL_PRINTER, or else
-//! `target/bin/rl_printer` of the repository.
+//! `compare_print [N] [SEED]`: what the printer prints, against the independent
+//! prover's reports and reader's refusals and, where it is here, the original's
+//! reports, on listed images and on N generated and damaged ones. The printer
+//! is RL_PRINTER, or else `target/bin/rl_printer` of the repository.
 
-use oracle::{HERE, NOT_HERE, lines, marked, picked};
+use oracle::{HERE, independent_lines, lines, marked, picked};
 use rlimg::damage::damage;
 use rlimg::decode::decode;
 use rlimg::encode::encode;
@@ -34,10 +34,17 @@ fn images(count: usize, seed: u64) -> Vec<Vec<u8>> {
     images
 }
 
-fn expected(bytes: &[u8]) -> String {
+/// What the printer must print, and by whom.
+fn expected(bytes: &[u8]) -> Vec<(&'static str, String)> {
     match decode(bytes) {
-        Ok(image) => lines(&image),
-        Err(refusal) => format!("refused {} at {}\n", refusal.number, refusal.place),
+        Ok(image) => {
+            let original = HERE.then(|| ("the original", lines(&image)));
+            let independent = ("the prover", independent_lines(&image));
+            [independent].into_iter().chain(original).collect()
+        }
+        Err(refusal) => {
+            vec![("the reader", format!("refused {} at {}\n", refusal.number, refusal.place))]
+        }
     }
 }
 
@@ -70,39 +77,55 @@ fn differing(ours: &[u8], theirs: &str) -> String {
     "bytes that are not UTF-8".to_string()
 }
 
-fn compare(printer: &OsString, count: usize, seed: u64) -> Result<String, String> {
-    let (mut refused, mut reports) = (0, 0);
-    let images = images(count, seed);
-    for (number, bytes) in images.iter().enumerate() {
-        let theirs = expected(bytes);
+#[derive(Default)]
+struct Tally {
+    images: usize,
+    refused: usize,
+    lines: usize,
+    /// Images that the original was asked about.
+    original: usize,
+}
+
+impl Tally {
+    fn image(&mut self, printer: &OsString, bytes: &[u8]) -> Result<(), String> {
         let ours = printed(printer, bytes).map_err(|fault| format!("{printer:?}: {fault}"))?;
-        if ours != theirs.as_bytes() {
-            let kept = std::fs::write(FILE, bytes).map(|()| FILE.to_string());
-            let kept = kept.unwrap_or_else(|fault| format!("{FILE}: {fault}"));
-            let differing = differing(&ours, &theirs);
-            return Err(format!("seed {seed}, image {number}, {differing}\nthe image: {kept}"));
+        let expected = expected(bytes);
+        for (by, theirs) in &expected {
+            if ours != theirs.as_bytes() {
+                let kept = std::fs::write(FILE, bytes).map(|()| FILE.to_string());
+                let kept = kept.unwrap_or_else(|fault| format!("{FILE}: {fault}"));
+                let differing = differing(&ours, theirs);
+                return Err(format!("by {by}, {differing}\nthe image: {kept}"));
+            }
         }
-        match theirs.starts_with("refused ") {
-            true => refused += 1,
-            false => reports += theirs.lines().count(),
+        self.images += 1;
+        self.original += usize::from(expected.len() == 2);
+        match ours.starts_with(b"refused ") {
+            true => self.refused += 1,
+            false => self.lines += expected[0].1.lines().count(),
         }
+        Ok(())
     }
-    let all = images.len();
-    Ok(format!("compare_print: {all} images ({refused} refused), 0 differ; {reports} lines"))
+}
+
+fn compare(printer: &OsString, count: usize, seed: u64) -> Result<Tally, String> {
+    let mut tally = Tally::default();
+    for (number, bytes) in images(count, seed).iter().enumerate() {
+        let done = tally.image(printer, bytes);
+        done.map_err(|fault| format!("seed {seed}, image {number}, {fault}"))?;
+    }
+    Ok(tally)
 }
 
 fn main() -> ExitCode {
-    if !HERE {
-        println!("{NOT_HERE}");
-        return ExitCode::SUCCESS;
-    }
     let mut arguments = std::env::args().skip(1).map(|word| word.parse::<u64>().expect("a number"));
     let count = arguments.next().unwrap_or(300) as usize;
     let seed = arguments.next().unwrap_or(1);
     let printer = std::env::var_os("RL_PRINTER").unwrap_or(PRINTER.into());
     match compare(&printer, count, seed) {
-        Ok(summary) => {
-            println!("{summary}");
+        Ok(Tally { images, refused, lines, original }) => {
+            println!("compare_print: {images} images ({refused} refused), 0 differ; {lines} lines");
+            println!("compare_print: {}", oracle::compared(&format!("{original} images")));
             ExitCode::SUCCESS
         }
         Err(fault) => {

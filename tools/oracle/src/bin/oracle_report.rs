@@ -9,7 +9,7 @@ use std::process::ExitCode;
 fn main() -> ExitCode {
     let arguments: Vec<String> = std::env::args().skip(1).collect();
     let done = match &arguments[..] {
-        _ if !HERE => print(&format!("{NOT_HERE}\n")),
+        _ if !HERE => Err(NOT_HERE.to_string()),
         [file] => report(file),
         _ => Err("usage: oracle_report FILE".to_string()),
     };

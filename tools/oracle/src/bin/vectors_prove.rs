@@ -1,9 +1,10 @@
-//! `vectors_prove [OUT_DIR]`: a stored list of small images with the original's
-//! reports. `stdin` has, for each image, its length and that of the work slice
-//! (u32 each) and the image; `stdout` has a line for each report, `CALL SPAN
-//! MESSAGE`, and a line `--` behind each image's.
+//! `vectors_prove [OUT_DIR]`: a stored list of small images with the independent
+//! prover's reports, which are the original's where it is here. `stdin` has, for
+//! each image, its length and that of the work slice (u32 each) and the image;
+//! `stdout` has a line for each report, `CALL SPAN MESSAGE`, and a line `--`
+//! behind each image's.
 
-use oracle::{HERE, NOT_HERE, lines, marked, tables};
+use oracle::{HERE, independent_lines, marked, tables};
 use rlimg::decode::decode;
 use rlimg::encode::encode;
 use rlimg::image::{Image, WORK};
@@ -38,11 +39,14 @@ fn generated() -> Vec<Image> {
     images
 }
 
+/// The reports, which the original must have too.
+fn lines(image: &Image) -> String {
+    let lines = independent_lines(image);
+    assert!(!HERE || oracle::lines(image) == lines, "the original does not have:\n{lines}");
+    lines
+}
+
 fn main() -> std::io::Result<()> {
-    if !HERE {
-        println!("{NOT_HERE}");
-        return Ok(());
-    }
     let folder = std::env::args().nth(1).unwrap_or("vectors_prove".to_string());
     let folder = Path::new(&folder);
     let images = images();
@@ -59,5 +63,6 @@ fn main() -> std::io::Result<()> {
     std::fs::write(folder.join("stdin"), &input)?;
     std::fs::write(folder.join("stdout"), &output)?;
     println!("vectors_prove: {} cases, {} bytes", images.len(), input.len());
+    println!("vectors_prove: {}", oracle::compared("all reports"));
     Ok(())
 }

@@ -1,7 +1,7 @@
 use Prim.Native.Nat.{_-_, _≤_}
 use mathlib.Core.Path.{_≡_}
 use lib.ListN.{length, drop}
-use Rattle.rl_boundary.specs.Values.{areValues}
+use Rattle.rl_spec.specs.Boundary.{areValues}
 use borrow.Author.Needs.{needs}
 use Rattle.rl_boundary.proofs.values.are_values.Statement.{statement}
 use Rattle.rl_boundary.proofs.values.are_values.Tie as tie

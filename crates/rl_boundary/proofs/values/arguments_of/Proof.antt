@@ -4,13 +4,13 @@ use mathlib.Core.Path.{_≡_, refl, _∙_}
 use mathlib.Core.List.{map}
 use lib.ListN.{length, take, length-set}
 use Rattle.rl_spec.specs.Ranges.{upFrom}
-use Rattle.rl_boundary.specs.Values.{argumentAt}
+use Rattle.rl_spec.specs.Boundary.{argumentAt}
 use borrow.Author.Needs.{needs}
 use Rattle.rl_boundary.proofs.values.arguments_of.Statement.{statement}
 use Rattle.rl_boundary.proofs.values.arguments_of.Tie as tie
-use Rattle.rl_boundary.proofs.ValueLaws.{none-yet, argument-next, arguments-few, arguments-many}
+use Rattle.rl_boundary.proofs.ValueLaws.{none-yet, argument-next, arguments-given}
 
-ruleset laws = (arguments-few, arguments-many)
+ruleset laws = (arguments-given)
 
 abbrev Inv-loop : tie.InvT-loop
 Inv-loop words values₀ i₀ values i = (i ≤ 16) × ((length values ≡ 16) × (take i values ≡ map (argumentAt words) (upFrom 0 i)))
@@ -56,14 +56,11 @@ loop-again c =
     let l = c .before .before .before .before .loop in
     (omega arith, (length-set (l .values) (l .i) (record { value = c .value-of-words .result }) ∙ l .inv .1 .0, argument-next (c .before .before .before .before .before .before .args .words .now) _ _ (l .inv .1 .0) (omega arith) (l .inv .1 .1) _ _ _ (c .before .before .long-at .ensures) (c .before .long-at2 .ensures) (c .value-of-words .ensures)))
 
-cast-count : tie.Need-cast-count Inv-loop μ-loop
-cast-count c = search (laws, needs)
+count-of-words-requires : tie.Need-count-of-words-requires Inv-loop μ-loop
+count-of-words-requires c κs = search (laws, needs)
 
 returns : tie.Need-returns Inv-loop μ-loop
 returns c = search (laws, needs)
-
-returns-2 : tie.Need-returns-2 Inv-loop μ-loop
-returns-2 c = search (laws, needs)
 
 pub arguments-of-spec : {M : Type 1} → statement M
 arguments-of-spec =
@@ -83,6 +80,5 @@ arguments-of-spec =
     add-i
     loop-less
     loop-again
-    cast-count
-    returns
-    returns-2)
+    count-of-words-requires
+    returns)

@@ -1,27 +1,24 @@
 use borrow.Author.Needs.{needs}
 use Rattle.rl_boundary.proofs.values.put_words.Statement.{statement}
 use Rattle.rl_boundary.proofs.values.put_words.Tie as tie
-use Rattle.rl_boundary.proofs.ValueLaws.{put-second, put-third, put-four}
+use Rattle.rl_boundary.proofs.ValueLaws.{put-four}
 
-ruleset laws = (put-second, put-third, put-four)
+ruleset laws = (put-four)
 
 clear-requires : tie.Need-clear-requires
 clear-requires c κs = search needs
 
-slice-write-outcome : tie.Need-slice-write-outcome
-slice-write-outcome c = search needs
+element-write-outcome : tie.Need-element-write-outcome
+element-write-outcome c = search needs
 
-slice-write-outcome-2 : tie.Need-slice-write-outcome-2
-slice-write-outcome-2 c = search (laws, needs)
+element-write-outcome-2 : tie.Need-element-write-outcome-2
+element-write-outcome-2 c = search needs
 
-slice-write-outcome-3 : tie.Need-slice-write-outcome-3
-slice-write-outcome-3 c = search (laws, needs)
+element-write-outcome-3 : tie.Need-element-write-outcome-3
+element-write-outcome-3 c = search needs
 
-slice-write-outcome-4 : tie.Need-slice-write-outcome-4
-slice-write-outcome-4 c = search needs
-
-same-length : tie.Need-same-length
-same-length c = search needs
+element-write-outcome-4 : tie.Need-element-write-outcome-4
+element-write-outcome-4 c = search needs
 
 returns : tie.Need-returns
 returns c = search (laws, needs)
@@ -31,9 +28,8 @@ put-words-spec =
     tie.close
     (tie.spec
     clear-requires
-    slice-write-outcome
-    slice-write-outcome-2
-    slice-write-outcome-3
-    slice-write-outcome-4
-    same-length
+    element-write-outcome
+    element-write-outcome-2
+    element-write-outcome-3
+    element-write-outcome-4
     returns)

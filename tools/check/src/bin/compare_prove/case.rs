@@ -63,10 +63,7 @@ impl Case {
         (!self.is_accepted()).then(|| Expected { answer: self.read, output: Vec::new() })
     }
 
-    pub fn folded(&self, work: usize, arena: u32, node: u32, words: usize) -> Expected<u64> {
-        if words < 2 {
-            return refused(100);
-        }
+    pub fn folded(&self, work: usize, arena: u32, node: u32) -> Expected<u64> {
         if let Some(unread) = self.unread(work) {
             return unread;
         }

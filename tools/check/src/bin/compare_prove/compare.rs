@@ -2,48 +2,20 @@
 //! they must be.
 
 use crate::case::{Case, Expected};
+use crate::original::Asked;
+use crate::tally::{sort_of, Tally};
 use check::ffi::{self, Answer};
 use check::said;
 use check::slices::{check_slice, lend, Lent, GARBAGE};
 use rlimg::image::WORK;
 use rlimg::rng::Rng;
-use std::collections::BTreeMap;
 use std::fmt::Debug;
 
-/// The most nodes that the original may visit for an image.
-const STEPS: u64 = 100_000;
-
-/// Which nodes of an image are folded.
-#[derive(Clone, Copy)]
-pub enum Nodes {
-    /// So many from the start.
-    First(u32),
-    /// About so many anywhere, and the last.
-    Some(u32),
-}
+/// The words of a folded value.
+const WORDS: usize = 2;
 
 /// What is different.
 pub struct Differs(pub String);
-
-/// The sorts of values, in the order of their numbers, and NaN.
-pub const SORTS: [&str; 6] = ["none", "Int", "Float", "Str", "Bool", "NaN"];
-const FLOAT: usize = 2;
-const NAN: usize = 5;
-
-/// How often each thing was seen.
-#[derive(Default)]
-pub struct Tally {
-    pub images: usize,
-    pub refused: usize,
-    /// Images on which the original would take too long.
-    pub unasked: usize,
-    pub folded: [usize; SORTS.len()],
-    /// Calls and whole images.
-    pub proved: [usize; 2],
-    /// Refinements and requires, in images that the original was asked about.
-    pub reports: [usize; 2],
-    pub refusals: BTreeMap<u32, usize>,
-}
 
 pub struct Comparison {
     pub tally: Tally,
@@ -61,19 +33,24 @@ impl Comparison {
     }
 
     /// Everything about one image.
-    pub fn compare(&mut self, case: &Case, nodes: Nodes) -> Result<(), Differs> {
+    pub fn compare(&mut self, case: &Case) -> Result<(), Differs> {
         self.tally.images += 1;
         self.tally.refused += usize::from(!case.is_accepted());
-        self.proving_all(case)?;
+        let mut asked = Asked::new(case);
+        self.proving_all(case, &mut asked)?;
         self.proving_each(case)?;
-        self.folding(case, nodes)
+        self.folding_all(case, &mut asked)?;
+        self.folding_others(case)
     }
 
-    fn proving_all(&mut self, case: &Case) -> Result<(), Differs> {
+    fn proving_all(&mut self, case: &Case, asked: &mut Option<Asked>) -> Result<(), Differs> {
         let exact = 4 * case.reports.iter().map(Vec::len).sum::<usize>();
         self.prove(case, WORK, None, exact)?;
-        if case.is_accepted() {
-            self.original(case)?;
+        for report in self.reports[..exact].chunks(4) {
+            self.tally.reports[report[2] as usize] += 1;
+        }
+        if let Some(asked) = asked {
+            self.original_reports(case, asked, exact)?;
         }
         let more = exact + 1 + self.rng.below(9);
         self.prove(case, WORK, None, more)?;
@@ -104,31 +81,33 @@ impl Comparison {
         self.prove(case, WORK, Some(past), room)
     }
 
-    /// Nodes, and ids that are not there.
-    fn folding(&mut self, case: &Case, nodes: Nodes) -> Result<(), Differs> {
-        let (arena, count) = (case.image.arena, case.nodes());
-        let picked: Vec<u32> = match nodes {
-            Nodes::First(most) => (0..count.min(most)).collect(),
-            Nodes::Some(about) => {
-                let step = (count / about).max(1) as usize;
-                let first = self.rng.below(step) as u32;
-                (first..count).step_by(step).chain(count.checked_sub(1)).collect()
+    /// Every node.
+    fn folding_all(&mut self, case: &Case, asked: &mut Option<Asked>) -> Result<(), Differs> {
+        for node in 0..case.nodes() {
+            let words = self.fold(case, WORK, [case.image.arena, node])?;
+            self.tally.folded[sort_of(words)] += 1;
+            if let Some(asked) = asked {
+                self.original_value(case, asked, node, words)?;
             }
-        };
-        for node in picked {
-            self.fold(case, WORK, [arena, node], 2)?;
         }
+        Ok(())
+    }
+
+    /// Other work slices, and ids that are not there.
+    fn folding_others(&mut self, case: &Case) -> Result<(), Differs> {
+        let (arena, count) = (case.image.arena, case.nodes());
         let any = self.rng.below(count as usize + 1) as u32;
-        for words in [0, 1, 5] {
+        for _ in 0..2 {
             let work = self.any_work();
-            self.fold(case, work, [arena, any], words)?;
+            self.fold(case, work, [arena, any])?;
         }
         let missing = [count, count + 1, any + (1 << 16), any + (1 << 31), u32::MAX];
         let others = [arena ^ 1, arena.wrapping_sub(1), arena ^ (1 << 16), !arena, any];
         let (missing, other) = (self.rng.pick(&missing), self.rng.pick(&others));
-        self.fold(case, WORK, [arena, missing], 2)?;
-        self.fold(case, WORK, [other, any], 2)?;
-        self.fold(case, WORK, [other, missing], 3)
+        for id in [[arena, missing], [other, any], [other, missing]] {
+            self.fold(case, WORK, id)?;
+        }
+        Ok(())
     }
 
     /// Mostly enough.
@@ -167,31 +146,30 @@ impl Comparison {
         Ok(())
     }
 
-    /// Folds a node into a slice of so many words.
+    /// Folds a node; gives the words of its value.
     fn fold(
         &mut self,
         case: &Case,
         work: usize,
         [arena, node]: [u32; 2],
-        words: usize,
-    ) -> Result<(), Differs> {
+    ) -> Result<[u64; WORDS], Differs> {
         lend(&mut self.work, work, GARBAGE.0);
-        lend(&mut self.value, words, GARBAGE.2);
-        let (lent, value) = (&mut self.work[..work], &mut self.value[..words]);
-        let answer = ffi::fold(&case.bytes, lent, arena, node, value);
-        let expected = case.folded(work, arena, node, words);
-        let sort = same_nan(&expected.output, &mut self.value);
-        check_output(&expected, answer, (&self.value, words, GARBAGE.2))
+        lend(&mut self.value, WORDS, GARBAGE.2);
+        let value: &mut [u64; WORDS] = self.value.first_chunk_mut().expect("lent");
+        let answer = ffi::fold(&case.bytes, &mut self.work[..work], arena, node, value);
+        let words = *value;
+        let expected = case.folded(work, arena, node);
+        same_nan(&expected.output, value);
+        check_output(&expected, answer, (&self.value, WORDS, GARBAGE.2))
             .and_then(|_| self.check_work(case, answer, work))
             .map_err(|fault| {
-                let id = format!("node {node} of arena {arena}, {words} words");
+                let id = format!("node {node} of arena {arena}");
                 Differs(format!("rl_fold of {id}, work slice of {work}: {fault}"))
             })?;
-        match answer.number {
-            0 => self.tally.folded[sort] += 1,
-            number => self.refused(number),
+        if answer.number != 0 {
+            self.refused(answer.number);
         }
-        Ok(())
+        Ok(words)
     }
 
     fn check_work(&self, case: &Case, answer: Answer, work: usize) -> Result<(), String> {
@@ -204,14 +182,17 @@ impl Comparison {
     }
 
     /// The reports that `rl_prove_all` has left, against the original's.
-    fn original(&mut self, case: &Case) -> Result<(), Differs> {
-        if oracle::steps(&case.image) > STEPS {
-            self.tally.unasked += 1;
+    fn original_reports(
+        &mut self,
+        case: &Case,
+        asked: &mut Asked,
+        used: usize,
+    ) -> Result<(), Differs> {
+        let Some(theirs) = asked.reports() else {
+            self.tally.original.unasked[0] += 1;
             return Ok(());
-        }
-        let used = 4 * case.reports.iter().map(Vec::len).sum::<usize>();
+        };
         let reports = self.reports[..used].chunks(4);
-        let theirs = oracle::reports(&case.image);
         let said = reports.clone().map(|report| said(&case.image, report));
         let differs = said.zip(&theirs).find(|(ours, theirs)| ours.as_ref() != Some(theirs));
         if let Some((ours, theirs)) = differs {
@@ -221,26 +202,37 @@ impl Comparison {
             let fault = format!("{} reports, the original has {}", reports.len(), theirs.len());
             return Err(Differs(fault));
         }
-        for report in reports {
-            self.tally.reports[report[2] as usize] += 1;
+        self.tally.original.images += 1;
+        self.tally.original.reports += theirs.len();
+        Ok(())
+    }
+
+    /// The words that `rl_fold` has left for a node, against `const_eval`.
+    fn original_value(
+        &mut self,
+        case: &Case,
+        asked: &mut Asked,
+        node: u32,
+        words: [u64; WORDS],
+    ) -> Result<(), Differs> {
+        let Some(theirs) = asked.const_eval(node) else {
+            self.tally.original.unasked[1] += 1;
+            return Ok(());
+        };
+        if !oracle::same_value(&case.image, words, &theirs) {
+            let ours = format!("rl_fold of node {node} says {words:x?}");
+            return Err(Differs(format!("{ours}, the original's const_eval {theirs:x?}")));
         }
+        self.tally.original.folded[sort_of(words)] += 1;
         Ok(())
     }
 }
 
-/// Gives the value's sort; a NaN may have any bits, so they become those that
-/// are expected.
-fn same_nan(expected: &[u64], value: &mut [u64]) -> usize {
-    let nan = |words: &[u64]| words[0] == FLOAT as u64 && f64::from_bits(words[1]).is_nan();
-    match expected.first() {
-        None => 0,
-        Some(_) if nan(expected) => {
-            if nan(value) {
-                value[1] = expected[1];
-            }
-            NAN
-        }
-        Some(sort) => *sort as usize,
+/// A NaN may have any bits, so they become those that are expected.
+fn same_nan(expected: &[u64], value: &mut [u64; WORDS]) {
+    let is_nan = |words: &[u64]| matches!(words, [2, bits] if f64::from_bits(*bits).is_nan());
+    if is_nan(expected) && is_nan(value) {
+        value.copy_from_slice(expected);
     }
 }
 

@@ -1,12 +1,15 @@
 //! `compare_prove [CASES] [SEED]`: the library's `rl_fold`, `rl_prove` and
-//! `rl_prove_all` against the independent folder and prover, and the reports'
-//! messages against the original's.
+//! `rl_prove_all` against the independent folder and prover; where the original
+//! is here, the reports' messages against its own, and each folded value
+//! against its `const_eval`.
 
 mod case;
 mod compare;
+mod original;
+mod tally;
 
 use case::Case;
-use compare::{Comparison, Differs, Nodes, Tally, SORTS};
+use compare::{Comparison, Differs};
 use oracle::{marked, pairs, picked, tables};
 use rlimg::damage::damage;
 use rlimg::encode::encode;
@@ -19,22 +22,15 @@ use std::time::{Duration, Instant};
 
 /// Where an image goes that shows a difference.
 const FILE: &str = concat!(env!("CARGO_MANIFEST_DIR"), "/../target/compare_prove.img");
-/// Everything that is counted must have been seen so often.
-const ENOUGH: usize = 50;
-/// The refusals that are counted for that.
-const REFUSALS: [u32; 14] = [2, 3, 4, 5, 6, 7, 8, 9, 10, 15, 16, 17, 18, 100];
-/// Folded in a listed image; the pairs' operators are among them.
-const LISTED: Nodes = Nodes::First(300);
-const GENERATED: Nodes = Nodes::Some(8);
 /// The longest that all about one hostile image may take.
 const LONG: Duration = Duration::from_secs(5);
 
 /// A difference, and the image that shows it.
 struct Shown(Differs, Vec<u8>);
 
-fn compare(comparison: &mut Comparison, bytes: Vec<u8>, nodes: Nodes) -> Result<(), Shown> {
+fn compare(comparison: &mut Comparison, bytes: Vec<u8>) -> Result<(), Shown> {
     let case = Case::new(bytes);
-    comparison.compare(&case, nodes).map_err(|differs| Shown(differs, case.bytes))
+    comparison.compare(&case).map_err(|differs| Shown(differs, case.bytes))
 }
 
 /// The lists of small images, some that are too tall, and one too long.
@@ -43,9 +39,9 @@ fn listed(comparison: &mut Comparison) -> Result<(), Shown> {
     let images = marked.chain(tables::images()).chain(picked::images()).chain(pairs::images());
     let tall = (67..76).map(edges::expression_chain).chain((35..44).map(edges::statement_chain));
     for image in images.chain(tall) {
-        compare(comparison, encode(&image), LISTED)?;
+        compare(comparison, encode(&image))?;
     }
-    compare(comparison, vec![1; 65_536], LISTED)
+    compare(comparison, vec![1; 65_536])
 }
 
 /// Shared sums, ever taller, a deep one, and a call that asks for much work.
@@ -55,7 +51,7 @@ fn hostile(comparison: &mut Comparison) -> Result<(), Shown> {
     images.extend([hostile::deep_tree(), hostile::worst_call()]);
     for image in images {
         let (bytes, start) = (encode(&image), Instant::now());
-        compare(comparison, bytes.clone(), Nodes::Some(4))?;
+        compare(comparison, bytes.clone())?;
         if start.elapsed() > LONG {
             let differs = Differs(format!("a hostile image takes {:?}", start.elapsed()));
             return Err(Shown(differs, bytes));
@@ -69,9 +65,9 @@ fn generated(comparison: &mut Comparison, seed: u64, until: usize) -> Result<(),
     let mut rng = Rng::new(seed);
     while comparison.tally.images < until {
         let image = any_image(&mut rng);
-        compare(comparison, encode(&image), GENERATED)?;
+        compare(comparison, encode(&image))?;
         if rng.one_in(8) {
-            compare(comparison, damage(&mut rng, &image), GENERATED)?;
+            compare(comparison, damage(&mut rng, &image))?;
         }
     }
     Ok(())
@@ -87,10 +83,6 @@ fn any_image(rng: &mut Rng) -> Image {
 }
 
 fn main() -> ExitCode {
-    if !oracle::HERE {
-        println!("{}", oracle::NOT_HERE);
-        return ExitCode::SUCCESS;
-    }
     let mut arguments = std::env::args().skip(1).map(|word| word.parse::<u64>().expect("a number"));
     let cases = arguments.next().unwrap_or(100_000) as usize;
     let seed = arguments.next().unwrap_or(1);
@@ -107,32 +99,9 @@ fn main() -> ExitCode {
         }
         return ExitCode::FAILURE;
     }
-    summary(&comparison.tally)
-}
-
-fn summary(tally: &Tally) -> ExitCode {
-    let refused = |number: &u32| tally.refusals.get(number).copied().unwrap_or(0);
-    let folded: Vec<String> =
-        SORTS.iter().zip(tally.folded).map(|(sort, count)| format!("{sort}: {count}")).collect();
-    let refusals: Vec<String> =
-        tally.refusals.iter().map(|(number, count)| format!("{number}: {count}")).collect();
-    let [calls, images] = tally.proved;
-    let [refinements, requires] = tally.reports;
-    println!(
-        "compare_prove: {} images ({} refused), 0 differ; folds {}; calls {calls}, whole images \
-         {images}, all but {} by the original; refinements {refinements}, requires {requires}; \
-         refusals {}",
-        tally.images,
-        tally.refused,
-        folded.join(", "),
-        tally.unasked,
-        refusals.join(", "),
-    );
-    let counts = [&tally.folded[..], &tally.proved, &tally.reports, &[tally.refused]].concat();
-    let counts = counts.into_iter().chain(REFUSALS.iter().map(refused));
-    if counts.min() < Some(ENOUGH) {
-        println!("something was seen fewer than {ENOUGH} times");
-        return ExitCode::FAILURE;
+    comparison.tally.print();
+    match comparison.tally.is_enough() {
+        true => ExitCode::SUCCESS,
+        false => ExitCode::FAILURE,
     }
-    ExitCode::SUCCESS
 }
