@@ -11,7 +11,6 @@ use Rattle.rl_spec.specs.declared.ArenaNo.{ArenaNo}
 use Rattle.rl_spec.specs.declared.Cause.{Cause}
 use Rattle.rl_spec.specs.declared.Cause.the-variants.{ImageTooLong, WorkTooShort, BytesEnd, WrongKind, CountOverLimit, BadText, BadValue, BadReference, TooHigh, BytesLeft, OtherArena, NoSuchNode, NoSuchCall, ReportsTooShort, NoSuchFunction, HeightOverLimit, OutputTooShort, LimitPassed, WrongValues, NoSuchText, BudgetOverLimit}
 use Rattle.rl_spec.specs.declared.Counts.{Counts}
-use Rattle.rl_spec.specs.declared.Interval.{Interval}
 use Rattle.rl_spec.specs.declared.LowerAnswer.{LowerAnswer}
 use Rattle.rl_spec.specs.declared.LowerAnswer.the-variants as lower
 use Rattle.rl_spec.specs.declared.MessageAnswer.{MessageAnswer}
@@ -20,6 +19,7 @@ use Rattle.rl_spec.specs.declared.ProveAnswer.{ProveAnswer}
 use Rattle.rl_spec.specs.declared.ProveAnswer.the-variants as prove
 use Rattle.rl_spec.specs.declared.TextAnswer.{TextAnswer}
 use Rattle.rl_spec.specs.declared.TextAnswer.the-variants as text
+use Rattle.rl_spec.specs.declared.TextPart.{TextPart}
 use Rattle.rl_spec.specs.Read.{numberOf, placeIn, packed}
 use Rattle.rl_spec.specs.Boundary.{above, provePacked, provedPlace, lowerPacked, loweredPlace, textPacked, textPlace, messagePacked, messagePlace}
 
@@ -87,8 +87,8 @@ module _ (a : LowerAnswer) (q : Cause) (p : ℕ) (f : a ≡ lower.Refused q p) w
 -- ---- texts
 
 module _ (a : TextAnswer) where
-  pub text-packed : (i : Interval) → a ≡ text.Found i → i .first + i .count * 65536 ≡ textPacked a
-  text-packed i f = rw f refl
+  pub text-packed : (part : TextPart) → a ≡ text.Found part → part .start + part .length * 65536 ≡ textPacked a
+  text-packed part f = rw f refl
 
   module _ (q : Cause) (p : ℕ) (f : a ≡ text.Refused q p) where
     pub text-near : textPlace a ≤ 65535 → p ≤ 65535

@@ -57,7 +57,7 @@ pub fn pack_text(answer: TextAnswer) -> u64
     ensures { λ r. ⌜ r ≡ textPacked answer ⌝ }
 {
     match answer {
-        TextAnswer::Found(part) => (part.first as u64) + (part.count as u64) * 65536,
+        TextAnswer::Found(part) => (part.start as u64) + (part.length as u64) * 65536,
         TextAnswer::Refused { cause, place } => pack(cause, place),
     }
 }

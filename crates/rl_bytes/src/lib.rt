@@ -163,3 +163,13 @@ pub fn clear_bytes(out: &mut [u8])
         i += 1;
     }
 }
+
+pub fn clear_entries(entries: &mut [u32])
+    ensures { λ _. ⌜ now (entries .exit) ≡ replicate (length (now (entries .entry))) 0 ⌝ }
+{
+    let mut i = 0;
+    while i < entries.len() {
+        entries[i] = 0;
+        i += 1;
+    }
+}

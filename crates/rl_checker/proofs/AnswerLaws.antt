@@ -25,35 +25,13 @@ use Rattle.rl_spec.specs.Fold.{workUnless}
 use Rattle.rl_spec.specs.Found.{imageFound}
 use Rattle.rl_spec.specs.Prove.{callEntries, allEntries, fitting, sliceBy, proveOf, reportsOf, proveAllOf, allReportsOf, proveNumber}
 use Rattle.rl_prover.specs.Reports.{Shown}
+use Rattle.rl_prover.proofs.ShownLaws.{none-shown, all-shown}
 use Rattle.rl_images.specs.Encoding.Accepted.{accepted-well-formed}
 use Rattle.rl_images.specs.Reading.Found.{found-is-image}
 use Rattle.rl_images.specs.Images.Limits.{size-within, texts-within, parameters-within, all-bytes}
 use Rattle.rl_images.specs.Reading.Starts.{section-size, sizes-are-counts}
 use Rattle.rl_checker.specs.Entries.{Limited, ProvesOne, ProvesAll, fittingAt, keptAt}
 use Rattle.rl_images.specs.Reading.Refusals.{zeros-unless, refused-work}
-
--- ---- a slice of zeros shows nothing, and one that is long enough shows all
-
-take-zeros : (n : ℕ) → take n (replicate {A = ℕ} n 0) ≡ replicate n 0
-take-zeros zero = refl
-take-zeros (suc n) = ap (λ (l : List ℕ). 0 ∷ l) (take-zeros n)
-
-none-shown : (l : List ℕ) (n : ℕ) → l ≡ replicate n 0 → Shown l [] 0
-none-shown l n e =
-    let k : length l ≡ n = ap length e ∙ length-replicate n 0 in
-    record { slice = rw k (e ∙ sym (take-zeros n)); place = refl }
-
-few : (n k : ℕ) → n ≤ k → take n (replicate {A = ℕ} k 0) ≡ replicate n 0
-few zero k l = refl
-few (suc n) zero l = absurd (omega arith)
-few (suc n) (suc k) l = ap (λ (x : List ℕ). 0 ∷ x) (few n k (omega arith))
-
-all-shown : (n k : ℕ) (e : List ℕ) → length e ≤ n → n ≤ length e + k → take n (e ++ replicate k 0) ≡ e ++ replicate (n - length e) 0
-all-shown n k [] h l = let z : n - 0 ≡ n = omega arith in few n k (omega arith) ∙ rw z refl
-all-shown zero k (x ∷ e) h l = absurd (omega arith)
-all-shown (suc n) k (x ∷ e) h l =
-    let z : suc n - suc (length e) ≡ n - length e = omega arith in
-    ap (λ (y : List ℕ). x ∷ y) (all-shown n k e (omega arith) (omega arith) ∙ rw z refl)
 
 -- ---- the answer by the place after the entries
 

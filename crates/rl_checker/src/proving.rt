@@ -1,6 +1,7 @@
 // Proving a call, and all calls.
 use rl_ast::read_starts;
 use rl_bytes::clear;
+use rl_bytes::clear_entries;
 use rl_classes::text_classes;
 use rl_prover::prove_call;
 use rl_spec::Answer;
@@ -9,21 +10,11 @@ use rl_spec::Counts;
 use rl_spec::ProveAnswer;
 ghost use mathlib.Core.Path.{_≡_};
 ghost use Prim.Native.Nat.{_≤_, _<_, min};
-ghost use lib.ListN.{length, replicate};
+ghost use lib.ListN.{length};
 ghost use Rattle.rl_spec.specs.Fold.{workUnless};
 ghost use Rattle.rl_spec.specs.Found.{imageFound};
 ghost use Rattle.rl_spec.specs.Prove.{proveOf, reportsOf, proveAllOf, allReportsOf, proveNumber};
 ghost use Rattle.rl_checker.specs.Entries.{ProvesOne, ProvesEach, ProvesAll, fittingAt, keptAt};
-
-fn clear_reports(reports: &mut [u32])
-    ensures { λ _. ⌜ now (reports .exit) ≡ replicate (length (now (reports .entry))) 0 ⌝ }
-{
-    let mut i = 0;
-    while i < reports.len() {
-        reports[i] = 0;
-        i += 1;
-    }
-}
 
 // Two words an expression are enough to remember what is folded.
 fn memory_size(counts: Counts) -> usize
@@ -115,7 +106,7 @@ fn fitted(work: &mut [u16], reports: &mut [u32], at: usize) -> ProveAnswer
     ensures { λ r. ⌜ now (work .exit) ≡ keptAt (length (now (reports .entry))) at (now (work .entry)) ⌝ }
 {
     if reports.len() < at {
-        clear_reports(reports);
+        clear_entries(reports);
         clear(work);
         return ProveAnswer::Refused {
             cause: Cause::ReportsTooShort,
@@ -132,7 +123,7 @@ pub fn prove(image: &[u8], work: &mut [u16], call: u32, reports: &mut [u32]) -> 
     ensures { λ r. ⌜ now (work .exit) ≡ workUnless (proveNumber (proveOf (now (image .entry)) (length (now (work .entry))) call (length (now (reports .entry))))) (now (image .entry)) (length (now (work .entry))) ⌝ }
 {
     let mut starts = [0u16; 6144];
-    clear_reports(reports);
+    clear_entries(reports);
     let answer = read_starts(image, work, &mut starts);
     match answer {
         Answer::Refused { cause, place } => ProveAnswer::Refused { cause, place },
@@ -179,7 +170,7 @@ pub fn prove_all(image: &[u8], work: &mut [u16], reports: &mut [u32]) -> ProveAn
     ensures { λ r. ⌜ now (work .exit) ≡ workUnless (proveNumber (proveAllOf (now (image .entry)) (length (now (work .entry))) (length (now (reports .entry))))) (now (image .entry)) (length (now (work .entry))) ⌝ }
 {
     let mut starts = [0u16; 6144];
-    clear_reports(reports);
+    clear_entries(reports);
     let answer = read_starts(image, work, &mut starts);
     match answer {
         Answer::Refused { cause, place } => ProveAnswer::Refused { cause, place },

@@ -13,6 +13,7 @@ use Rattle.rl_spec.specs.Schema.{textBytesAt, sections, countOf, sortOf, schema
 use Rattle.rl_spec.specs.Fields.{listsAt}
 use Rattle.rl_spec.specs.Image.{recordsOf, sizeOf, noRecord, recordOf, entryOf, textOf, fieldsAt}
 use Rattle.rl_spec.specs.Found.{recordAs, recordFound, recordsFound, imageFound}
+use Rattle.rl_spec.specs.Texts.{textPart}
 
 module _ (s p : List ℕ) (c : Counts) where
   pub records-found : (o : Section) → recordsOf (imageFound s p c) o ≡ recordsFound s p c o (countOf c o) 0
@@ -62,6 +63,15 @@ module _ (s p : List ℕ) (c : Counts) where
   pub text-found : (t : ℕ) → t < c .texts → textOf (imageFound s p c) t ≡ take (u16At s (textBytesAt + c .bytes + t * 5 + 1 + 2)) (drop (u16At s (textBytesAt + c .bytes + t * 5 + 1)) (take (c .bytes) (drop textBytesAt s)))
   unfolding imageFound recordFound recordAs fieldsAt fieldsOf fieldsIn schema sortOf
   text-found t h = rw (record-found Texts t h) refl
+
+  -- where its bytes are
+  pub part-found : (t : ℕ) → t < c .texts → textPart (imageFound s p c) t ≡ record { start = textBytesAt + u16At s (textBytesAt + c .bytes + t * 5 + 1); length = u16At s (textBytesAt + c .bytes + t * 5 + 1 + 2) }
+  unfolding textPart recordFound recordAs fieldsAt fieldsOf fieldsIn schema sortOf
+  part-found t h = rw (record-found Texts t h) refl
+
+  pub part-missing : (t : ℕ) → c .texts ≤ t → textPart (imageFound s p c) t ≡ record { start = textBytesAt; length = 0 }
+  unfolding textPart
+  part-missing t h = rw (record-missing Texts t h) refl
 
   pub text-missing : (t : ℕ) → c .texts ≤ t → textOf (imageFound s p c) t ≡ []
   text-missing t h = rw (record-missing Texts t h) refl

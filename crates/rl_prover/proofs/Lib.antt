@@ -7,3 +7,4 @@ pub mod ReportLaws
 pub mod VerdictLaws
 pub mod SecondLaws
 pub mod CallLaws
+pub mod ShownLaws

@@ -17,3 +17,4 @@ pub use statements::statement_at;
 pub use texts::entry_at;
 pub use texts::optional_at;
 pub use texts::text_at;
+pub use texts::text_part;

@@ -5,6 +5,7 @@ use rl_bytes::u16_at;
 use rl_spec::Counts;
 use rl_spec::Interval;
 use rl_spec::Optional;
+use rl_spec::TextPart;
 ghost use mathlib.Core.Path.{_≡_};
 ghost use mathlib.Core.List.{List};
 ghost use Prim.Native.Nat.{ℕ, _+_};
@@ -12,6 +13,7 @@ ghost use Rattle.rl_spec.specs.Bytes.{u16At};
 ghost use Rattle.rl_spec.specs.Image.{num, pair, entryOf, textOf};
 ghost use Rattle.rl_spec.specs.Ranges.{interval, optional};
 ghost use Rattle.rl_spec.specs.Found.{imageFound};
+ghost use Rattle.rl_spec.specs.Texts.{textPart};
 
 // The k-th list entry.
 pub fn entry_at(image: &[u8], counts: Counts, k: u32) -> u16
@@ -37,6 +39,23 @@ pub fn text_at(image: &[u8], counts: Counts, t: u16) -> &[u8]
     let offset = u16_at(image, at) as usize;
     let size = second_u16(image, at) as usize;
     part(bytes, offset, size)
+}
+
+// Where the bytes of a text are in the image.
+pub fn text_part(image: &[u8], counts: Counts, t: u16) -> TextPart
+    ensures { λ r. ⌜ ((p : List ℕ) → r ≡ textPart (imageFound (now (image .entry)) p counts) t) ⌝ }
+{
+    if counts.texts <= t {
+        return TextPart {
+            start: 23,
+            length: 0,
+        };
+    }
+    let at = 23 + (counts.bytes as usize) + (t as usize) * 5 + 1;
+    TextPart {
+        start: 23 + (u16_at(image, at) as u32),
+        length: second_u16(image, at) as u32,
+    }
 }
 
 // The first and the count of a list or a range.

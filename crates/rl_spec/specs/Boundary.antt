@@ -53,7 +53,7 @@ runPacked (run.Refused q n) = above (numberOf q) n
 
 -- a text: the place of its first byte in 16 bits, and above them how many bytes it has
 abbrev pub textPacked : TextAnswer → ℕ
-textPacked (text.Found i) = i .first + i .count * 2 ^ 16
+textPacked (text.Found part) = part .start + part .length * 2 ^ 16
 textPacked (text.Refused q n) = above (numberOf q) n
 
 -- a message: its length
@@ -71,7 +71,7 @@ loweredPlace (lower.Lowered n) = 0
 loweredPlace (lower.Refused q n) = n
 
 abbrev pub textPlace : TextAnswer → ℕ
-textPlace (text.Found i) = 0
+textPlace (text.Found part) = 0
 textPlace (text.Refused q n) = n
 
 abbrev pub messagePlace : MessageAnswer → ℕ

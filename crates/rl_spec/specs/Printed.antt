@@ -2,6 +2,7 @@
 use Prim.Native.Nat.{ℕ, zero, suc, _+_}
 use mathlib.Core.List.{List, [], _∷_, _++_, map}
 use mathlib.Core.Option.{Option, none, some}
+use lib.ListN.{getD}
 use Rattle.rl_spec.specs.declared.Answer.{Answer}
 use Rattle.rl_spec.specs.declared.Answer.the-variants.{Accepted, Refused}
 use Rattle.rl_spec.specs.declared.Cause.{Cause}
@@ -37,6 +38,10 @@ linesBy im call (some f) = map (lineOf im f call (callAt im call .span)) (violat
 
 unfoldable pub callLines : Image → ℕ → List (List ℕ)
 callLines im call = linesBy im call (calleeOf im call)
+
+-- the one of a number, from 0; empty where there is none
+unfoldable pub lineAt : Image → ℕ → ℕ → List ℕ
+lineAt im call n = getD (callLines im call) n []
 
 -- of n calls from the k-th on
 unfoldable pub allLines : Image → ℕ → ℕ → List (List ℕ)

@@ -7,12 +7,12 @@ use lib.ListN.{length, getD, replicate}
 use Rattle.rl_spec.specs.declared.Answer.{Answer}
 use Rattle.rl_spec.specs.declared.Answer.the-variants as read
 use Rattle.rl_spec.specs.declared.Cause.the-variants.{NoSuchCall, NoSuchText}
-use Rattle.rl_spec.specs.declared.Interval.{Interval}
 use Rattle.rl_spec.specs.declared.MessageAnswer.{MessageAnswer}
 use Rattle.rl_spec.specs.declared.MessageAnswer.the-variants as message
 use Rattle.rl_spec.specs.declared.Section.the-variants.{Texts}
 use Rattle.rl_spec.specs.declared.TextAnswer.{TextAnswer}
 use Rattle.rl_spec.specs.declared.TextAnswer.the-variants as text
+use Rattle.rl_spec.specs.declared.TextPart.{TextPart}
 use Rattle.rl_spec.specs.Schema.{textBytesAt}
 use Rattle.rl_spec.specs.Read.{numberOf, answerOf}
 use Rattle.rl_spec.specs.Image.{Image, first, second, recordOf, fieldOf, imageOf}
@@ -22,11 +22,11 @@ use Rattle.rl_spec.specs.Message.{messageOf}
 -- ---- a text, as a part of the image's bytes: reading first, then 20
 
 -- where its bytes are: the text bytes stand behind the header
-abbrev pub textPart : Image → ℕ → Interval
+unfoldable pub textPart : Image → ℕ → TextPart
 textPart im t =
     record {
-      first = textBytesAt + first (fieldOf (recordOf im Texts t) 0);
-      count = second (fieldOf (recordOf im Texts t) 0);
+      start = textBytesAt + first (fieldOf (recordOf im Texts t) 0);
+      length = second (fieldOf (recordOf im Texts t) 0);
     }
 
 abbrev pub textBy : List ℕ → ℕ → Answer → TextAnswer
@@ -37,7 +37,7 @@ unfoldable pub textFor : List ℕ → ℕ → ℕ → TextAnswer
 textFor s k t = textBy s t (answerOf s k)
 
 abbrev pub textNumber : TextAnswer → ℕ
-textNumber (text.Found i) = 0
+textNumber (text.Found part) = 0
 textNumber (text.Refused q n) = numberOf q
 
 -- ---- the message of a call's report of a number: reading first, then 17

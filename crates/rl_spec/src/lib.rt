@@ -312,9 +312,15 @@ pub enum LowerAnswer {
     Refused { cause: Cause, place: usize },
 }
 
-// Where a text's bytes are in the image: the first and how many.
+// Where a text's bytes are in the image: the first's place, and how many.
+pub struct TextPart {
+    pub start: u32,
+    pub length: u32,
+}
+
+// What is answered for a text.
 pub enum TextAnswer {
-    Found(Interval),
+    Found(TextPart),
     Refused { cause: Cause, place: usize },
 }
 

@@ -1,4 +1,4 @@
-//! The library's exports behind safe functions; the only unsafe code.
+//! The library's exports behind safe functions.
 
 extern "C" {
     fn rl_read(image: *const u8, image_len: usize, work: *mut u16, work_len: usize) -> u64;
@@ -9,8 +9,7 @@ extern "C" {
         work_len: usize,
         arena: u32,
         node: u32,
-        value: *mut u64,
-        value_len: usize,
+        value: *mut [u64; 2],
     ) -> u64;
     fn rl_prove(
         image: *const u8,
@@ -38,8 +37,7 @@ extern "C" {
         values: *const u64,
         values_len: usize,
         budget: u32,
-        outcome: *mut u64,
-        outcome_len: usize,
+        outcome: *mut [u64; 4],
     ) -> u64;
     fn rl_lower(
         image: *const u8,
@@ -50,11 +48,31 @@ extern "C" {
         out: *mut u8,
         out_len: usize,
     ) -> u64;
+    fn rl_text(
+        image: *const u8,
+        image_len: usize,
+        work: *mut u16,
+        work_len: usize,
+        text: u32,
+    ) -> u64;
+    fn rl_message(
+        image: *const u8,
+        image_len: usize,
+        work: *mut u16,
+        work_len: usize,
+        call: u32,
+        report: u32,
+        out: *mut [u8; MESSAGE],
+    ) -> u64;
 }
+
+/// The bytes that are lent for a message.
+pub const MESSAGE: usize = 65_535;
 
 /// A refusal's number, 0 without one, and the low half of the answer: the
 /// refusal's place or, after proving, how many reports there are or, after
-/// lowering, how many bytes.
+/// lowering and for a message, how many bytes or, for a text, where its bytes
+/// start and, above 16 bits, how many they are.
 #[derive(Debug, Clone, Copy, PartialEq, Eq)]
 pub struct Answer {
     pub number: u32,
@@ -67,8 +85,9 @@ impl Answer {
     }
 }
 
-// SAFETY, of all calls below: each pointer comes with the length of its slice,
-// the slices live throughout the call and do not overlap.
+// SAFETY, of all calls below: each pointer comes with the length of its slice or
+// is to an array of the length that the library writes, slices and arrays live
+// throughout the call and do not overlap.
 
 /// Reads an image; `work` is overwritten whole.
 pub fn read(image: &[u8], work: &mut [u16]) -> Answer {
@@ -76,18 +95,9 @@ pub fn read(image: &[u8], work: &mut [u16]) -> Answer {
 }
 
 /// Folds a node under no names; `work` and `value` are overwritten whole.
-pub fn fold(image: &[u8], work: &mut [u16], arena: u32, node: u32, value: &mut [u64]) -> Answer {
+pub fn fold(image: &[u8], work: &mut [u16], arena: u32, node: u32, value: &mut [u64; 2]) -> Answer {
     Answer::of(unsafe {
-        rl_fold(
-            image.as_ptr(),
-            image.len(),
-            work.as_mut_ptr(),
-            work.len(),
-            arena,
-            node,
-            value.as_mut_ptr(),
-            value.len(),
-        )
+        rl_fold(image.as_ptr(), image.len(), work.as_mut_ptr(), work.len(), arena, node, value)
     })
 }
 
@@ -127,7 +137,7 @@ pub fn run(
     function: u32,
     values: &[u64],
     budget: u32,
-    outcome: &mut [u64],
+    outcome: &mut [u64; 4],
 ) -> Answer {
     Answer::of(unsafe {
         rl_run(
@@ -139,8 +149,7 @@ pub fn run(
             values.as_ptr(),
             values.len(),
             budget,
-            outcome.as_mut_ptr(),
-            outcome.len(),
+            outcome,
         )
     })
 }
@@ -157,5 +166,23 @@ pub fn lower(image: &[u8], work: &mut [u16], function: u32, out: &mut [u8]) -> A
             out.as_mut_ptr(),
             out.len(),
         )
+    })
+}
+
+/// Finds a text; `work` is overwritten whole.
+pub fn text(image: &[u8], work: &mut [u16], text: u32) -> Answer {
+    Answer::of(unsafe { rl_text(image.as_ptr(), image.len(), work.as_mut_ptr(), work.len(), text) })
+}
+
+/// Writes the message of a call's report; `work` and `out` are overwritten whole.
+pub fn message(
+    image: &[u8],
+    work: &mut [u16],
+    call: u32,
+    report: u32,
+    out: &mut [u8; MESSAGE],
+) -> Answer {
+    Answer::of(unsafe {
+        rl_message(image.as_ptr(), image.len(), work.as_mut_ptr(), work.len(), call, report, out)
     })
 }

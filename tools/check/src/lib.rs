@@ -5,6 +5,7 @@ pub mod images;
 pub mod lowerings;
 pub mod runs;
 pub mod slices;
+pub mod stack;
 pub mod timing;
 
 use ffi::Answer;

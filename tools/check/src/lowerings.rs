@@ -61,7 +61,7 @@ pub fn run(
     let (mut work, mut outcome) = ([0; WORK], [0; OUTCOME]);
     let words: Vec<u64> = values.iter().flat_map(|value| value.words()).collect();
     match ffi::run(bytes, &mut work, function, &words, budget, &mut outcome).number {
-        0 => Ok(shown(same_nan(outcome), |text| image.text_of(text).unwrap_or(&[]).to_vec())),
+        0 => Ok(shown(same_nan(outcome), |text| image.text_of(text).map(<[u8]>::to_vec))),
         number => Err(number),
     }
 }

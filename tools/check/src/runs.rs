@@ -44,12 +44,11 @@ pub fn compare(
     call: &Call,
 ) -> Result<Result<[u64; OUTCOME], Refusal>, String> {
     lend(&mut slices.work, call.work, GARBAGE.0);
-    lend(&mut slices.outcome, call.room, GARBAGE.2);
-    let (work, outcome) = (&mut slices.work[..call.work], &mut slices.outcome[..call.room]);
+    lend(&mut slices.outcome, OUTCOME, GARBAGE.2);
+    let work = &mut slices.work[..call.work];
+    let outcome: &mut [u64; OUTCOME] = slices.outcome.first_chunk_mut().expect("lent");
     let ours = ffi::run(&case.bytes, work, call.function, &call.words, call.budget, outcome);
-    if let Some(words) = outcome.first_chunk_mut::<OUTCOME>() {
-        *words = same_nan(*words);
-    }
+    *outcome = same_nan(*outcome);
     let theirs = answer_to(&case.image, call);
     let (number, place) = theirs.map_or_else(|refusal| (refusal.number, refusal.place), |_| (0, 0));
     if (ours.number, ours.place) != (number, place) {
@@ -58,7 +57,7 @@ pub fn compare(
     }
     let words = theirs.as_ref().map_or(&[][..], |words| &words[..]);
     let heights = if number == 0 { &case.heights[..] } else { &[] };
-    check_slice("outcome", words, (&slices.outcome, call.room, GARBAGE.2))
+    check_slice("outcome", words, (&slices.outcome, OUTCOME, GARBAGE.2))
         .and_then(|_| check_slice("work", heights, (&slices.work, call.work, GARBAGE.0)))
         .map_err(|fault| format!("{fault}; expected {theirs:?}"))?;
     Ok(theirs)

@@ -1,7 +1,7 @@
 //! Functions at the limits of a run: nested as deep as can be, and with as many
 //! names as can be bound, which differ late.
 
-use crate::builder::Builder;
+use crate::builder::{Builder, Function};
 use crate::code::{self, Code};
 use crate::hostile::{joined, long};
 use crate::image::{Image, EXPRESSION_HEIGHT, STATEMENT_HEIGHT};
@@ -42,6 +42,25 @@ fn tall(code: &mut Code, kind: usize, height: u16) -> u16 {
         };
     }
     node
+}
+
+/// A call of a tall expression, of a function that requires of two others that
+/// they hold: one does, one does not.
+pub fn called(kind: usize) -> Image {
+    let mut code = Code::new(Builder::new(1).interning());
+    let holds = tall(&mut code, kind, EXPRESSION_HEIGHT);
+    let fails = tall(&mut code, kind, EXPRESSION_HEIGHT - 1);
+    let fails = code.unary(BANG, fails);
+    let (name, body, list) =
+        (code.builder.text("f"), code.builder.list(&[]), code.builder.list(&[holds]));
+    code.builder.parameter(name, None);
+    code.builder.clause(holds, Some(fails));
+    code.builder.clause(fails, Some(holds));
+    let (span, result, parameters) = (1, false, (0, 1));
+    let (requires, ensures) = ((0, 2), (0, 0));
+    code.builder.function(Function { name, span, parameters, result, body, requires, ensures });
+    code.builder.call(name, 2, list);
+    code.builder.image
 }
 
 /// A return of a tall expression inside as many statements as can be, whose

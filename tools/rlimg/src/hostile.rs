@@ -2,11 +2,13 @@
 
 use crate::builder::{Builder, Function, Operand};
 use crate::image::{Image, Value, EXPRESSION_HEIGHT, LIMITS};
+use crate::schema::Section;
 
 const PLUS: u16 = 1;
 const COMPARE: u16 = 6;
 const BANG_EQUAL: u16 = 7;
 const LT: u16 = 3;
+const EQ: u16 = 5;
 const NE: u16 = 6;
 
 /// As many parameters, arguments and clauses as there can be.
@@ -150,5 +152,25 @@ pub fn long_texts(count: usize) -> Image {
     let node = joined(&mut builder, COMPARE, leaves);
     let names: Vec<u16> = (0..MOST).map(|name| (LIMITS[1] - 1 - name) as u16).collect();
     worst(&mut builder, &names, &[node]);
+    builder.image
+}
+
+/// As many calls as there can be, each with as many reports: every parameter
+/// must be a long text and is empty, every clause is false and has a long
+/// message. All of them differ, and some 3 GB of lines are printed.
+pub fn longest_output() -> Image {
+    let mut builder = long(MOST);
+    let (empty, never) = (builder.string(0, ""), builder.node(0, "Bool", &[0.into()]));
+    for name in 0..MOST as u16 {
+        let other = Operand::Str(MOST as u16 - 1 - name);
+        builder.parameter(name, Some((EQ, other)));
+        let message = builder.node(0, "String", &[name.into()]);
+        builder.clause(never, Some(message));
+    }
+    called(&mut builder, 0, &[vec![empty; MOST]]);
+    let first = builder.image.of(Section::Call)[0].range(2);
+    for span in 1..LIMITS[8] as u32 {
+        builder.call(0, span << 24, Value::Range(first.0, first.1));
+    }
     builder.image
 }

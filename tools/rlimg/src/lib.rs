@@ -23,3 +23,4 @@ pub mod run;
 pub mod runs;
 pub mod schema;
 pub mod text;
+pub mod texts;

@@ -23,19 +23,17 @@ pub const BINDINGS: usize = 128;
 pub const VALUES: usize = 16;
 /// The largest budget.
 pub const BUDGET: u32 = 1_000_000;
-/// The fewest words of an outcome.
+/// The words of an outcome.
 pub const OUTCOME: usize = 4;
 
 /// What the exported function is handed besides the image: the length of the
-/// work slice, the function, the values' words, the budget, and the length of
-/// the outcome's slice.
+/// work slice, the function, the values' words, and the budget.
 #[derive(Debug, Clone, PartialEq, Eq)]
 pub struct Call {
     pub work: usize,
     pub function: u32,
     pub words: Vec<u64>,
     pub budget: u32,
-    pub room: usize,
 }
 
 /// The outcome's words, or the refusal, for any bytes.
@@ -46,15 +44,19 @@ pub fn answer(bytes: &[u8], call: &Call) -> Result<[u64; OUTCOME], Refusal> {
 /// The same for what the bytes stand for.
 pub fn answer_to(image: &Result<Image, Refusal>, call: &Call) -> Result<[u64; OUTCOME], Refusal> {
     let refused = |number| Refusal { number, place: 0 };
-    let values = Value::list(&call.words).filter(|_| call.room >= OUTCOME).ok_or(refused(100))?;
     match image {
         Err(refusal) if refusal.number == 1 => Err(*refusal),
         _ if call.work < WORK => Err(refused(2)),
         Err(refusal) => Err(*refusal),
-        Ok(image) => {
-            let outcome = Program::new(image).run(call.function, &values, call.budget);
-            outcome.map(Outcome::words).map_err(refused)
-        }
+        Ok(image) => match Value::list(&call.words) {
+            // Words that are no values are as many values as no function takes.
+            None if image.of(Section::Function).len() <= call.function as usize => Err(refused(11)),
+            None => Err(refused(19)),
+            Some(values) => {
+                let outcome = Program::new(image).run(call.function, &values, call.budget);
+                outcome.map(Outcome::words).map_err(refused)
+            }
+        },
     }
 }
 

@@ -5,6 +5,7 @@
 mod calls;
 mod contracts;
 mod expressions;
+pub mod words;
 
 pub use calls::broken;
 
@@ -12,7 +13,7 @@ use crate::builder::{Builder, Function, Operand};
 use crate::code::Code;
 use crate::image::{Image, Value, NONE};
 use crate::rng::Rng;
-use crate::run::{Call, BINDINGS, BUDGET, OUTCOME, VALUES};
+use crate::run::{Call, BINDINGS, BUDGET, VALUES};
 use crate::schema::{self, Row, Section};
 use expressions::Sort;
 
@@ -65,8 +66,8 @@ fn run_of<'r>(rng: &'r mut Rng, size: usize, function: fn(&mut Generator<'r>) ->
     let function = generator.rng.below(functions);
     let image = generator.code.builder.image;
     let words = words[function].clone();
-    let (work, function, budget, room) = (8_192, function as u32, BUDGET, OUTCOME);
-    Run { image, call: Call { work, function, words, budget, room } }
+    let (work, function, budget) = (8_192, function as u32, BUDGET);
+    Run { image, call: Call { work, function, words, budget } }
 }
 
 struct Generator<'r> {

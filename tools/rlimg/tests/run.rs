@@ -374,13 +374,8 @@ fn refusals() {
     let image = code::image(&["a"], |_| vec![]);
     let bytes = encode(&image);
     let missing = image.texts.len() as u64;
-    let call = |words: &[u64]| Call {
-        work: WORK,
-        function: 0,
-        words: words.to_vec(),
-        budget: BUDGET,
-        room: 4,
-    };
+    let call =
+        |words: &[u64]| Call { work: WORK, function: 0, words: words.to_vec(), budget: BUDGET };
     let refused = |bytes: &[u8], call: Call, number| {
         assert_eq!(run::answer(bytes, &call), Err(Refusal { number, place: 0 }));
     };
@@ -395,10 +390,17 @@ fn refusals() {
     refused(&encode(&code::image(&["a"; 17], |_| vec![])), call(&[0; 34]), 19);
     refused(&bytes, Call { work: WORK - 1, function: 1, ..call(&[]) }, 2);
     refused(&vec![1; LENGTH_LIMIT + 1], Call { work: 0, ..call(&[]) }, 1);
-    for words in [&[0][..], &[0, 1], &[5, 0], &[24, 0], &[3, 65_536], &[12, 2], &[1 << 32, 0]] {
-        refused(&[], call(words), 100);
+    for words in [&[0][..], &[0, 1], &[5, 0], &[24, 0], &[12, 2], &[1 << 32, 0], &[3, missing, 0]] {
+        let over = Call { budget: BUDGET + 1, ..call(words) };
+        refused(&bytes, over.clone(), 19);
+        refused(&bytes, Call { function: 1, ..over.clone() }, 11);
+        refused(&bytes, Call { work: WORK - 1, ..over }, 2);
+        refused(&[], call(words), 3);
     }
-    refused(&[], Call { room: 3, ..call(&[]) }, 100);
+    for text in [65_535, 65_536, 131_072, u64::MAX] {
+        refused(&bytes, Call { budget: BUDGET + 1, ..call(&[11, text]) }, 20);
+        refused(&bytes, call(&[3, text, 0, 0]), 19);
+    }
 }
 
 #[test]

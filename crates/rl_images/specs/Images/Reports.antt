@@ -25,8 +25,9 @@ use Rattle.rl_spec.specs.Mapped.{Text, mapOperand, mapRefinement}
 use Rattle.rl_spec.specs.Fold.{Binding, constEval}
 use Rattle.rl_spec.specs.Contracts.{RefineOperand, integer, str, bool, param, ParamRefinement, Param, ContractClause, paramOf, clauseOf, contractsOf, calleeOf, argumentsOf}
 use Rattle.rl_spec.specs.Prove.{bindArguments, isFalse, report, failsAt, failedRefinements, failedRequires, proveCall, violationsBy, violationsOf, entriesBy, reportEntries}
-use Rattle.rl_spec.specs.Message.{decimalBy, decimal, integerText, refineOpStr, operandStr, refinementText, ownString, orDefault, defaultText, messageBy, opening}
-use Rattle.rl_spec.specs.Printed.{refusedLine, lineWith, lineOf, linesBy, callLines}
+use Rattle.rl_spec.specs.Message.{decimalBy, decimal, integerText, refineOpStr, operandStr, refinementText, ownString, orDefault, defaultText, messageBy, opening, messageOf}
+use Rattle.rl_spec.specs.Printed.{refusedLine, lineWith, lineOf, linesBy, callLines, lineAt}
+use Rattle.rl_spec.specs.Texts.{messageAt}
 use Rattle.rl_laws.specs.Tests.{by-ltb}
 use Rattle.rl_images.specs.Images.Limits.{within-at, parameters-within, required-within}
 
@@ -189,12 +190,25 @@ module _ (im : Image) (call : ℕ) where
 
   -- THEOREMS: each is that of its report, and there are no others
   pub line-at : (f i : ℕ) → calleeOf im call ≡ some f → i < length (violationsOf im call) →
-      getD (callLines im call) i [] ≡ lineOf im f call (callAt im call .span) (getD (violationsOf im call) i (Refinement 0))
-  unfolding callLines
+      lineAt im call i ≡ lineOf im f call (callAt im call .span) (getD (violationsOf im call) i (Refinement 0))
+  unfolding lineAt callLines
   line-at f i e l = rw e (map-at (lineOf im f call (callAt im call .span)) (violationsOf im call) i l)
 
-  pub no-line : (i : ℕ) → length (violationsOf im call) ≤ i → getD (callLines im call) i [] ≡ []
+  pub no-line : (i : ℕ) → length (violationsOf im call) ≤ i → lineAt im call i ≡ []
+  unfolding lineAt
   no-line i l = List·getD-eq-default (callLines im call) [] (omega (arith, lines-count))
+
+  -- THEOREMS: so it is with messages
+  pub message-at : (f i : ℕ) → calleeOf im call ≡ some f → i < length (violationsOf im call) →
+      messageAt im call i ≡ opening ++ messageBy im f (getD (violationsOf im call) i (Refinement 0))
+  unfolding messageAt messageOf
+  message-at f i e l = map-at (messageOf im call) (violationsOf im call) i l ∙ rw e refl
+
+  pub no-message : (i : ℕ) → length (violationsOf im call) ≤ i → messageAt im call i ≡ []
+  unfolding messageAt
+  no-message i l =
+      List·getD-eq-default (map (messageOf im call) (violationsOf im call)) []
+      (omega (arith, length-map (violationsOf im call) (messageOf im call)))
 
   -- THEOREM: where there is a report there is a callee
   pub callee-there : 0 < length (violationsOf im call) → (f : ℕ) × (calleeOf im call ≡ some f)

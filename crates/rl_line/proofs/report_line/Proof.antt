@@ -26,10 +26,11 @@ returns c =
     let put = c .before .before in
     let text = put .before .before in
     let default = text .before .before .before .before .before in
-    puts-report _ _ _ _ _ _ _ _ _ _ _ _ _ _ _
+    puts-report _ _ _ _ _ _ _ _ _ _ _ _ _
     (default .default-text .ensures)
     (text .before .part .ensures)
     (text .message .ensures)
+    _ _
     (put .put-line .ensures)
 
 pub report-line-spec : {M : Type 1} → statement M

@@ -24,7 +24,7 @@ fn main() {
 fn row(name: &str, image: &Image) {
     let bytes = encode(image);
     let (words, budget) = (vec![1, 0], BUDGET);
-    let call = Call { work: WORK, function: 0, words, budget, room: OUTCOME };
+    let call = Call { work: WORK, function: 0, words, budget };
     let (mut work, mut outcome) = (vec![0; WORK], [0; OUTCOME]);
     let mut run = |bytes: &[u8]| {
         let answer = ffi::run(bytes, &mut work, 0, &call.words, BUDGET, &mut outcome);

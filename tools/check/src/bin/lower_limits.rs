@@ -8,7 +8,7 @@ use check::runs::Case;
 use rlimg::encode::encode;
 use rlimg::image::{Image, WORK};
 use rlimg::lower::{Call, ROOM};
-use rlimg::lowerings::limits::{deepest, fitting, heights, hostile};
+use rlimg::lowerings::limits::{deepest, fitting, heights, hostile, only_lowered};
 use std::process::ExitCode;
 use std::thread::Builder;
 use std::time::Instant;
@@ -47,7 +47,7 @@ fn all() -> Result<Counts, String> {
     for (allowed, image) in heights() {
         counts.agreed(&image, if allowed { 0 } else { 12 })?;
     }
-    for image in deepest() {
+    for image in deepest().into_iter().chain(only_lowered()) {
         counts.agreed(&image, 0)?;
     }
     for image in hostile() {

@@ -18,7 +18,7 @@ const STEPS: u32 = 200_000;
 const STEP: f64 = 1_000.0;
 
 fn call(words: &[u64], budget: u32) -> Call {
-    Call { work: WORK, function: 0, words: words.to_vec(), budget, room: OUTCOME }
+    Call { work: WORK, function: 0, words: words.to_vec(), budget }
 }
 
 /// What both answer, which is no refusal.

@@ -23,7 +23,7 @@ pub const NO_LIMITS: Limits = Limits { counts: [NONE as usize; 5], bytes: usize:
 pub fn all() -> Vec<Image> {
     let fitting = fitting().into_iter().map(|(.., image)| image);
     let heights = heights().into_iter().map(|(_, image)| image);
-    fitting.chain(heights).chain(deepest()).chain(hostile()).collect()
+    fitting.chain(heights).chain(deepest()).chain(only_lowered()).chain(hostile()).collect()
 }
 
 /// How much of a limit the image takes.
@@ -173,6 +173,58 @@ pub fn deepest() -> Vec<Image> {
         }
     }
     all
+}
+
+/// The same of statements and expressions that a run does not take.
+pub fn only_lowered() -> Vec<Image> {
+    let mut all = Vec::new();
+    for (way, kind) in (0..4).flat_map(|way| (0..7).map(move |kind| (way, kind))) {
+        let image = code::image(&["x"], |code| {
+            let tall = (1..EXPRESSION_HEIGHT).fold(code.name("x"), |x, _| over(code, kind, x));
+            let (mut inner, mut height) = (code.give(tall), 1);
+            while height < STATEMENT_HEIGHT {
+                let room = STATEMENT_HEIGHT - height;
+                let (made, more) = around(code, if room > 1 { way } else { 0 }, tall, inner);
+                (inner, height) = (made, height + more);
+            }
+            vec![inner]
+        });
+        let tallest = tallest(&image);
+        all.push(with_clauses(image, 0, &[(tallest, None)], &[(tallest, Some(tallest))]));
+    }
+    all
+}
+
+/// An expression that holds another.
+fn over(code: &mut Code, kind: usize, inner: u16) -> u16 {
+    // The first text, or the first node.
+    let first = Value::Number(0);
+    let [path, one, pair] = [&[0][..], &[inner], &[0, inner]].map(|list| code.builder.list(list));
+    match kind {
+        0 => code.node("ArrayLiteral", &[one]),
+        1 => code.node("MapLiteral", &[pair]),
+        2 => code.node("StructLiteral", &[first, pair]),
+        3 => code.node("MethodCall", &[first, path, one]),
+        4 => code.node("Call", &[path, one]),
+        5 => code.node("IndexAssign", &[first, first, inner.into()]),
+        _ => code.node("CallExpr", &[first, one]),
+    }
+}
+
+/// A statement that holds another, and how much taller it is.
+fn around(code: &mut Code, way: usize, node: u16, inner: u16) -> (u16, u16) {
+    let (list, text, node) = (code.builder.list(&[inner]), Value::Number(0), Value::from(node));
+    let first = Value::from(code.statement("Break", &[]));
+    match way {
+        0 => (code.statement("ForEach", &[text, node, list]), 1),
+        1 => (code.statement("For", &[first, node, node, list]), 1),
+        2 => (code.statement("ForRange", &[text, first, list]), 1),
+        _ => {
+            let arm = code.statement("MatchArm", &[node, list]);
+            let arms = code.builder.list(&[arm]);
+            (code.statement("Match", &[node, arms]), 2)
+        }
+    }
 }
 
 /// What the only return gives.

@@ -87,7 +87,7 @@ impl Program<'_> {
         let texts = self.image.texts.len() as u16;
         let bytes = |text: u16| match text.checked_sub(texts) {
             None => self.text(text),
-            Some(said) => self.said(function, said).into_bytes(),
+            Some(said) => Some(self.said(function, said).into_bytes()),
         };
         Ok(shown(runner.outcome(ending, budget).words(), bytes))
     }
@@ -97,8 +97,8 @@ impl Program<'_> {
         Ok(shown(self.run(function, values, budget)?.words(), |text| self.text(text)))
     }
 
-    fn text(&self, text: u16) -> Vec<u8> {
-        self.image.text_of(text).expect("a text of the image").to_vec()
+    fn text(&self, text: u16) -> Option<Vec<u8>> {
+        self.image.text_of(text).map(<[u8]>::to_vec)
     }
 
     fn said(&self, function: u32, said: u16) -> String {

@@ -17,6 +17,8 @@ pub const NULL: Value = Value::Plain(None);
 /// What an Ok and an Err add to the sort.
 const OK: u64 = 8;
 const ERR: u64 = 16;
+/// A number that no text has; it stands for all that are larger.
+const NO_TEXT: u16 = u16::MAX;
 /// The bits that stand for every NaN.
 const NAN: u64 = 0x7ff8_0000_0000_0000;
 
@@ -42,7 +44,7 @@ impl Value {
             (0, 0) => None,
             (1, _) => Some(Folded::Int(payload as i64)),
             (2, _) => Some(Folded::Float(f64::from_bits(payload))),
-            (3, _) => Some(Folded::Str(u16::try_from(payload).ok()?)),
+            (3, _) => Some(Folded::Str(u16::try_from(payload).unwrap_or(NO_TEXT))),
             (4, 0 | 1) => Some(Folded::Bool(payload == 1)),
             _ => return None,
         };
@@ -91,13 +93,18 @@ pub struct Outcome {
 /// An outcome's words, without a text's number, and the text's bytes.
 pub type Shown = ([u64; 4], Vec<u8>);
 
-/// Shows the text in an outcome, whatever its number is.
-pub fn shown(words: [u64; 4], bytes: impl Fn(u16) -> Vec<u8>) -> Shown {
+/// Shows the text in an outcome, whatever its number is; a number that no text
+/// has stays as it is.
+pub fn shown(words: [u64; 4], bytes: impl Fn(u16) -> Option<Vec<u8>>) -> Shown {
     let [ending, steps, sort, payload] = words;
     let value = (1..=2).contains(&ending).then(|| Value::of([sort, payload])).flatten();
-    match value.and_then(Value::plain) {
-        Some(Folded::Str(text)) => ([ending, steps, sort, 0], bytes(text)),
-        _ => (words, Vec::new()),
+    let text = match value.and_then(Value::plain) {
+        Some(Folded::Str(text)) => bytes(text),
+        _ => None,
+    };
+    match text {
+        Some(text) => ([ending, steps, sort, 0], text),
+        None => (words, Vec::new()),
     }
 }
 

@@ -2,15 +2,15 @@
 
 use crate::image::{Image, WORK};
 use crate::rng::Rng;
-use crate::run::{Call, BUDGET, OUTCOME};
+use crate::run::{Call, BUDGET};
 
 /// Words that stand for no value.
 const NO_VALUES: [[u64; 2]; 13] = [
     [0, 1],
     [8, 1],
-    [3, 65_536],
-    [11, 1 << 32],
+    [16, u64::MAX],
     [4, 2],
+    [12, (1 << 32) + 1],
     [20, u64::MAX],
     [5, 0],
     [7, 0],
@@ -42,7 +42,10 @@ fn spoil(rng: &mut Rng, image: &Image, call: &mut Call) {
         3 => call.words.truncate(2 * count.saturating_sub(1)),
         4 => call.words = vec![0; 34],
         5..=7 => {
-            let missing = [rng.pick(&[3, 11, 19]), rng.pick(&[texts, texts + 1, 65_535])];
+            let low = rng.below(texts as usize + 1) as u64;
+            let above = [1 << 16, 1 << 17, 1 << 32, 1 << 63].map(|above| low + above);
+            let missing = [&above[..], &[texts, texts + 1, 65_534, 65_535, u64::MAX]].concat();
+            let missing = [rng.pick(&[3, 11, 19]), rng.pick(&missing)];
             replace(rng, call, missing);
         }
         8 | 9 => call.budget = rng.pick(&[BUDGET + 1, BUDGET + 2, 1 << 31, u32::MAX]),
@@ -51,7 +54,7 @@ fn spoil(rng: &mut Rng, image: &Image, call: &mut Call) {
             let none = rng.pick(&NO_VALUES);
             replace(rng, call, none);
         }
-        13 => call.room = rng.below(OUTCOME),
+        13 => _ = call.words.pop(),
         _ => call.work = rng.pick(&[0, 1, WORK - 1]),
     }
 }

@@ -5,8 +5,8 @@ use Rattle.rl_checker.proofs.AnswerLaws.{fitted-short, kept-none, fitte
 
 ruleset laws = (fitted-short, kept-none, fitted-all, kept-all)
 
-clear-reports-requires : tie.Need-clear-reports-requires
-clear-reports-requires c κs = search needs
+clear-entries-requires : tie.Need-clear-entries-requires
+clear-entries-requires c κs = search needs
 
 clear-requires : tie.Need-clear-requires
 clear-requires c κs = search needs
@@ -30,7 +30,7 @@ pub fitted-spec : {M : Type 1} → statement M
 fitted-spec =
     tie.close
     (tie.spec
-    clear-reports-requires
+    clear-entries-requires
     clear-requires
     same-length
     same-length-2

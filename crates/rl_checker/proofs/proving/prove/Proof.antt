@@ -8,8 +8,8 @@ use Rattle.rl_checker.proofs.AnswerLaws.{prove-unread, prove-unread-sli
 
 ruleset laws = (prove-unread, prove-unread-slice, prove-unread-work, prove-missing, prove-missing-slice, prove-missing-work, prove-found, prove-found-slice, prove-found-work)
 
-clear-reports-requires : tie.Need-clear-reports-requires
-clear-reports-requires c κs = search needs
+clear-entries-requires : tie.Need-clear-entries-requires
+clear-entries-requires c κs = search needs
 
 read-starts-requires : tie.Need-read-starts-requires
 read-starts-requires c κs = search needs
@@ -39,7 +39,7 @@ returns c =
     let k = length (now (a .work)) in
     let room = length (now (a .reports)) in
     let e = c .before .before .before .before .before .before .before .before .before .before .before .read-starts .ensures .0 in
-    let z = c .before .before .before .before .before .before .before .before .before .before .before .before .before .before .before .before .clear-reports .ensures in
+    let z = c .before .before .before .before .before .before .before .before .before .before .before .before .before .before .before .before .clear-entries .ensures in
     let f = c .before .before .before .before .before .before .before .answer2 .given .1 in
     let h = c .before .before .before .before .if1 .taken in (
       prove-missing s k room _ e _ z _ _ f (a .call) h,
@@ -71,7 +71,7 @@ same-length-5 : tie.Need-same-length-5
 same-length-5 c = search needs
 
 same-length-6 : tie.Need-same-length-6
-same-length-6 c = c .before .before .before .before .fitted .kept .1 .0 ∙ c .before .before .before .before .before .before .before .before .before .prove-one .kept .1 .1 .1 .1 .0 ∙ c .before .before .before .before .before .before .before .before .before .before .before .before .before .before .before .before .before .before .before .before .before .before .before .before .clear-reports .kept .0
+same-length-6 c = c .before .before .before .before .fitted .kept .1 .0 ∙ c .before .before .before .before .before .before .before .before .before .prove-one .kept .1 .1 .1 .1 .0 ∙ c .before .before .before .before .before .before .before .before .before .before .before .before .before .before .before .before .before .before .before .before .before .before .before .before .clear-entries .kept .0
 
 returns-3 : tie.Need-returns-3
 returns-3 c =
@@ -81,7 +81,7 @@ returns-3 c =
     let room = length (now (a .reports)) in
     let r = c .before .before .before .before .before .before .before .before .before .before .before .before .before .before .before .before .before .before .before .read-starts in
     let e = r .ensures .0 in
-    let z = c .before .before .before .before .before .before .before .before .before .before .before .before .before .before .before .before .before .before .before .before .before .before .before .before .clear-reports .ensures in
+    let z = c .before .before .before .before .before .before .before .before .before .before .before .before .before .before .before .before .before .before .before .before .before .before .before .before .clear-entries .ensures in
     let f = c .before .before .before .before .before .before .before .before .before .before .before .before .before .before .before .answer2 .given .1 in
     let bytes = c .before .before .before .before .before .before .before .before .before .before .before .before .before .before .before .before .before .before .before .before .before .before .before .before .before .before .before .before .shared-slice-known .given in
     let h = c .before .before .before .before .before .before .before .before .before .before .before .before .if1 .left in
@@ -98,7 +98,7 @@ pub prove-spec : {M : Type 1} → statement M
 prove-spec =
     tie.close
     (tie.spec
-    clear-reports-requires
+    clear-entries-requires
     read-starts-requires
     enum-known-answer
     enum-known-answer-2

@@ -7,8 +7,8 @@ use Rattle.rl_checker.proofs.AnswerLaws.{all-unread, all-unread-slice, 
 
 ruleset laws = (all-unread, all-unread-slice, all-unread-work, all-found, all-found-slice, all-found-work)
 
-clear-reports-requires : tie.Need-clear-reports-requires
-clear-reports-requires c κs = search needs
+clear-entries-requires : tie.Need-clear-entries-requires
+clear-entries-requires c κs = search needs
 
 read-starts-requires : tie.Need-read-starts-requires
 read-starts-requires c κs = search needs
@@ -48,7 +48,7 @@ returns-2 c =
     let room = length (now (a .reports)) in
     let r = c .before .before .before .before .before .before .before .before .before .before .before .before .before .before .before .before .before .read-starts in
     let e = r .ensures .0 in
-    let z = c .before .before .before .before .before .before .before .before .before .before .before .before .before .before .before .before .before .before .before .before .before .before .clear-reports .ensures in
+    let z = c .before .before .before .before .before .before .before .before .before .before .before .before .before .before .before .before .before .before .before .before .before .before .clear-entries .ensures in
     let f = c .before .before .before .before .before .before .before .before .before .before .before .before .before .answer2 .given .1 in
     let bytes = c .before .before .before .before .before .before .before .before .before .before .before .before .before .before .before .before .before .before .before .before .before .before .before .before .before .before .shared-slice-known .given in
     let o = c .before .before .before .before .before .before .before .before .before .prove-each in
@@ -64,7 +64,7 @@ pub prove-all-spec : {M : Type 1} → statement M
 prove-all-spec =
     tie.close
     (tie.spec
-    clear-reports-requires
+    clear-entries-requires
     read-starts-requires
     enum-known-answer
     enum-known-answer-2

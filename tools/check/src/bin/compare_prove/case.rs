@@ -6,6 +6,7 @@ use rlimg::fold::{self, Folded, Names};
 use rlimg::image::{Image, LENGTH_LIMIT, WORK};
 use rlimg::prove::{self, Report};
 use rlimg::schema::Section;
+use rlimg::texts;
 
 /// An answer, and what stands at the start of the lent slice after it; the
 /// rest is zero.
@@ -29,6 +30,8 @@ pub struct Case {
     pub values: Vec<Option<Folded>>,
     /// The independent prover's reports of each call.
     pub reports: Vec<Vec<Report>>,
+    /// Their messages.
+    messages: Vec<Vec<String>>,
 }
 
 impl Case {
@@ -40,7 +43,9 @@ impl Case {
         heights.truncate(counts[3] + counts[4]);
         let values = fold::values(&image, &Names::new());
         let reports = (0..counts[8]).map(|call| prove::reports_of(&image, call)).collect();
-        Case { bytes, read, heights, image, values, reports }
+        let messages = (0..counts[8] as u32).filter_map(|call| texts::messages(&image, call));
+        let messages = messages.collect();
+        Case { bytes, read, heights, image, values, reports, messages }
     }
 
     pub fn is_accepted(&self) -> bool {
@@ -96,5 +101,31 @@ impl Case {
         }
         let answer = Answer { number: 0, place: reports.len() as u32 };
         Expected { answer, output: reports.concat() }
+    }
+
+    /// Where a text is, and how many bytes it has above 16 bits.
+    pub fn text(&self, work: usize, text: u32) -> Expected<u8> {
+        if let Some(unread) = self.unread(work) {
+            return unread;
+        }
+        match texts::text(&self.image, text) {
+            None => refused(20),
+            Some((start, length)) => {
+                let place = u32::from(start) | u32::from(length) << 16;
+                Expected { answer: Answer { number: 0, place }, output: Vec::new() }
+            }
+        }
+    }
+
+    /// The message of a call's report, empty where there is no such report.
+    pub fn message(&self, work: usize, call: u32, report: u32) -> Expected<u8> {
+        if let Some(unread) = self.unread(work) {
+            return unread;
+        }
+        let Some(messages) = self.messages.get(call as usize) else {
+            return refused(17);
+        };
+        let output = messages.get(report as usize).cloned().unwrap_or_default().into_bytes();
+        Expected { answer: Answer { number: 0, place: output.len() as u32 }, output }
     }
 }

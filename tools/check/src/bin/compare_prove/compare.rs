@@ -7,6 +7,7 @@ use crate::tally::{sort_of, Tally};
 use check::ffi::{self, Answer};
 use check::said;
 use check::slices::{check_slice, lend, Lent, GARBAGE};
+use oracle::Report;
 use rlimg::image::WORK;
 use rlimg::rng::Rng;
 use std::fmt::Debug;
@@ -20,16 +21,17 @@ pub struct Differs(pub String);
 pub struct Comparison {
     pub tally: Tally,
     rng: Rng,
-    work: Vec<u16>,
+    pub work: Vec<u16>,
     reports: Vec<u32>,
     value: Vec<u64>,
+    pub message: Vec<u8>,
 }
 
 impl Comparison {
     pub fn new(seed: u64) -> Comparison {
         let (tally, rng) = (Tally::default(), Rng::new(seed));
-        let (work, reports, value) = (Vec::new(), Vec::new(), Vec::new());
-        Comparison { tally, rng, work, reports, value }
+        let (work, reports, value, message) = (Vec::new(), Vec::new(), Vec::new(), Vec::new());
+        Comparison { tally, rng, work, reports, value, message }
     }
 
     /// Everything about one image.
@@ -37,20 +39,24 @@ impl Comparison {
         self.tally.images += 1;
         self.tally.refused += usize::from(!case.is_accepted());
         let mut asked = Asked::new(case);
-        self.proving_all(case, &mut asked)?;
+        let reports = asked.as_mut().and_then(Asked::reports);
+        self.tally.original.unasked[0] += usize::from(asked.is_some() && reports.is_none());
+        self.proving_all(case, reports.as_deref())?;
         self.proving_each(case)?;
         self.folding_all(case, &mut asked)?;
-        self.folding_others(case)
+        self.folding_others(case)?;
+        self.texts(case)?;
+        self.messages(case, reports.as_deref())
     }
 
-    fn proving_all(&mut self, case: &Case, asked: &mut Option<Asked>) -> Result<(), Differs> {
+    fn proving_all(&mut self, case: &Case, theirs: Option<&[Report]>) -> Result<(), Differs> {
         let exact = 4 * case.reports.iter().map(Vec::len).sum::<usize>();
         self.prove(case, WORK, None, exact)?;
         for report in self.reports[..exact].chunks(4) {
             self.tally.reports[report[2] as usize] += 1;
         }
-        if let Some(asked) = asked {
-            self.original_reports(case, asked, exact)?;
+        if let Some(theirs) = theirs {
+            self.original_reports(case, theirs, exact)?;
         }
         let more = exact + 1 + self.rng.below(9);
         self.prove(case, WORK, None, more)?;
@@ -110,8 +116,16 @@ impl Comparison {
         Ok(())
     }
 
+    pub fn any_below(&mut self, count: u32) -> u32 {
+        self.rng.below(count as usize + 1) as u32
+    }
+
+    pub fn pick(&mut self, numbers: &[u32]) -> u32 {
+        self.rng.pick(numbers)
+    }
+
     /// Mostly enough.
-    fn any_work(&mut self) -> usize {
+    pub fn any_work(&mut self) -> usize {
         let any = self.rng.below(WORK);
         self.rng.pick(&[WORK, WORK + 1, 9_000, WORK + any, WORK - 1, any])
     }
@@ -172,12 +186,12 @@ impl Comparison {
         Ok(words)
     }
 
-    fn check_work(&self, case: &Case, answer: Answer, work: usize) -> Result<(), String> {
+    pub fn check_work(&self, case: &Case, answer: Answer, work: usize) -> Result<(), String> {
         let heights = if answer.number == 0 { &case.heights[..] } else { &[] };
         check_slice("work", heights, (&self.work, work, GARBAGE.0))
     }
 
-    fn refused(&mut self, number: u32) {
+    pub fn refused(&mut self, number: u32) {
         *self.tally.refusals.entry(number).or_default() += 1;
     }
 
@@ -185,16 +199,12 @@ impl Comparison {
     fn original_reports(
         &mut self,
         case: &Case,
-        asked: &mut Asked,
+        theirs: &[Report],
         used: usize,
     ) -> Result<(), Differs> {
-        let Some(theirs) = asked.reports() else {
-            self.tally.original.unasked[0] += 1;
-            return Ok(());
-        };
         let reports = self.reports[..used].chunks(4);
         let said = reports.clone().map(|report| said(&case.image, report));
-        let differs = said.zip(&theirs).find(|(ours, theirs)| ours.as_ref() != Some(theirs));
+        let differs = said.zip(theirs).find(|(ours, theirs)| ours.as_ref() != Some(theirs));
         if let Some((ours, theirs)) = differs {
             return Err(Differs(format!("rl_prove_all says {ours:?}, the original {theirs:?}")));
         }
@@ -236,7 +246,7 @@ fn same_nan(expected: &[u64], value: &mut [u64; WORDS]) {
     }
 }
 
-fn check_output<T: Copy + PartialEq + Default + Debug>(
+pub fn check_output<T: Copy + PartialEq + Default + Debug>(
     expected: &Expected<T>,
     answer: Answer,
     lent: Lent<T>,

@@ -1,12 +1,13 @@
-//! `compare_prove [CASES] [SEED]`: the library's `rl_fold`, `rl_prove` and
-//! `rl_prove_all` against the independent folder and prover; where the original
-//! is here, the reports' messages against its own, and each folded value
-//! against its `const_eval`.
+//! `compare_prove [CASES] [SEED]`: the library's `rl_fold`, `rl_prove`,
+//! `rl_prove_all`, `rl_text` and `rl_message` against the independent folder,
+//! prover and texts; where the original is here, the reports' messages against
+//! its own, and each folded value against its `const_eval`.
 
 mod case;
 mod compare;
 mod original;
 mod tally;
+mod texts;
 
 use case::Case;
 use compare::{Comparison, Differs};

@@ -6,13 +6,14 @@
 //! N`, `fault NUMBER steps N` or `spent steps N`.
 
 mod bodies;
+mod words;
 
 use rlimg::code;
 use rlimg::damage::damage;
 use rlimg::encode::encode;
 use rlimg::image::{Image, WORK};
 use rlimg::rng::Rng;
-use rlimg::run::{answer, Call, BUDGET, OUTCOME};
+use rlimg::run::{answer, Call, BUDGET};
 use rlimg::runs::{self, Run};
 use std::collections::HashMap;
 use std::path::Path;
@@ -27,7 +28,7 @@ const SHORT: u64 = 12;
 const LONG: u32 = 3_000;
 
 fn call(words: &[u64], budget: u32) -> Call {
-    Call { work: WORK, function: 0, words: words.to_vec(), budget, room: OUTCOME }
+    Call { work: WORK, function: 0, words: words.to_vec(), budget }
 }
 
 #[derive(Default)]
@@ -149,6 +150,7 @@ fn main() -> std::io::Result<()> {
     let mut cases = Cases::default();
     cases.bodies();
     cases.refusals();
+    cases.words();
     cases.generated();
     std::fs::create_dir_all(folder)?;
     std::fs::write(folder.join("stdin"), &cases.input)?;

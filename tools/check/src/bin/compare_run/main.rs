@@ -1,6 +1,8 @@
 //! `compare_run [FUNCTIONS] [SEED]`: the library's `rl_run` against the
 //! independent runner, on generated functions with budgets around what they
-//! take, on calls that are refused and on damaged images.
+//! take, on calls that are refused, on listed words and on damaged images.
+
+mod words;
 
 use check::runs::{compare, Case, Slices};
 use rlimg::damage::damage;
@@ -17,7 +19,7 @@ const ENOUGH: usize = 50;
 /// A run of more steps is not waited for, or rarely.
 const LONG: u32 = 2_000;
 /// The refusals that are looked for.
-const REFUSALS: [u32; 14] = [2, 3, 4, 5, 6, 7, 8, 10, 11, 19, 20, 21, 100, 1];
+const REFUSALS: [u32; 13] = [1, 2, 3, 4, 5, 6, 7, 8, 10, 11, 19, 20, 21];
 const SPENT: u64 = 4;
 const FAULT: u64 = 3;
 
@@ -30,6 +32,8 @@ struct Tally {
     outcomes: [usize; 4],
     faults: [usize; 5],
     refusals: BTreeMap<u32, usize>,
+    /// Listed words, each of which had all of its answers.
+    words: usize,
 }
 
 struct Comparison {
@@ -42,7 +46,8 @@ struct Comparison {
 struct Differs;
 
 impl Comparison {
-    fn compare(&mut self, case: &Case, call: &Call) -> Result<(), Differs> {
+    /// Gives the refusal's number, 0 for a run.
+    fn compare(&mut self, case: &Case, call: &Call) -> Result<u32, Differs> {
         self.tally.runs += 1;
         match compare(&mut self.slices, case, call) {
             Err(fault) => {
@@ -52,18 +57,21 @@ impl Comparison {
                     Ok(image) => print!("{}", text::dump(image)),
                     Err(refusal) => println!("refused {} at {}", refusal.number, refusal.place),
                 }
-                return Err(Differs);
+                Err(Differs)
             }
-            Ok(Err(refusal)) => *self.tally.refusals.entry(refusal.number).or_default() += 1,
+            Ok(Err(refusal)) => {
+                *self.tally.refusals.entry(refusal.number).or_default() += 1;
+                Ok(refusal.number)
+            }
             Ok(Ok([outcome, steps, first, _])) => {
                 self.tally.steps += steps;
                 self.tally.outcomes[outcome as usize - 1] += 1;
                 if outcome == FAULT {
                     self.tally.faults[first as usize - 1] += 1;
                 }
+                Ok(0)
             }
         }
-        Ok(())
     }
 
     /// A generated function, with all that is tried on it.
@@ -79,8 +87,7 @@ impl Comparison {
         };
         for budget in budgets {
             let work = if self.rng.one_in(8) { WORK + self.rng.below(900) } else { WORK };
-            let room = OUTCOME + self.rng.pick(&[0, 0, 2, 7]);
-            self.compare(&case, &Call { budget, work, room, ..run.call.clone() })?;
+            self.compare(&case, &Call { budget, work, ..run.call.clone() })?;
         }
         // What is refused in neither is run, so the budget is small.
         let call = Call { budget: LONG, ..run.call };
@@ -122,24 +129,19 @@ impl Comparison {
         let images = [vec![1; 65_536], vec![0; 70_000], encode(&without), encode(&empty), vec![]];
         for case in images.map(Case::new) {
             for work in [0, WORK - 1, WORK, 9_000] {
-                for room in [0, OUTCOME - 1, OUTCOME, OUTCOME + 2] {
-                    self.words_and_functions(&case, work, room)?;
-                }
+                self.words_and_functions(&case, work)?;
             }
         }
         Ok(())
     }
 
-    fn words_and_functions(
-        &mut self,
-        case: &Case,
-        work: usize,
-        room: usize,
-    ) -> Result<(), Differs> {
+    fn words_and_functions(&mut self, case: &Case, work: usize) -> Result<(), Differs> {
         for words in [&[][..], &[0], &[0, 0], &[5, 0], &[3, 9]] {
-            for function in [0, 1, u32::MAX] {
-                let (words, budget) = (words.to_vec(), self.rng.pick(&[0, BUDGET, BUDGET + 1]));
-                self.compare(case, &Call { work, function, words, budget, room })?;
+            for (function, budget) in [0, 1, u32::MAX]
+                .into_iter()
+                .flat_map(|function| [0, BUDGET, BUDGET + 1].map(|budget| (function, budget)))
+            {
+                self.compare(case, &Call { work, function, words: words.to_vec(), budget })?;
             }
         }
         Ok(())
@@ -152,7 +154,7 @@ fn main() -> ExitCode {
     let seed = arguments.next().unwrap_or(1);
     let (tally, rng, slices) = (Tally::default(), Rng::new(seed), Slices::default());
     let mut comparison = Comparison { tally, rng, slices };
-    let mut done = comparison.listed();
+    let mut done = comparison.listed().and_then(|()| comparison.listed_words());
     while done.is_ok() && comparison.tally.functions < functions {
         done = comparison.function();
     }
@@ -174,10 +176,12 @@ fn summary(tally: &Tally) -> ExitCode {
     let faults = named(&["1", "2", "3", "4", "5"], &tally.faults);
     let refusals = tally.refusals.iter().map(|(number, count)| format!("{number}: {count}"));
     println!(
-        "compare_run: {} functions, {} runs, {} steps, 0 differ; {outcomes}; faults {faults}; refusals {}",
+        "compare_run: {} functions, {} runs, {} steps, 0 differ; {outcomes}; faults {faults}; \
+         {} listed words with all their answers; refusals {}",
         tally.functions,
         tally.runs,
         tally.steps,
+        tally.words,
         refusals.collect::<Vec<String>>().join(", "),
     );
     let refused = |number: &u32| tally.refusals.get(number).copied().unwrap_or(0);

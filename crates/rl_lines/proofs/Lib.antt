@@ -1,0 +1,4 @@
+pub mod OpenLaws
+pub mod CallLaws
+pub mod LineLaws
+pub mod AnswerLaws
