@@ -36,7 +36,7 @@ sh tools/shared_condition.sh
 phase definitions
 
 # the library, compared with an independent reader, folder, prover, runner and lowering and, where it is here, with the original;
-# the printer too
+# the stack that it takes; the printer too
 rt staticlib rl_abi >"$new/library" 2>&1 || { cat "$new/library"; exit 1; }
 (cd tools && cargo test --quiet -p rlimg -p oracle >"$new/tests" 2>&1) || { cat "$new/tests"; exit 1; }
 (cd tools && cargo build --quiet --release)
@@ -48,6 +48,7 @@ tools/target/release/compare_lower 100000
 tools/target/release/compare_lowered 10000
 tools/target/release/compare_reading 100000
 tools/target/release/lower_limits
+tools/target/release/stack_limits
 tools/target/release/compare_print
 
 # the stored cases and the sample are what the tools make

@@ -2,8 +2,10 @@
 use rl_boundary::arguments_of;
 use rl_boundary::pack;
 use rl_boundary::pack_lowered;
+use rl_boundary::pack_message;
 use rl_boundary::pack_proved;
 use rl_boundary::pack_read;
+use rl_boundary::pack_text;
 use rl_boundary::put_outcome;
 use rl_boundary::put_value;
 use rl_boundary::put_words;
@@ -20,7 +22,8 @@ ghost use Rattle.rl_spec.specs.Fold.{foldOf, foldNumber, workUnless};
 ghost use Rattle.rl_spec.specs.Prove.{proveOf, reportsOf, proveAllOf, allReportsOf, proveNumber};
 ghost use Rattle.rl_spec.specs.Lowerer.{lowerOf, lowerAnswer, lowerNumber, lowerOut};
 ghost use Rattle.rl_spec.specs.Runner.{runOf, runNumber};
-ghost use Rattle.rl_spec.specs.Boundary.{provePacked, lowerPacked, idOf, foldPacked, foldWords, argumentsOf, runPacked, runWords};
+ghost use Rattle.rl_spec.specs.Texts.{textFor, textNumber, messageAnswer, messageOut, messageNumber};
+ghost use Rattle.rl_spec.specs.Boundary.{provePacked, lowerPacked, idOf, foldPacked, foldWords, argumentsOf, runPacked, runWords, textPacked, messagePacked};
 
 // Reads an image. The high 32 bits are the refusal's number, 0 where the image is accepted, and the low 32 bits its place.
 #[no_mangle]
@@ -119,4 +122,30 @@ pub extern "C" fn rl_lower(image: &[u8], work: &mut [u16], function: u32, out: &
     ensures { λ r. ⌜ now (work .exit) ≡ workUnless (lowerNumber (lowerOf (now (image .entry)) (length (now (work .entry))) function (length (now (out .entry))))) (now (image .entry)) (length (now (work .entry))) ⌝ }
 {
     pack_lowered(rl_resolver::lower(image, work, function, out))
+}
+
+// Reads an image and finds a text. The low 32 bits: where its bytes start in the image, and above 16 of them how many they are.
+#[no_mangle]
+pub extern "C" fn rl_text(image: &[u8], work: &mut [u16], text: u32) -> u64
+    ensures { λ r. ⌜ r ≡ textPacked (textFor (now (image .entry)) (length (now (work .entry))) text) ⌝ }
+    ensures { λ r. ⌜ now (work .exit) ≡ workUnless (textNumber (textFor (now (image .entry)) (length (now (work .entry))) text)) (now (image .entry)) (length (now (work .entry))) ⌝ }
+{
+    pack_text(rl_lines::text(image, work, text))
+}
+
+// Reads an image and puts the message of a call's report of a number, from 0. The low 32 bits are its length, 0 where the call has no
+// such report.
+#[no_mangle]
+pub extern "C" fn rl_message(
+    image: &[u8],
+    work: &mut [u16],
+    call: u32,
+    report: u32,
+    out: &mut [u8; 65535],
+) -> u64
+    ensures { λ r. ⌜ r ≡ messagePacked (messageAnswer (now (image .entry)) (length (now (work .entry))) call report) ⌝ }
+    ensures { λ r. ⌜ now (out .exit) ≡ messageOut (now (image .entry)) (length (now (work .entry))) call report ⌝ }
+    ensures { λ r. ⌜ now (work .exit) ≡ workUnless (messageNumber (messageAnswer (now (image .entry)) (length (now (work .entry))) call report)) (now (image .entry)) (length (now (work .entry))) ⌝ }
+{
+    pack_message(rl_lines::message(image, work, call, report, out))
 }

@@ -1,4 +1,4 @@
-// The reports of an image's calls as lines of text on standard output.
+// The lines of an image's reports, or of its refusal, on standard output.
 mod print;
 
 pub use print::print_reports;

@@ -17,14 +17,14 @@ fn write_line(line: &[u8; 128], n: usize) {
 }
 
 // NAME SORT PAYLOAD steps N
-fn put_value(name: &[u8], outcome: &[u64; 6], line: &mut [u8]) -> usize {
+fn put_value(name: &[u8], outcome: &[u64; 4], line: &mut [u8]) -> usize {
     let mut at = put_text(line, 0, name);
     at = put_number(line, at, long_at(outcome, 2));
     at = put_text(line, at, b" ");
     put_number(line, at, long_at(outcome, 3))
 }
 
-fn put_outcome(outcome: &[u64; 6], line: &mut [u8]) -> usize {
+fn put_outcome(outcome: &[u64; 4], line: &mut [u8]) -> usize {
     match long_at(outcome, 0) {
         1 => put_value(b"returned ", outcome, line),
         2 => put_value(b"stopped ", outcome, line),
@@ -36,7 +36,7 @@ fn put_outcome(outcome: &[u64; 6], line: &mut [u8]) -> usize {
     }
 }
 
-fn write_outcome(answer: u64, outcome: &[u64; 6]) {
+fn write_outcome(answer: u64, outcome: &[u64; 4]) {
     let mut line = [0u8; 128];
     if answer != 0 {
         let mut at = put_text(&mut line, 0, b"refused ");
@@ -64,7 +64,7 @@ fn read_words(bytes: &[u8], words: &mut [u64]) {
 }
 
 fn replay(image: &[u8], work: &mut [u16], head: &[u8], words: &[u64]) {
-    let mut outcome = [0u64; 6];
+    let mut outcome = [0u64; 4];
     let answer = rl_run(
         image,
         work,

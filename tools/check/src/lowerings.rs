@@ -58,9 +58,13 @@ pub fn run(
     values: &[Value],
     budget: u32,
 ) -> Result<Shown, u32> {
-    let (mut work, mut outcome) = ([0; WORK], [0; OUTCOME]);
+    let (mut work, mut lent) = ([0; WORK], [GARBAGE.2; OUTCOME + 1]);
+    let outcome: &mut [u64; OUTCOME] = lent.first_chunk_mut().expect("lent");
     let words: Vec<u64> = values.iter().flat_map(|value| value.words()).collect();
-    match ffi::run(bytes, &mut work, function, &words, budget, &mut outcome).number {
+    let answer = ffi::run(bytes, &mut work, function, &words, budget, outcome);
+    let outcome = *outcome;
+    assert_eq!(lent[OUTCOME], GARBAGE.2, "the outcome is written behind its end");
+    match answer.number {
         0 => Ok(shown(same_nan(outcome), |text| image.text_of(text).map(<[u8]>::to_vec))),
         number => Err(number),
     }

@@ -4,10 +4,10 @@
 use rlimg::code::{self, Code};
 use rlimg::encode::encode;
 use rlimg::fold::Folded::{self, Bool, Float, Int, Str};
-use rlimg::image::{Image, Value as Field, LENGTH_LIMIT, WORK};
-use rlimg::reader::{read, Refusal};
+use rlimg::image::{Image, Value as Field, WORK};
+use rlimg::reader::read;
 use rlimg::run::Ending::{self, Returned, Spent, Stopped};
-use rlimg::run::{self, Call, Fault, Outcome, Program, Value, BINDINGS, BUDGET, NULL};
+use rlimg::run::{Fault, Outcome, Program, Value, BINDINGS, BUDGET, NULL};
 
 const PLUS: u16 = 1;
 const MINUS: u16 = 2;
@@ -367,50 +367,4 @@ fn bindings_up_to_the_limit() {
         all
     };
     check(turns, Returned(NULL), 34 + 1 + 3 * (1 + 3 + 200 + 5) + 4);
-}
-
-#[test]
-fn refusals() {
-    let image = code::image(&["a"], |_| vec![]);
-    let bytes = encode(&image);
-    let missing = image.texts.len() as u64;
-    let call =
-        |words: &[u64]| Call { work: WORK, function: 0, words: words.to_vec(), budget: BUDGET };
-    let refused = |bytes: &[u8], call: Call, number| {
-        assert_eq!(run::answer(bytes, &call), Err(Refusal { number, place: 0 }));
-    };
-    assert_eq!(run::answer(&bytes, &call(&[3, missing - 1])), Ok([1, 0, 0, 0]));
-    refused(&bytes, Call { function: 1, ..call(&[]) }, 11);
-    refused(&bytes, call(&[]), 19);
-    refused(&bytes, call(&[3, missing, 0, 0]), 19);
-    for sort in [3, 11, 19] {
-        refused(&bytes, Call { budget: BUDGET + 1, ..call(&[sort, missing]) }, 20);
-    }
-    refused(&bytes, Call { budget: BUDGET + 1, ..call(&[0, 0]) }, 21);
-    refused(&encode(&code::image(&["a"; 17], |_| vec![])), call(&[0; 34]), 19);
-    refused(&bytes, Call { work: WORK - 1, function: 1, ..call(&[]) }, 2);
-    refused(&vec![1; LENGTH_LIMIT + 1], Call { work: 0, ..call(&[]) }, 1);
-    for words in [&[0][..], &[0, 1], &[5, 0], &[24, 0], &[12, 2], &[1 << 32, 0], &[3, missing, 0]] {
-        let over = Call { budget: BUDGET + 1, ..call(words) };
-        refused(&bytes, over.clone(), 19);
-        refused(&bytes, Call { function: 1, ..over.clone() }, 11);
-        refused(&bytes, Call { work: WORK - 1, ..over }, 2);
-        refused(&[], call(words), 3);
-    }
-    for text in [65_535, 65_536, 131_072, u64::MAX] {
-        refused(&bytes, Call { budget: BUDGET + 1, ..call(&[11, text]) }, 20);
-        refused(&bytes, call(&[3, text, 0, 0]), 19);
-    }
-}
-
-#[test]
-fn words_come_back() {
-    let plain = [None, Some(Int(-1)), Some(Float(-0.0)), Some(Str(65_535)), Some(Bool(true))];
-    for plain in plain {
-        for value in [Value::Plain(plain), Value::Ok(plain), Value::Err(plain)] {
-            assert_eq!(Value::of(value.words()), Some(value));
-        }
-    }
-    let nan = Outcome { ending: given(Float(-f64::NAN)), steps: 3 };
-    assert_eq!(nan.words(), [1, 3, 2, 9_221_120_237_041_090_560]);
 }

@@ -3,10 +3,10 @@
 
 use rlimg::decode::decode;
 use rlimg::encode::encode;
-use rlimg::image::{Image, Value as Field, NONE, WORK};
+use rlimg::image::{Image, Value as Field, NONE};
 use rlimg::rng::Rng;
-use rlimg::run::{answer_to, Call, Program, Value, BUDGET};
-use rlimg::runs::{self, words, Run};
+use rlimg::run::{answer_to, Call, Program, Value};
+use rlimg::runs::{self, Run};
 use rlimg::schema::{Section, ROWS};
 use std::collections::{BTreeMap, HashSet};
 
@@ -143,26 +143,5 @@ fn see_texts(seen: &mut HashSet<String>, image: &Image) {
     let texts: HashSet<_> = (0..image.texts.len() as u16).map(|text| image.text_of(text)).collect();
     if texts.len() < image.texts.len() {
         seen.insert("a text twice".to_string());
-    }
-}
-
-#[test]
-fn listed_words_have_their_answers() {
-    let image = Ok(words::image());
-    for listed in words::listed() {
-        let count = listed.words.len() as u32 / 2;
-        let answer = |function, budget| {
-            let call = Call { work: WORK, function, words: listed.words.clone(), budget };
-            answer_to(&image, &call).map_or_else(|refusal| refusal.number, |_| 0)
-        };
-        let (alone, over) = match listed.kind {
-            words::Kind::Values => (0, 21),
-            words::Kind::NoValues => (19, 19),
-            words::Kind::NoText => (20, 20),
-        };
-        assert_eq!(answer(99, BUDGET + 1), 11, "{}", listed.name);
-        assert_eq!(answer((count + 1) % 18, BUDGET + 1), 19, "{}", listed.name);
-        assert_eq!(answer(count % 18, BUDGET + 1), over, "{}", listed.name);
-        assert_eq!(answer(count % 18, BUDGET), alone, "{}", listed.name);
     }
 }

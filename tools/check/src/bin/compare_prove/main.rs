@@ -17,6 +17,7 @@ use rlimg::encode::encode;
 use rlimg::image::{Image, EXPRESSION_HEIGHT};
 use rlimg::random::{self, Shape};
 use rlimg::rng::Rng;
+use rlimg::schema::Section;
 use rlimg::{edges, hostile, rules};
 use std::process::ExitCode;
 use std::time::{Duration, Instant};
@@ -45,11 +46,14 @@ fn listed(comparison: &mut Comparison) -> Result<(), Shown> {
     compare(comparison, vec![1; 65_536])
 }
 
-/// Shared sums, ever taller, a deep one, and a call that asks for much work.
+/// Shared sums, ever taller, a deep one, a call that asks for much work, and
+/// one with as many and as long messages as can be.
 fn hostile(comparison: &mut Comparison) -> Result<(), Shown> {
     let heights = (4..=usize::from(EXPRESSION_HEIGHT)).step_by(4);
     let mut images: Vec<Image> = heights.map(hostile::doubled).collect();
-    images.extend([hostile::deep_tree(), hostile::worst_call()]);
+    images.extend([hostile::deep_tree(), hostile::worst_call(), hostile::longest_output()]);
+    let longest = images.last_mut().expect("the longest output");
+    longest.of_mut(Section::Call).truncate(1);
     for image in images {
         let (bytes, start) = (encode(&image), Instant::now());
         compare(comparison, bytes.clone())?;

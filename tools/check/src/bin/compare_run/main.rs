@@ -32,8 +32,9 @@ struct Tally {
     outcomes: [usize; 4],
     faults: [usize; 5],
     refusals: BTreeMap<u32, usize>,
-    /// Listed words, each of which had all of its answers.
-    words: usize,
+    /// Listed words that had all of their answers: values, no values, values
+    /// of which a text is missing.
+    words: [usize; 3],
 }
 
 struct Comparison {
@@ -137,11 +138,11 @@ impl Comparison {
 
     fn words_and_functions(&mut self, case: &Case, work: usize) -> Result<(), Differs> {
         for words in [&[][..], &[0], &[0, 0], &[5, 0], &[3, 9]] {
-            for (function, budget) in [0, 1, u32::MAX]
-                .into_iter()
-                .flat_map(|function| [0, BUDGET, BUDGET + 1].map(|budget| (function, budget)))
-            {
-                self.compare(case, &Call { work, function, words: words.to_vec(), budget })?;
+            for function in [0, 1, u32::MAX] {
+                for budget in [0, BUDGET, BUDGET + 1] {
+                    let words = words.to_vec();
+                    self.compare(case, &Call { work, function, words, budget })?;
+                }
             }
         }
         Ok(())
@@ -174,18 +175,18 @@ fn summary(tally: &Tally) -> ExitCode {
     };
     let outcomes = named(&["returned", "stopped", "fault", "spent"], &tally.outcomes);
     let faults = named(&["1", "2", "3", "4", "5"], &tally.faults);
+    let words = named(&["values", "no values", "no text"], &tally.words);
     let refusals = tally.refusals.iter().map(|(number, count)| format!("{number}: {count}"));
     println!(
         "compare_run: {} functions, {} runs, {} steps, 0 differ; {outcomes}; faults {faults}; \
-         {} listed words with all their answers; refusals {}",
+         listed words {words}; refusals {}",
         tally.functions,
         tally.runs,
         tally.steps,
-        tally.words,
         refusals.collect::<Vec<String>>().join(", "),
     );
     let refused = |number: &u32| tally.refusals.get(number).copied().unwrap_or(0);
-    let counts = tally.outcomes.iter().chain(&tally.faults).copied();
+    let counts = tally.outcomes.iter().chain(&tally.faults).chain(&tally.words).copied();
     if counts.chain(REFUSALS.iter().map(refused)).min() < Some(ENOUGH) {
         println!("something was seen fewer than {ENOUGH} times");
         return ExitCode::FAILURE;

@@ -22,7 +22,7 @@ impl Comparison {
                 println!("{}: the answers are {seen:?}, expected {must:?}", words.name);
                 return Err(Differs);
             }
-            self.tally.words += 1;
+            self.tally.words[words.kind as usize] += 1;
         }
         Ok(())
     }

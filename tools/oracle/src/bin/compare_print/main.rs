@@ -1,16 +1,24 @@
-//! `compare_print [N] [SEED]`: what the printer prints, against the independent
-//! prover's reports and reader's refusals and, where it is here, the original's
-//! reports, on listed images and on N generated and damaged ones. The printer
-//! is RL_PRINTER, or else `target/bin/rl_printer` of the repository.
+//! `compare_print [N] [SEED] [MEGABYTES]`: what the printer prints, against the
+//! independent prover's reports and reader's refusals and, where it is here, the
+//! original's reports, on listed images and on N generated and damaged ones;
+//! where standard input or output cannot be used; and the longest output that
+//! there can be, all of it or so many megabytes. The printer is RL_PRINTER, or
+//! else `target/bin/rl_printer` of the repository.
+
+mod child;
+mod failing;
+mod longest;
 
 use oracle::{HERE, independent_lines, lines, marked, picked};
 use rlimg::damage::damage;
 use rlimg::decode::decode;
 use rlimg::encode::encode;
+use rlimg::hostile::longest_output;
 use rlimg::image::Image;
 use rlimg::rng::Rng;
 use rlimg::rules;
 use std::ffi::OsString;
+use std::fmt;
 use std::io::Write;
 use std::process::{Command, ExitCode, Stdio};
 
@@ -86,6 +94,13 @@ struct Tally {
     original: usize,
 }
 
+impl fmt::Display for Tally {
+    fn fmt(&self, f: &mut fmt::Formatter<'_>) -> fmt::Result {
+        let Tally { images, refused, lines, .. } = self;
+        write!(f, "{images} images ({refused} refused), 0 differ; {lines} lines")
+    }
+}
+
 impl Tally {
     fn image(&mut self, printer: &OsString, bytes: &[u8]) -> Result<(), String> {
         let ours = printed(printer, bytes).map_err(|fault| format!("{printer:?}: {fault}"))?;
@@ -122,15 +137,31 @@ fn main() -> ExitCode {
     let count = arguments.next().unwrap_or(300) as usize;
     let seed = arguments.next().unwrap_or(1);
     let printer = std::env::var_os("RL_PRINTER").unwrap_or(PRINTER.into());
-    match compare(&printer, count, seed) {
-        Ok(Tally { images, refused, lines, original }) => {
-            println!("compare_print: {images} images ({refused} refused), 0 differ; {lines} lines");
-            println!("compare_print: {}", oracle::compared(&format!("{original} images")));
+    let most = arguments.next().map_or(u64::MAX, |megabytes| megabytes * 1_000_000);
+    let done = compare(&printer, count, seed).and_then(|tally| {
+        println!("compare_print: {tally}");
+        let original = format!("{} images", tally.original);
+        println!("compare_print: {}", oracle::compared(&original));
+        hard(&printer, most)
+    });
+    match done {
+        Ok(said) => {
+            println!("compare_print: {said}");
             ExitCode::SUCCESS
         }
         Err(fault) => {
-            println!("{fault}");
+            println!("compare_print: {fault}");
             ExitCode::FAILURE
         }
     }
+}
+
+/// Where standard input or output fails, and the longest output.
+fn hard(printer: &OsString, most: u64) -> Result<String, String> {
+    let (small, large) = (marked::cases().swap_remove(0).image, longest_output());
+    let failing = failing::compare(printer, &[&encode(&small), &encode(&large)])?;
+    let longest::Compared { bytes, lines } =
+        longest::compare(printer, most).map_err(|fault| format!("the longest output: {fault}"))?;
+    let longest = format!("the longest output: {lines} lines, {bytes} bytes, 0 differ");
+    Ok(format!("{failing} runs with failing input or output; {longest}"))
 }
