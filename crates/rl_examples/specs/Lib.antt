@@ -35,3 +35,5 @@ pub mod ReadingTable
 pub mod DemandExamples
 -- ---- what the printer writes
 pub mod PrinterExamples
+-- ---- what C and Rust get
+pub mod BoundaryTable

@@ -1,24 +1,29 @@
 -- What each entry point leaves in the slices that are lent to it: zeros where it refuses, and else what it answers, then zeros.
 -- Assumes nothing.
 use Prim.Native.Nat.{ℕ, _-_}
-use mathlib.Core.Path.{_≡_, refl, sym}
+use mathlib.Core.Path.{_≡_, refl, sym, ap, _∙_}
 use mathlib.Core.List.{List, _++_}
 use lib.ListN.{length, replicate}
 use Rattle.rl_spec.specs.declared.Id.{Id}
 use Rattle.rl_spec.specs.declared.Cause.{Cause}
 use Rattle.rl_spec.specs.declared.Folded.{Folded}
 use Rattle.rl_spec.specs.declared.FoldAnswer.the-variants as fold
+use Rattle.rl_spec.specs.declared.MessageAnswer.the-variants as message
 use Rattle.rl_spec.specs.declared.ProveAnswer.the-variants as prove
 use Rattle.rl_spec.specs.declared.Arguments.{Arguments}
 use Rattle.rl_spec.specs.declared.Outcome.{Outcome}
 use Rattle.rl_spec.specs.declared.RunAnswer.the-variants as run
+use Rattle.rl_spec.specs.declared.TextAnswer.the-variants as text
+use Rattle.rl_spec.specs.declared.TextPart.{TextPart}
 use Rattle.rl_spec.specs.Read.{countsOf, workOf}
 use Rattle.rl_spec.specs.Image.{Image, encode, imageOf}
 use Rattle.rl_spec.specs.Fold.{foldOf, foldNumber, workUnless}
 use Rattle.rl_spec.specs.Prove.{callEntries, allEntries, proveOf, reportsOf, proveAllOf, allReportsOf, proveNumber}
+use Rattle.rl_spec.specs.Texts.{textFor, textNumber, messageAt, messageAnswer, messageBytes, messageOut, messageNumber}
 use Rattle.rl_spec.specs.Lowerer.{made, refused, lowerOf, lowerNumber, lowerOut}
 use Rattle.rl_spec.specs.Runner.{runOf, runNumber}
 use Rattle.rl_images.specs.Reading.Refusals.{zeros-unless}
+use Rattle.rl_theorems.specs.Answers.OfTexts.{message-accepts}
 
 module _ (s : List ℕ) (k : ℕ) where
   -- folding: the work slice
@@ -56,6 +61,30 @@ module _ (s : List ℕ) (k : ℕ) where
         × (allReportsOf s k room ≡ entries ++ replicate (room - length entries) 0)
     unfolding allReportsOf
     prove-all-leaves n e = rw e (refl, refl)
+
+  -- a text: the work slice
+  module _ (t : ℕ) where
+    pub text-zero : (q : Cause) (p : ℕ) → textFor s k t ≡ text.Refused q p → workUnless (textNumber (textFor s k t)) s k ≡ replicate k 0
+    text-zero q p e = rw e (sym (zeros-unless q s k))
+
+    pub text-leaves : (part : TextPart) → textFor s k t ≡ text.Found part → workUnless (textNumber (textFor s k t)) s k ≡ workOf s k
+    text-leaves part e = rw e refl
+
+  -- a message: the work slice and the array of 65,535 bytes
+  module _ (call n : ℕ) where
+    pub message-zero : (q : Cause) (p : ℕ) → messageAnswer s k call n ≡ message.Refused q p →
+        (workUnless (messageNumber (messageAnswer s k call n)) s k ≡ replicate k 0) × (messageOut s k call n ≡ replicate 65535 0)
+    unfolding messageOut
+    message-zero q p e = (rw e (sym (zeros-unless q s k)), ap (messageBytes s call n) e)
+
+    bytes-of : (l : ℕ) → messageAnswer s k call n ≡ message.Message l → length (messageAt (imageOf s) call n) ≡ l
+    bytes-of l e = message-accepts s k call n l .0 e .1
+
+    pub message-leaves : (l : ℕ) → messageAnswer s k call n ≡ message.Message l →
+        (workUnless (messageNumber (messageAnswer s k call n)) s k ≡ workOf s k)
+        × (messageOut s k call n ≡ messageAt (imageOf s) call n ++ replicate (65535 - length (messageAt (imageOf s) call n)) 0)
+    unfolding messageOut
+    message-leaves l e = (rw e refl, ap (messageBytes s call n) (e ∙ ap message.Message (sym (bytes-of l e))))
 
   -- lowering: the work slice and the output slice
   module _ (f room : ℕ) where

@@ -1,5 +1,5 @@
--- THE TABLES of lowering, folding, proving and running, in order; each cause with its place, which is 0, and what it says of the image that
--- the bytes stand for.
+-- THE TABLES of lowering, folding, proving, texts, messages and running, in order; each cause with its place, which is 0, and what it says of
+-- the image that the bytes stand for.
 use Prim.Native.Nat.{ℕ, zero, suc, _+_, _*_, _≤_, _<_}
 use mathlib.Core.Path.{_≡_}
 use mathlib.Core.List.{List, [], _∷_, _++_}
@@ -63,6 +63,16 @@ reportsFrom im (suc n) i = length (violationsOf im i) + reportsFrom im n (i + 1)
 -- all calls: 18
 abbrev pub proveAllRows : Image → ℕ → List Row
 proveAllRows im room = row ReportsTooShort 0 (room < 4 * reportsFrom im (sizeOf im Calls) 0) ∷ []
+
+-- ---- a text by its number: 20
+
+abbrev pub textRows : Image → ℕ → List Row
+textRows im t = row NoSuchText 0 (sizeOf im Texts ≤ t) ∷ []
+
+-- ---- the message of a call's report: 17. Of a report that the call has not there is none, which is no refusal
+
+abbrev pub messageRows : Image → ℕ → List Row
+messageRows im call = row NoSuchCall 0 (sizeOf im Calls ≤ call) ∷ []
 
 -- ---- running the function f on values, with a budget
 

@@ -1,9 +1,9 @@
 -- DEMAND 1. Any bytes are read, or refused with the number and place of 01's table and for those causes only; a refusal leaves every lent
 -- output zero. That all ends needs no statement here: definitions are total, and code meets a contract only where it ends.
 -- Assumes nothing.
-use Prim.Native.Nat.{ℕ, _+_, _-_, _*_, _≤_, _<_}
+use Prim.Native.Nat.{ℕ, _+_, _-_, _*_, _/_, _≤_, _<_}
 use mathlib.Core.Path.{_≡_}
-use mathlib.Core.Bool.{false}
+use mathlib.Core.Bool.{true, false}
 use mathlib.Core.Option.{some}
 use mathlib.Core.List.{List, [], _∷_, _++_, map}
 use mathlib.Core.Logic.{_⊎_, _↔_}
@@ -11,13 +11,14 @@ use lib.ListN.{length, getD, take, drop, replicate}
 use Rattle.rl_spec.specs.declared.Answer.the-variants.{Accepted, Refused}
 use Rattle.rl_spec.specs.declared.ArenaNo.{ArenaNo}
 use Rattle.rl_spec.specs.declared.Arguments.{Arguments}
-use Rattle.rl_spec.specs.declared.Cause.the-variants.{BytesEnd, BadText, BadReference, TooHigh, WrongKind, CountOverLimit, BadValue, BytesLeft}
+use Rattle.rl_spec.specs.declared.Cause.the-variants.{BytesEnd, BadText, BadReference, TooHigh, WrongKind, CountOverLimit, BadValue, BytesLeft, WrongValues, NoSuchText}
 use Rattle.rl_spec.specs.declared.Cause.{Cause}
 use Rattle.rl_spec.specs.declared.Counts.{Counts}
 use Rattle.rl_spec.specs.declared.FoldAnswer.the-variants as fold
 use Rattle.rl_spec.specs.declared.FoldAnswer.the-variants.{Found}
 use Rattle.rl_spec.specs.declared.Folded.{Folded}
 use Rattle.rl_spec.specs.declared.Id.{Id}
+use Rattle.rl_spec.specs.declared.MessageAnswer.the-variants as message
 use Rattle.rl_spec.specs.declared.Outcome.{Outcome}
 use Rattle.rl_spec.specs.declared.ProveAnswer.the-variants as prove
 use Rattle.rl_spec.specs.declared.ProveAnswer.the-variants.{Proved}
@@ -26,6 +27,8 @@ use Rattle.rl_spec.specs.declared.Section.the-variants.{Expressions, Statements
 use Rattle.rl_spec.specs.declared.Section.{Section}
 use Rattle.rl_spec.specs.declared.Sort.the-variants.{Part}
 use Rattle.rl_spec.specs.declared.Step.the-variants.{Stop}
+use Rattle.rl_spec.specs.declared.TextAnswer.the-variants as text
+use Rattle.rl_spec.specs.declared.TextPart.{TextPart}
 use Rattle.rl_spec.specs.Bytes.{u16At}
 use Rattle.rl_spec.specs.Schema.{textBytesAt, tallest, widthOf, limits, lowest, highest}
 use Rattle.rl_spec.specs.Utf8.{utf8}
@@ -34,11 +37,14 @@ use Rattle.rl_spec.specs.Read.{numberOf, countsOf, answerOf, numberIn, workOf, 
 use Rattle.rl_spec.specs.Image.{Image, encode, imageOf, textOf, sizeOf, heights, AllBytes, WellFormed}
 use Rattle.rl_spec.specs.Folded.{asFolded}
 use Rattle.rl_spec.specs.Tree.{exprTree}
+use Rattle.rl_spec.specs.Records.{functionAt}
 use Rattle.rl_spec.specs.Fold.{constEval, foldOf, foldNumber, workUnless}
 use Rattle.rl_spec.specs.Prove.{callEntries, allEntries, proveOf, reportsOf, proveAllOf, allReportsOf, proveNumber, violationsOf}
+use Rattle.rl_spec.specs.Texts.{textPart, textFor, textNumber, messageAt, messageAnswer, messageOut, messageNumber}
 use Rattle.rl_spec.specs.Lower.{lowered, unlimited}
 use Rattle.rl_spec.specs.Lowerer.{made, refused, lowerOf, lowerNumber, lowerOut}
 use Rattle.rl_spec.specs.Runner.{given, ranIn, runOf, runNumber}
+use Rattle.rl_spec.specs.Boundary.{areValues, argumentsOf}
 use Rattle.rl_laws.specs.Heights.{exprHeight}
 use Rattle.rl_images.specs.Encoding.Accepted as Well
 use Rattle.rl_images.specs.Encoding.Encoded as Encoded
@@ -57,8 +63,10 @@ use Rattle.rl_theorems.specs.Answers.OfFolding as OfFolding
 use Rattle.rl_theorems.specs.Answers.OfLimits as OfLimits
 use Rattle.rl_theorems.specs.Answers.OfProving as OfProving
 use Rattle.rl_theorems.specs.Answers.OfRunning as OfRunning
+use Rattle.rl_theorems.specs.Answers.OfTexts as OfTexts
+use Rattle.rl_theorems.specs.Answers.OfWords as OfWords
 use Rattle.rl_theorems.specs.Answers.Outputs as Outputs
-use Rattle.rl_theorems.specs.Answers.Tables.{lowerRows, foldRows, proveRows, reportsFrom, proveAllRows, runRows}
+use Rattle.rl_theorems.specs.Answers.Tables.{lowerRows, foldRows, proveRows, reportsFrom, proveAllRows, textRows, messageRows, runRows}
 use Rattle.rl_theorems.specs.Images.FunctionReady.{Under}
 use Rattle.rl_theorems.specs.Lowering.LimitPassed as LimitPassed
 use Rattle.rl_theorems.specs.Reading.EncodedBytes as EncodedBytes
@@ -67,7 +75,7 @@ use Rattle.rl_theorems.specs.Reading.Numbers as Numbers
 -- ---- CHECKS RUN IN THE TABLE'S ORDER. A table is a list of rows: a cause, its place, and what it says (Table). `First t q p`: the first
 -- row of t that holds is the cause q at p. `Unmet t`: none holds. The reader's table is in Rows, the others in Tables; each stands behind
 -- the reader's. Every refusal is for the first cause that holds, and every other answer is given where none does (ReadOutcome, OfLimits,
--- OfFolding, OfProving, OfRunning)
+-- OfFolding, OfProving, OfTexts, OfRunning)
 
 module _ (s : List ℕ) (k : ℕ) where
   -- 1 to 10
@@ -106,12 +114,42 @@ module _ (s : List ℕ) (k : ℕ) where
   pub prove-all-accepts : (room n : ℕ) → (proveAllOf s k room ≡ Proved n) ↔ (Unmet (readRows s k ++ proveAllRows (imageOf s) room) × (reportsFrom (imageOf s) (sizeOf (imageOf s) Calls) 0 ≡ n))
   prove-all-accepts = OfProving.prove-all-accepts s k
 
+  -- a text by its number: 20
+  pub text-refuses : (t : ℕ) (q : Cause) (p : ℕ) → (textFor s k t ≡ text.Refused q p) ↔ First (readRows s k ++ textRows (imageOf s) t) q p
+  text-refuses = OfTexts.text-refuses s k
+
+  pub text-accepts : (t : ℕ) (part : TextPart) → (textFor s k t ≡ text.Found part) ↔ (Unmet (readRows s k ++ textRows (imageOf s) t) × (textPart (imageOf s) t ≡ part))
+  text-accepts = OfTexts.text-accepts s k
+
+  -- the part that is found has the text's bytes and stands within the image; its start and its length have 16 bits each
+  pub text-stands : (t : ℕ) (part : TextPart) → AllBytes s → textFor s k t ≡ text.Found part → (take (part .length) (drop (part .start) s) ≡ textOf (imageOf s) t) × (part .start + part .length ≤ length s) × (part .start < 65536) × (part .length < 65536)
+  text-stands = OfTexts.text-stands s k
+
+  -- the message of a call's n-th report: 17. Without such a report it is empty
+  pub message-refuses : (call n : ℕ) (q : Cause) (p : ℕ) → (messageAnswer s k call n ≡ message.Refused q p) ↔ First (readRows s k ++ messageRows (imageOf s) call) q p
+  message-refuses = OfTexts.message-refuses s k
+
+  pub message-accepts : (call n l : ℕ) → (messageAnswer s k call n ≡ message.Message l) ↔ (Unmet (readRows s k ++ messageRows (imageOf s) call) × (length (messageAt (imageOf s) call n) ≡ l))
+  message-accepts = OfTexts.message-accepts s k
+
   -- 11, 19, 20, 21
   pub run-refuses : (f : ℕ) (args : Arguments) (budget : ℕ) (q : Cause) (p : ℕ) → (runOf s k f args budget ≡ run.Refused q p) ↔ First (readRows s k ++ runRows (imageOf s) f args budget) q p
   run-refuses = OfRunning.run-refuses s k
 
   pub run-accepts : (f : ℕ) (args : Arguments) (budget : ℕ) (o : Outcome) (n : ℕ) → (runOf s k f args budget ≡ run.Ran o n) ↔ (Unmet (readRows s k ++ runRows (imageOf s) f args budget) × (ranIn (imageOf s) f (given args) budget ≡ run.Ran o n))
   run-accepts = OfRunning.run-accepts s k
+
+  -- values in words, two each, of a function that is there (OfWords): words that are no values are 19, and so are more than sixteen values
+  pub no-values : (f : ℕ) (words : List ℕ) (budget : ℕ) (a : ArenaNo) (c : Counts) → answerOf s k ≡ Accepted a c → f < c .functions → areValues words ≡ false → runOf s k f (argumentsOf words) budget ≡ run.Refused WrongValues 0
+  no-values = OfWords.no-values s k
+
+  pub many-values : (f : ℕ) (words : List ℕ) (budget : ℕ) (a : ArenaNo) (c : Counts) → answerOf s k ≡ Accepted a c → f < c .functions → 17 ≤ length words / 2 → runOf s k f (argumentsOf words) budget ≡ run.Refused WrongValues 0
+  many-values = OfWords.many-values s k
+
+  -- as many values as parameters are 20 where the i-th is a Str, bare, in an Ok or in an Err, and its payload is no text's number, also above
+  -- 65,535
+  pub str-missing : (f : ℕ) (words : List ℕ) (budget : ℕ) (a : ArenaNo) (c : Counts) → answerOf s k ≡ Accepted a c → f < c .functions → areValues words ≡ true → length words / 2 ≤ 16 → length words / 2 ≡ functionAt (imageOf s) f .params .count → (i : ℕ) → i < length words / 2 → (getD words (i * 2) 0 ≡ 3) ⊎ ((getD words (i * 2) 0 ≡ 11) ⊎ (getD words (i * 2) 0 ≡ 19)) → c .texts ≤ getD words (i * 2 + 1) 0 → runOf s k f (argumentsOf words) budget ≡ run.Refused NoSuchText 0
+  str-missing = OfWords.str-missing s k
 
   -- A REFUSAL LEAVES EVERY LENT SLICE ALL ZERO (Outputs; the reader's own: refused-work). Without one the work slice holds what reading
   -- leaves there, and the other slice what is answered, then zeros
@@ -135,6 +173,19 @@ module _ (s : List ℕ) (k : ℕ) where
 
   pub prove-all-leaves : (room n : ℕ) → proveAllOf s k room ≡ Proved n → (workUnless (proveNumber (proveAllOf s k room)) s k ≡ workOf s k) × (allReportsOf s k room ≡ allEntries (imageOf s) (countsOf s .calls) 0 ++ replicate (room - length (allEntries (imageOf s) (countsOf s .calls) 0)) 0)
   prove-all-leaves = Outputs.prove-all-leaves s k
+
+  pub text-zero : (t : ℕ) (q : Cause) (p : ℕ) → textFor s k t ≡ text.Refused q p → workUnless (textNumber (textFor s k t)) s k ≡ replicate k 0
+  text-zero = Outputs.text-zero s k
+
+  pub text-leaves : (t : ℕ) (part : TextPart) → textFor s k t ≡ text.Found part → workUnless (textNumber (textFor s k t)) s k ≡ workOf s k
+  text-leaves = Outputs.text-leaves s k
+
+  pub message-zero : (call n : ℕ) (q : Cause) (p : ℕ) → messageAnswer s k call n ≡ message.Refused q p → (workUnless (messageNumber (messageAnswer s k call n)) s k ≡ replicate k 0) × (messageOut s k call n ≡ replicate 65535 0)
+  message-zero = Outputs.message-zero s k
+
+  -- a message of a well-formed image has at most 65,535 bytes (message-fits of Standards)
+  pub message-leaves : (call n l : ℕ) → messageAnswer s k call n ≡ message.Message l → (workUnless (messageNumber (messageAnswer s k call n)) s k ≡ workOf s k) × (messageOut s k call n ≡ messageAt (imageOf s) call n ++ replicate (65535 - length (messageAt (imageOf s) call n)) 0)
+  message-leaves = Outputs.message-leaves s k
 
   pub lower-zero : (f room : ℕ) (q : Cause) (p : ℕ) → lowerOf s k f room ≡ refused q p → (workUnless (lowerNumber (lowerOf s k f room)) s k ≡ replicate k 0) × (lowerOut room (lowerOf s k f room) ≡ replicate room 0)
   lower-zero = Outputs.lower-zero s k

@@ -1,5 +1,6 @@
 -- DEMAND 2. RFC 3629 for text and IEEE 754-2019 for floats, save 01's listed differences; then the Rust decides. What the Rust decides
--- stands here as closed tables, a row or more for each rule, proved by computation; the marked cases are one list.
+-- stands here as closed tables, a row or more for each rule, proved by computation; the marked cases are one list. What the printer
+-- writes is stated for all bytes.
 -- Assumes nothing.
 use Prim.Native.Nat.{ℕ, _*_, _^_, _≤_, _<_}
 use mathlib.Core.Path.{_≡_}
@@ -13,13 +14,21 @@ use lib.Signed.{mag}
 use lib.Ieee.{Float, binary64, ofInt, fits}
 use lib.Ieee.Scale.{finite}
 use lib.Ieee.Positive.{den}
+use Rattle.rl_spec.specs.declared.Answer.the-variants.{Accepted, Refused}
+use Rattle.rl_spec.specs.declared.ArenaNo.{ArenaNo}
+use Rattle.rl_spec.specs.declared.Cause.{Cause}
+use Rattle.rl_spec.specs.declared.Counts.{Counts}
 use Rattle.rl_spec.specs.Utf8.{utf8, isScalar, encodeText}
-use Rattle.rl_spec.specs.Image.{Image, textOf, pair, encode, WellFormed}
+use Rattle.rl_spec.specs.Read.{answerOf}
+use Rattle.rl_spec.specs.Image.{Image, textOf, pair, encode, imageOf, WellFormed}
 use Rattle.rl_spec.specs.Tree.{ascii}
+use Rattle.rl_spec.specs.Records.{callAt}
 use Rattle.rl_spec.specs.Ranges.{upFrom}
 use Rattle.rl_spec.specs.Contracts.{isSome}
 use Rattle.rl_spec.specs.Prove.{callEntries, allEntries, violationsOf}
-use Rattle.rl_spec.specs.Printed.{outputOf}
+use Rattle.rl_spec.specs.Message.{decimal}
+use Rattle.rl_spec.specs.Texts.{messageAt}
+use Rattle.rl_spec.specs.Printed.{refusedLine, lineAt, joined, outputOf}
 use Rattle.rl_spec.specs.Make.{newText, newList, stmt as statement}
 use Rattle.rl_spec.specs.Lower.{lowered, expr, fitting}
 use Rattle.rl_spec.specs.Functions.{plainFunction, contractFunction}
@@ -44,6 +53,7 @@ use Rattle.rl_examples.specs.PrinterExamples as PrinterExamples
 use Rattle.rl_examples.specs.RefinementTable as RefinementTable
 use Rattle.rl_examples.specs.Utf8Examples as Utf8Examples
 use Rattle.rl_examples.specs.ValueExamples as ValueExamples
+use Rattle.rl_theorems.specs.Answers.InOrder as InOrder
 use Rattle.rl_theorems.specs.DemandThree.Marked as Marked
 use Rattle.rl_theorems.specs.Values.Distance.{Same, apart}
 use Rattle.rl_theorems.specs.Values.Nearest as Nearest
@@ -194,8 +204,9 @@ longest = LowerLimitExamples.longest
 pub too-long : isSome (fitting true (LowerLimitExamples.sized 4073)) ≡ false
 too-long = LowerLimitExamples.too-long
 
--- ---- what the printer writes, closed: 01's two lines, a call with two reports, refusals (PrinterExamples); a call has at most the 512 reports
--- that its slice takes (rl_images: Images.Reports)
+-- ---- what the printer writes
+
+-- closed: 01's two lines, a call with two reports, refusals (PrinterExamples)
 
 pub two-lines : outputOf (encode MarkedImages.flow) ≡ ascii "0 7 contract violation (proven at compile time): refinement failed: flow >= 1\n1 9 contract violation (proven at compile time): flow id range\n"
 two-lines = PrinterExamples.two-lines
@@ -206,6 +217,29 @@ in-order = PrinterExamples.in-order
 pub refusals : (outputOf [] ≡ ascii "refused 3 at 0\n") × (outputOf (encode MarkedImages.flow ++ 0 ∷ []) ≡ ascii "refused 10 at 213\n")
 refusals = PrinterExamples.refusals
 
+-- for all bytes: where they are accepted the lines of all calls, one after another, `inOrder` n calls from the k-th on, of each call one for
+-- each report by its number; and else the line of the refusal (InOrder)
+pub output-in-order : (s : List ℕ) (a : ArenaNo) (c : Counts) → answerOf s 8192 ≡ Accepted a c → outputOf s ≡ joined (InOrder.inOrder (imageOf s) (c .calls) 0)
+output-in-order = InOrder.output-in-order
+
+pub output-refused : (s : List ℕ) (q : Cause) (p : ℕ) → answerOf s 8192 ≡ Refused q p → outputOf s ≡ refusedLine q p
+output-refused = InOrder.output-refused
+
+-- a line with a report has the report's message in it and ends in a newline; every line fits the printer's buffer, and every message its
+-- array (InOrder)
+pub message-in-line : (im : Image) (call n : ℕ) → n < length (violationsOf im call) → lineAt im call n ≡ decimal call ++ ascii " " ++ decimal (callAt im call .span) ++ ascii " " ++ messageAt im call n ++ ascii "\n"
+message-in-line = InOrder.message-in-line
+
+pub line-ends : (im : Image) (call n : ℕ) → n < length (violationsOf im call) → (l : List ℕ) × (lineAt im call n ≡ l ++ ascii "\n")
+line-ends = InOrder.line-ends
+
+pub line-fits : (im : Image) → WellFormed im → (call n : ℕ) → length (lineAt im call n) ≤ 65536
+line-fits im wf call n = InOrder.line-fits im call n wf
+
+pub message-fits : (im : Image) → WellFormed im → (call n : ℕ) → length (messageAt im call n) ≤ 65535
+message-fits im wf call n = InOrder.message-fits im call n wf
+
+-- a call has at most the 512 reports that the printer's slice takes (rl_images: Images.Reports)
 pub at-most-512 : (im : Image) → WellFormed im → (call : ℕ) → length (violationsOf im call) ≤ 512
 at-most-512 = Reports.at-most-512
 

@@ -26,7 +26,7 @@ const BOUNDS: [(&str, usize); EXPORTS] = [
     ("rl_run", 896),
     ("rl_lower", 384),
     ("rl_text", 16),
-    ("rl_message", 160),
+    ("rl_message", 144),
 ];
 const EXPORTS: usize = 8;
 /// Generated images beside the listed ones.
