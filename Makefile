@@ -1,7 +1,7 @@
 # make run [IMAGE=path]   the printer on an image (default: the sample)
 # make test               the gate, the comparisons, formatting
 # make compare [CASES=n] [PROVED=n] [RUN=n] [LOWERED=n] [SEED=n]   reading and running against independent ones, proving and lowering
-#                         against rl-lang's, lowered runs against contract readings, on more cases
+#                         against rl-lang's where it is, lowered runs against contract readings, on more cases
 # make bench              times of this and of Rust, in one run
 # make fmt                lay all files out
 IMAGE ?= samples/flow.img
@@ -35,8 +35,11 @@ compare: staticlib
 	tools/target/release/compare_run $(RUN) $(SEED)
 	tools/target/release/run_limits
 	tools/target/release/compare_lower $(LOWERED) $(SEED)
+	tools/target/release/compare_lowered $(LOWERED) $(SEED)
 	tools/target/release/compare_reading $(LOWERED) $(SEED)
 	tools/target/release/lower_limits
+	tools/target/release/stack_limits
+	tools/target/release/original
 
 bench: staticlib
 	$(CARGO_RELEASE)
@@ -46,7 +49,7 @@ bench: staticlib
 	tools/target/release/bench_run
 	tools/target/release/bench_lower
 
-# writes the stored cases anew; those of proving need the original
+# writes the stored cases anew
 vectors:
 	$(CARGO_RELEASE) --bin vectors --bin vectors_run --bin vectors_lower --bin vectors_prove
 	tools/target/release/vectors crates/vectors_read

@@ -9,17 +9,18 @@
  * 0, not for an array. Whatever the entries and the lengths are, there is an
  * answer. Nothing is allocated, and nothing kept from one call to the next.
  *
- * Stack, for all functions: what each needs at the most, in bytes, measured on
- * x86-64 by run_limits, lower_limits and their like (tools/README.md).
+ * Stack, for all functions: what each needs at the most, in KiB. On x86-64 the
+ * test measures each on the largest and the deepest images (stack_limits,
+ * run_limits and lower_limits of tools/README.md) and fails where it is more.
  *
- *     rl_read       @STACK_rl_read@
- *     rl_fold       @STACK_rl_fold@
- *     rl_prove      @STACK_rl_prove@
- *     rl_prove_all  @STACK_rl_prove_all@
- *     rl_run        @STACK_rl_run@
- *     rl_lower      @STACK_rl_lower@
- *     rl_text       @STACK_rl_text@
- *     rl_message    @STACK_rl_message@
+ *     rl_read        16
+ *     rl_fold       128
+ *     rl_prove      160
+ *     rl_prove_all  160
+ *     rl_run        896
+ *     rl_lower      384
+ *     rl_text        16
+ *     rl_message    144
  *
  * Answers, for all functions: the high 32 bits are the refusal's number, 0 where
  * nothing is refused. The low 32 bits are the refusal's place, and else what is

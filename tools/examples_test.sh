@@ -42,6 +42,38 @@ END
 ${CC:-cc} -std=c99 $warnings -Iinclude -c "$new/numbers.c" -o "$new/numbers.o" || fail 'a number of the header, in C99'
 ${CXX:-c++} -x c++ -std=c++17 $warnings -Iinclude -c "$new/numbers.c" -o "$new/numbers.o" || fail 'a number of the header, in C++17'
 
+# ---- the stack that it states is what stack_limits measures against
+
+sed -n 's/^ \*     \(rl_[a-z_]*\) *\([0-9]*\)$/\1 \2/p' include/rl_contracts.h >"$new/stated"
+sed -n 's/^ *("\(rl_[a-z_]*\)", \([0-9]*\)),$/\1 \2/p' tools/check/src/bin/stack_limits.rs >"$new/measured"
+[ "$(wc -l <"$new/measured")" -eq 8 ] || fail 'stack_limits has not 8 exports'
+diff "$new/measured" "$new/stated" >&2 || fail 'the header states other bounds than stack_limits has'
+
+# ---- NULL is taken for a slice of length 0
+
+cat >"$new/null.c" <<'END'
+#include "rl_contracts.h"
+int main(void)
+{
+    static uint16_t work[RL_WORK];
+    static uint64_t value[RL_VALUE], outcome[RL_OUTCOME];
+    static uint8_t out[RL_MESSAGE];
+    uint64_t short_work = (uint64_t)RL_WORK_TOO_SHORT << 32, no_bytes = (uint64_t)RL_BYTES_END << 32;
+    int wrong = rl_read(NULL, 0, NULL, 0) != short_work;
+    wrong |= rl_fold(NULL, 0, NULL, 0, 0, 0, value) != short_work;
+    wrong |= rl_text(NULL, 0, NULL, 0, 0) != short_work;
+    wrong |= rl_read(NULL, 0, work, RL_WORK) != no_bytes;
+    wrong |= rl_prove(NULL, 0, work, RL_WORK, 0, NULL, 0) != no_bytes;
+    wrong |= rl_prove_all(NULL, 0, work, RL_WORK, NULL, 0) != no_bytes;
+    wrong |= rl_run(NULL, 0, work, RL_WORK, 0, NULL, 0, 0, outcome) != no_bytes;
+    wrong |= rl_lower(NULL, 0, work, RL_WORK, 0, NULL, 0) != no_bytes;
+    wrong |= rl_message(NULL, 0, work, RL_WORK, 0, 0, out) != no_bytes;
+    return wrong;
+}
+END
+${CC:-cc} -std=c99 $warnings -O2 -Iinclude "$new/null.c" "$archive" -o "$new/null" || fail 'NULL, compiled'
+"$new/null" || fail 'NULL for a slice of length 0: another answer'
+
 # ---- the loader
 
 ${CC:-cc} -std=c99 $warnings -O2 -Iinclude examples/loader.c "$archive" -o "$new/loader.c99" || fail 'the loader as C99'

@@ -51,7 +51,10 @@ tools/target/release/lower_limits
 tools/target/release/stack_limits
 tools/target/release/compare_print
 
-# the stored cases and the sample are what the tools make
+# the example in C on the samples, which are what rlimg makes of their texts
+sh tools/examples_test.sh target/staticlib/librl_abi.a
+
+# the stored cases are what the tools make, and the printer's own is the sample
 tools/target/release/vectors "$new"
 cmp "$new/stdin" crates/vectors_read/stdin
 cmp "$new/stdout" crates/vectors_read/stdout
@@ -61,8 +64,6 @@ cmp "$new/run/stdout" crates/vectors_run/stdout
 tools/target/release/vectors_lower "$new/lower"
 cmp "$new/lower/stdin" crates/vectors_lower/stdin
 cmp "$new/lower/stdout" crates/vectors_lower/stdout
-tools/target/release/rlimg build samples/flow.txt -o "$new/flow.img"
-cmp "$new/flow.img" samples/flow.img
 cmp samples/flow.img crates/rl_printer/stdin
 tools/target/release/vectors_prove "$new/prove"
 cmp "$new/prove/stdin" crates/vectors_prove/stdin

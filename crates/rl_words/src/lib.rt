@@ -74,7 +74,11 @@ pub fn payload_word(v: Folded) -> u64
 fn text_index(payload: u64) -> u16
     ensures { λ r. ⌜ r ≡ min payload 65535 ⌝ }
 {
-    if payload < 65535 { payload as u16 } else { 65535 }
+    if payload < 65535 {
+        payload as u16
+    } else {
+        65535
+    }
 }
 
 pub fn words_value(sort: u64, payload: u64) -> Folded

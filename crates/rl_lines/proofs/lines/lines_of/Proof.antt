@@ -44,7 +44,7 @@ returns c =
     let n = length (start .args .reports .now) in (
       call-lines _ _ _ (start .pre .0) cs (start .pre .1) _ n _ _ _ (clear .ensures) (proved .prove-call .ensures .0) _ (called .ensures) (found .result) (found .ensures) _ (c .function-of .ensures),
       call-entries _ _ _ (start .pre .0) cs (start .pre .1) _ n _ _ _ (clear .ensures) (proved .prove-call .ensures .0)
-      (proved .prove-call .kept .1 .1 .1 .1 .1 .1 .1 .0 ∙ clear .kept .0 ∙ size),
+          (proved .prove-call .kept .1 .1 .1 .1 .1 .1 .1 .0 ∙ clear .kept .0 ∙ size),
     )
 
 pub lines-of-spec : {M : Type 1} → statement M
