@@ -3,13 +3,13 @@
 use Prim.Native.Nat.{ℕ}
 use mathlib.Core.Path.{_≡_, refl}
 use mathlib.Core.List.{List, [], _∷_, _++_, map}
-use lib.ListN.{length, replicate, take}
+use lib.ListN.{replicate}
 use Rattle.rl_spec.specs.declared.ConstVal.the-variants.{Str}
 use Rattle.rl_spec.specs.declared.Plain.the-variants.{Const}
 use Rattle.rl_spec.specs.declared.Value.{Value}
 use Rattle.rl_spec.specs.declared.Value.the-variants.{Plain, Ok, Err}
 use Rattle.rl_spec.specs.Words.{wordsValue}
-use Rattle.rl_spec.specs.Image.{Image, encode, imageOf, sectionsIn, recordsIn, recordIn, nextAt, endAt, fieldsAt, widthsOf}
+use Rattle.rl_spec.specs.Image.{encode, imageOf, sectionsIn, recordsIn, recordIn, nextAt, endAt, fieldsAt, widthsOf}
 use Rattle.rl_spec.specs.Tree.{ascii}
 use Rattle.rl_spec.specs.Fold.{foldOf}
 use Rattle.rl_spec.specs.Functions.{plainFunction}
@@ -33,7 +33,7 @@ imaging = tt
 
 -- ---- how many values words are; 17 for words that are none
 
-abbrev taken : List (List ℕ)
+abbrev pub taken : List (List ℕ)
 taken =
     [] ∷ (0 ∷ 0 ∷ []) ∷ (1 ∷ 5 ∷ []) ∷ (2 ∷ 5 ∷ []) ∷ (3 ∷ 5 ∷ []) ∷ (3 ∷ 65536 ∷ []) ∷ (4 ∷ 0 ∷ []) ∷ (4 ∷ 1 ∷ [])
     ∷ (8 ∷ 0 ∷ []) ∷ (11 ∷ 131072 ∷ []) ∷ (12 ∷ 1 ∷ []) ∷ (16 ∷ 0 ∷ []) ∷ (17 ∷ 18446744073709551615 ∷ []) ∷ (20 ∷ 0 ∷ [])
@@ -44,7 +44,7 @@ unfolding bounding
 taken-so = refl
 
 -- a Null with a payload, a Bool above 1, sorts that are not there, an odd number of words, more than sixteen values
-abbrev noValues : List (List ℕ)
+abbrev pub noValues : List (List ℕ)
 noValues =
     (0 ∷ 1 ∷ []) ∷ (4 ∷ 2 ∷ []) ∷ (5 ∷ 0 ∷ []) ∷ (7 ∷ 0 ∷ []) ∷ (8 ∷ 1 ∷ []) ∷ (12 ∷ 2 ∷ []) ∷ (13 ∷ 0 ∷ []) ∷ (15 ∷ 0 ∷ [])
     ∷ (16 ∷ 1 ∷ []) ∷ (20 ∷ 2 ∷ []) ∷ (21 ∷ 0 ∷ []) ∷ (24 ∷ 0 ∷ []) ∷ (4294967297 ∷ 5 ∷ []) ∷ (1 ∷ []) ∷ (1 ∷ 5 ∷ 1 ∷ [])
@@ -55,7 +55,7 @@ unfolding bounding
 no-values-so = refl
 
 -- a Str's index is its payload, and 65,535 where that is more
-abbrev strs : List Value
+abbrev pub strs : List Value
 strs = map (valueOfWords 3) (0 ∷ 65534 ∷ 65535 ∷ 65536 ∷ 131072 ∷ []) ++ valueOfWords 11 65537 ∷ valueOfWords 19 18446744073709551615 ∷ []
 
 pub strs-so : strs
@@ -66,7 +66,7 @@ strs-so = refl
 
 -- ---- runs of open(flow), unlowered: the answer, and the outcome's four words
 
-abbrev runsOf : ℕ → List ℕ → ℕ → List ℕ
+abbrev pub runsOf : ℕ → List ℕ → ℕ → List ℕ
 runsOf f words budget =
     runPacked (runOf (encode flow) 8192 f (argumentsOf words) budget) ∷ runWords (runOf (encode flow) 8192 f (argumentsOf words) budget)
 
@@ -82,7 +82,7 @@ runs-so = refl
 
 -- ---- folds of its nodes: flow, 4096, the text of index 2; another arena, a node that is missing
 
-abbrev foldsOf : ℕ → ℕ → List ℕ
+abbrev pub foldsOf : ℕ → ℕ → List ℕ
 foldsOf arena node = foldPacked (foldOf (encode flow) 8192 (idOf arena node)) ∷ foldWords (foldOf (encode flow) 8192 (idOf arena node))
 
 pub folds-so : foldsOf 1 0 ∷ foldsOf 1 1 ∷ foldsOf 1 3 ∷ foldsOf 7 1 ∷ foldsOf 1 7 ∷ []
@@ -105,7 +105,7 @@ pub messages-so : messageAt flow 0 0 ∷ messageAt flow 0 1 ∷ messageAt flow 1
 unfolding lowering running folding proving bounding
 messages-so = refl
 
-abbrev messagesOf : ℕ → ℕ → ℕ
+abbrev pub messagesOf : ℕ → ℕ → ℕ
 messagesOf call n = messagePacked (messageAnswer (encode flow) 8192 call n)
 
 pub lengths-so : messagesOf 0 0 ∷ messagesOf 0 1 ∷ messagesOf 1 0 ∷ messagesOf 2 0 ∷ messagesOf 65536 0 ∷ [] ≡ 73 ∷ 0 ∷ 58 ∷ 73014444032 ∷ 73014444032 ∷ []

@@ -13,6 +13,7 @@ use Rattle.rl_spec.specs.declared.ArenaNo.{ArenaNo}
 use Rattle.rl_spec.specs.declared.Arguments.{Arguments}
 use Rattle.rl_spec.specs.declared.Cause.the-variants.{BytesEnd, BadText, BadReference, TooHigh, WrongKind, CountOverLimit, BadValue, BytesLeft, WrongValues, NoSuchText}
 use Rattle.rl_spec.specs.declared.Cause.{Cause}
+use Rattle.rl_spec.specs.declared.ConstVal.the-variants.{Str}
 use Rattle.rl_spec.specs.declared.Counts.{Counts}
 use Rattle.rl_spec.specs.declared.FoldAnswer.the-variants as fold
 use Rattle.rl_spec.specs.declared.FoldAnswer.the-variants.{Found}
@@ -20,6 +21,7 @@ use Rattle.rl_spec.specs.declared.Folded.{Folded}
 use Rattle.rl_spec.specs.declared.Id.{Id}
 use Rattle.rl_spec.specs.declared.MessageAnswer.the-variants as message
 use Rattle.rl_spec.specs.declared.Outcome.{Outcome}
+use Rattle.rl_spec.specs.declared.Plain.the-variants.{Const}
 use Rattle.rl_spec.specs.declared.ProveAnswer.the-variants as prove
 use Rattle.rl_spec.specs.declared.ProveAnswer.the-variants.{Proved}
 use Rattle.rl_spec.specs.declared.RunAnswer.the-variants as run
@@ -29,6 +31,7 @@ use Rattle.rl_spec.specs.declared.Sort.the-variants.{Part}
 use Rattle.rl_spec.specs.declared.Step.the-variants.{Stop}
 use Rattle.rl_spec.specs.declared.TextAnswer.the-variants as text
 use Rattle.rl_spec.specs.declared.TextPart.{TextPart}
+use Rattle.rl_spec.specs.declared.Value.the-variants.{Plain, Ok, Err}
 use Rattle.rl_spec.specs.Bytes.{u16At}
 use Rattle.rl_spec.specs.Schema.{textBytesAt, tallest, widthOf, limits, lowest, highest}
 use Rattle.rl_spec.specs.Utf8.{utf8}
@@ -36,15 +39,16 @@ use Rattle.rl_spec.specs.Fields.{recordAt}
 use Rattle.rl_spec.specs.Read.{numberOf, countsOf, answerOf, numberIn, workOf, packed}
 use Rattle.rl_spec.specs.Image.{Image, encode, imageOf, textOf, sizeOf, heights, AllBytes, WellFormed}
 use Rattle.rl_spec.specs.Folded.{asFolded}
-use Rattle.rl_spec.specs.Tree.{exprTree}
+use Rattle.rl_spec.specs.Tree.{exprTree, ascii}
 use Rattle.rl_spec.specs.Records.{functionAt}
 use Rattle.rl_spec.specs.Fold.{constEval, foldOf, foldNumber, workUnless}
 use Rattle.rl_spec.specs.Prove.{callEntries, allEntries, proveOf, reportsOf, proveAllOf, allReportsOf, proveNumber, violationsOf}
+use Rattle.rl_spec.specs.Printed.{lineAt}
 use Rattle.rl_spec.specs.Texts.{textPart, textFor, textNumber, messageAt, messageAnswer, messageOut, messageNumber}
 use Rattle.rl_spec.specs.Lower.{lowered, unlimited}
 use Rattle.rl_spec.specs.Lowerer.{made, refused, lowerOf, lowerNumber, lowerOut}
 use Rattle.rl_spec.specs.Runner.{given, ranIn, runOf, runNumber}
-use Rattle.rl_spec.specs.Boundary.{areValues, argumentsOf}
+use Rattle.rl_spec.specs.Boundary.{areValues, countOfWords, argumentsOf, textPacked}
 use Rattle.rl_laws.specs.Heights.{exprHeight}
 use Rattle.rl_images.specs.Encoding.Accepted as Well
 use Rattle.rl_images.specs.Encoding.Encoded as Encoded
@@ -56,9 +60,11 @@ use Rattle.rl_images.specs.Reading.ReadOutcome as ReadOutcome
 use Rattle.rl_images.specs.Reading.Refusals as Refusals
 use Rattle.rl_images.specs.Reading.Rows.{fieldRows, heightAt, recordRows, sectionsEnd, contentRows, readRows}
 use Rattle.rl_images.specs.Reading.Table.{First, Unmet}
+use Rattle.rl_examples.specs.BoundaryTable as BoundaryTable
 use Rattle.rl_examples.specs.DemandExamples as DemandExamples
 use Rattle.rl_examples.specs.MarkedImages as MarkedImages
 use Rattle.rl_examples.specs.NumberTable as NumberTable
+use Rattle.rl_examples.specs.PrinterExamples as PrinterExamples
 use Rattle.rl_theorems.specs.Answers.OfFolding as OfFolding
 use Rattle.rl_theorems.specs.Answers.OfLimits as OfLimits
 use Rattle.rl_theorems.specs.Answers.OfProving as OfProving
@@ -205,6 +211,48 @@ numbers-so = NumberTable.numbers-so
 
 pub packed-so : packed (Refused BadText 300) ≡ 25769804076
 packed-so = NumberTable.packed-so
+
+-- ---- what C and Rust get, closed: words taken for values, and words that are none; runs, folds, texts, messages and lines by number (BoundaryTable)
+
+pub taken-so : map countOfWords BoundaryTable.taken ≡ 0 ∷ 1 ∷ 1 ∷ 1 ∷ 1 ∷ 1 ∷ 1 ∷ 1 ∷ 1 ∷ 1 ∷ 1 ∷ 1 ∷ 1 ∷ 1 ∷ 3 ∷ 16 ∷ []
+taken-so = BoundaryTable.taken-so
+
+pub no-values-so : map countOfWords BoundaryTable.noValues ≡ replicate 19 17
+no-values-so = BoundaryTable.no-values-so
+
+pub strs-so : BoundaryTable.strs
+    ≡ Plain (Const (Str 0)) ∷ Plain (Const (Str 65534)) ∷ Plain (Const (Str 65535)) ∷ Plain (Const (Str 65535)) ∷ Plain (Const (Str 65535))
+    ∷ Ok (Const (Str 65535)) ∷ Err (Const (Str 65535)) ∷ []
+strs-so = BoundaryTable.strs-so
+
+pub runs-so : BoundaryTable.runsOf 0 (1 ∷ 7 ∷ []) 9 ∷ BoundaryTable.runsOf 0 (3 ∷ 2 ∷ []) 9 ∷ BoundaryTable.runsOf 0 (17 ∷ 7 ∷ []) 9 ∷ BoundaryTable.runsOf 0 (1 ∷ 7 ∷ []) 1
+    ∷ BoundaryTable.runsOf 1 (5 ∷ 0 ∷ []) 1000001 ∷ BoundaryTable.runsOf 0 (5 ∷ 0 ∷ []) 1000001 ∷ BoundaryTable.runsOf 0 [] 1000001 ∷ BoundaryTable.runsOf 0 (3 ∷ 65536 ∷ []) 1000001
+    ∷ BoundaryTable.runsOf 0 (3 ∷ 3 ∷ []) 9 ∷ BoundaryTable.runsOf 0 (1 ∷ 7 ∷ []) 1000001 ∷ []
+    ≡ (0 ∷ 1 ∷ 2 ∷ 1 ∷ 7 ∷ []) ∷ (0 ∷ 1 ∷ 2 ∷ 3 ∷ 2 ∷ []) ∷ (0 ∷ 1 ∷ 2 ∷ 17 ∷ 7 ∷ []) ∷ (0 ∷ 4 ∷ 1 ∷ 0 ∷ 0 ∷ [])
+    ∷ (47244640256 ∷ 0 ∷ 0 ∷ 0 ∷ 0 ∷ []) ∷ (81604378624 ∷ 0 ∷ 0 ∷ 0 ∷ 0 ∷ []) ∷ (81604378624 ∷ 0 ∷ 0 ∷ 0 ∷ 0 ∷ []) ∷ (85899345920 ∷ 0 ∷ 0 ∷ 0 ∷ 0 ∷ [])
+    ∷ (85899345920 ∷ 0 ∷ 0 ∷ 0 ∷ 0 ∷ []) ∷ (90194313216 ∷ 0 ∷ 0 ∷ 0 ∷ 0 ∷ []) ∷ []
+runs-so = BoundaryTable.runs-so
+
+pub folds-so : BoundaryTable.foldsOf 1 0 ∷ BoundaryTable.foldsOf 1 1 ∷ BoundaryTable.foldsOf 1 3 ∷ BoundaryTable.foldsOf 7 1 ∷ BoundaryTable.foldsOf 1 7 ∷ []
+    ≡ (0 ∷ 0 ∷ 0 ∷ []) ∷ (0 ∷ 1 ∷ 4096 ∷ []) ∷ (0 ∷ 3 ∷ 2 ∷ []) ∷ (64424509440 ∷ 0 ∷ 0 ∷ []) ∷ (68719476736 ∷ 0 ∷ 0 ∷ []) ∷ []
+folds-so = BoundaryTable.folds-so
+
+pub texts-so : map (λ t. textPacked (textFor (encode MarkedImages.flow) 8192 t)) (0 ∷ 1 ∷ 2 ∷ 3 ∷ 65536 ∷ [])
+    ≡ 262167 ∷ 262171 ∷ 851999 ∷ 85899345920 ∷ 85899345920 ∷ []
+texts-so = BoundaryTable.texts-so
+
+pub messages-so : messageAt MarkedImages.flow 0 0 ∷ messageAt MarkedImages.flow 0 1 ∷ messageAt MarkedImages.flow 1 0 ∷ messageAt PrinterExamples.both-fail 0 1 ∷ []
+    ≡ ascii "contract violation (proven at compile time): refinement failed: flow >= 1" ∷ []
+    ∷ ascii "contract violation (proven at compile time): flow id range" ∷ ascii "contract violation (proven at compile time): requires violated" ∷ []
+messages-so = BoundaryTable.messages-so
+
+pub lengths-so : BoundaryTable.messagesOf 0 0 ∷ BoundaryTable.messagesOf 0 1 ∷ BoundaryTable.messagesOf 1 0 ∷ BoundaryTable.messagesOf 2 0 ∷ BoundaryTable.messagesOf 65536 0 ∷ [] ≡ 73 ∷ 0 ∷ 58 ∷ 73014444032 ∷ 73014444032 ∷ []
+lengths-so = BoundaryTable.lengths-so
+
+pub lines-so : lineAt PrinterExamples.both-fail 0 0 ∷ lineAt PrinterExamples.both-fail 0 1 ∷ lineAt PrinterExamples.both-fail 0 2 ∷ lineAt PrinterExamples.both-fail 1 0 ∷ []
+    ≡ ascii "0 10 contract violation (proven at compile time): refinement failed: a > 5\n"
+    ∷ ascii "0 10 contract violation (proven at compile time): requires violated\n" ∷ [] ∷ [] ∷ []
+lines-so = BoundaryTable.lines-so
 
 -- ---- what each number of the reader says (Numbers), and where a refusal stands (Places)
 
