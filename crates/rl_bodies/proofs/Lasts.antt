@@ -20,15 +20,11 @@ use Rattle.rl_spec.specs.Tree.{number}
 use Rattle.rl_spec.specs.Ranges.{upFrom}
 use Rattle.rl_spec.specs.Contracts.{isEmpty}
 use Rattle.rl_spec.specs.Lower.{lastOf}
+use Rattle.rl_images.specs.Images.Reports.{length-up}
 use Rattle.rl_context.proofs.Copying.{kind-in}
 use Rattle.rl_context.proofs.CopiedEntries.{two}
 use Rattle.rl_transform.proofs.Rebuilding.{statement-is}
 use Rattle.rl_bodies.specs.Bodies.{entriesIn, BodyFits, endsBare}
-
-length-up : (a n : ℕ) → length (upFrom a n) ≡ n
-unfolding upFrom
-length-up a zero = refl
-length-up a (suc n) = ap suc (length-up (a + 1) n)
 
 pub length-entries : (im : Image) (a n : ℕ) → length (map (entryOf im) (upFrom a n)) ≡ n
 length-entries im a n = length-map (upFrom a n) (entryOf im) ∙ length-up a n

@@ -2,21 +2,29 @@
 -- Assumes nothing.
 use Prim.Native.Nat.{ℕ}
 use mathlib.Core.Path.{_≡_, refl}
+use mathlib.Core.Bool.{true, false}
 use mathlib.Core.List.{List, [], _∷_, _++_, map}
 use lib.ListN.{replicate}
-use Rattle.rl_spec.specs.declared.ConstVal.the-variants.{Str}
+use lib.IntN.{negsuc}
+use lib.Ieee.{ofBits, binary64}
+use Rattle.rl_spec.specs.declared.ConstVal.the-variants.{Int, Float, Str, Bool}
+use Rattle.rl_spec.specs.declared.FoldAnswer.the-variants.{Found}
+use Rattle.rl_spec.specs.declared.Folded.the-variants as folded
+use Rattle.rl_spec.specs.declared.Outcome.the-variants.{Returned, Stopped, Fault, Spent}
 use Rattle.rl_spec.specs.declared.Plain.the-variants.{Const}
 use Rattle.rl_spec.specs.declared.Value.{Value}
 use Rattle.rl_spec.specs.declared.Value.the-variants.{Plain, Ok, Err}
 use Rattle.rl_spec.specs.Words.{wordsValue}
-use Rattle.rl_spec.specs.Image.{encode, imageOf, sectionsIn, recordsIn, recordIn, nextAt, endAt, fieldsAt, widthsOf}
+use Rattle.rl_spec.specs.Image.{encode, imageOf, sectionsIn, recordsIn, recordIn, nextAt, endAt, fieldsAt, widthsOf, heights, heightsFrom, tallestChild, tallestEntry}
 use Rattle.rl_spec.specs.Tree.{ascii}
 use Rattle.rl_spec.specs.Fold.{foldOf}
 use Rattle.rl_spec.specs.Functions.{plainFunction}
+use Rattle.rl_spec.specs.Prove.{reportEntries, callEntries, allEntries, proveOf, proveAllOf}
+use Rattle.rl_spec.specs.Lowerer.{tooTall, anyOver, lowerOf, lowerAnswer}
 use Rattle.rl_spec.specs.Printed.{lineAt}
 use Rattle.rl_spec.specs.Runner.{allHave, runOf, ranIn, valueOfWords}
 use Rattle.rl_spec.specs.Texts.{textPart, textFor, messageAt, messageAnswer, messageOut}
-use Rattle.rl_spec.specs.Boundary.{idOf, foldPacked, foldWords, isPlain, isValue, areValues, countOfWords, argumentsOf, runPacked, runWords, textPacked, messagePacked}
+use Rattle.rl_spec.specs.Boundary.{provePacked, lowerPacked, idOf, foldPacked, foldWords, isPlain, isValue, areValues, countOfWords, argumentsOf, outcomeWords, runPacked, runWords, textPacked, messagePacked}
 use Rattle.rl_examples.specs.MarkedImages.{flow}
 use Rattle.rl_examples.specs.LowerExamples.{lowering, decoding, running}
 use Rattle.rl_examples.specs.NodeRows.{folding, evaluating}
@@ -27,6 +35,10 @@ unfoldable bounding : Unit {0}
 unfolding isPlain isValue areValues countOfWords argumentsOf valueOfWords wordsValue allHave runOf ranIn foldOf textPart textFor messageAt messageAnswer messageOut lineAt plainFunction
 bounding = tt
 
+unfoldable reporting : Unit {0}
+unfolding reportEntries callEntries allEntries proveOf proveAllOf tooTall anyOver heights heightsFrom tallestChild tallestEntry lowerOf
+reporting = tt
+
 unfoldable imaging : Unit {0}
 unfolding imageOf sectionsIn recordsIn recordIn nextAt endAt fieldsAt widthsOf
 imaging = tt
@@ -35,7 +47,7 @@ imaging = tt
 
 abbrev pub taken : List (List ℕ)
 taken =
-    [] ∷ (0 ∷ 0 ∷ []) ∷ (1 ∷ 5 ∷ []) ∷ (2 ∷ 5 ∷ []) ∷ (3 ∷ 5 ∷ []) ∷ (3 ∷ 65536 ∷ []) ∷ (4 ∷ 0 ∷ []) ∷ (4 ∷ 1 ∷ [])
+    [] ∷ (0 ∷ 0 ∷ []) ∷ (1 ∷ 5 ∷ []) ∷ (2 ∷ 13832806255468478464 ∷ []) ∷ (3 ∷ 5 ∷ []) ∷ (3 ∷ 65536 ∷ []) ∷ (4 ∷ 0 ∷ []) ∷ (4 ∷ 1 ∷ [])
     ∷ (8 ∷ 0 ∷ []) ∷ (11 ∷ 131072 ∷ []) ∷ (12 ∷ 1 ∷ []) ∷ (16 ∷ 0 ∷ []) ∷ (17 ∷ 18446744073709551615 ∷ []) ∷ (20 ∷ 0 ∷ [])
     ∷ (1 ∷ 5 ∷ 4 ∷ 1 ∷ 0 ∷ 0 ∷ []) ∷ replicate 32 1 ∷ []
 
@@ -80,6 +92,17 @@ pub runs-so : runsOf 0 (1 ∷ 7 ∷ []) 9 ∷ runsOf 0 (3 ∷ 2 ∷ []) 9 ∷ ru
 unfolding lowering decoding running evaluating folding imaging bounding
 runs-so = refl
 
+-- ---- the four words of an outcome, and the words of a float and of truth values; -1.5 is 13832806255468478464 by its bits
+
+pub outcomes-so : outcomeWords (Returned (Ok (Const (Int (negsuc 0))))) 7 ∷ outcomeWords (Stopped (Const (Str 2))) 14 ∷ outcomeWords (Fault 4) 5 ∷ outcomeWords Spent 9 ∷ []
+    ≡ (1 ∷ 7 ∷ 9 ∷ 18446744073709551615 ∷ []) ∷ (2 ∷ 14 ∷ 3 ∷ 2 ∷ []) ∷ (3 ∷ 5 ∷ 4 ∷ 0 ∷ []) ∷ (4 ∷ 9 ∷ 0 ∷ 0 ∷ []) ∷ []
+outcomes-so = refl
+
+pub words-so : map foldWords (Found (folded.Value (Float (ofBits binary64 13832806255468478464))) ∷ Found (folded.Value (Bool true)) ∷ Found (folded.Value (Bool false)) ∷ Found folded.Nothing ∷ [])
+    ≡ (2 ∷ 13832806255468478464 ∷ []) ∷ (4 ∷ 1 ∷ []) ∷ (4 ∷ 0 ∷ []) ∷ (0 ∷ 0 ∷ []) ∷ []
+unfolding folding
+words-so = refl
+
 -- ---- folds of its nodes: flow, 4096, the text of index 2; another arena, a node that is missing
 
 abbrev pub foldsOf : ℕ → ℕ → List ℕ
@@ -89,6 +112,23 @@ pub folds-so : foldsOf 1 0 ∷ foldsOf 1 1 ∷ foldsOf 1 3 ∷ foldsOf 7 1 ∷ f
     ≡ (0 ∷ 0 ∷ 0 ∷ []) ∷ (0 ∷ 1 ∷ 4096 ∷ []) ∷ (0 ∷ 3 ∷ 2 ∷ []) ∷ (64424509440 ∷ 0 ∷ 0 ∷ []) ∷ (68719476736 ∷ 0 ∷ 0 ∷ []) ∷ []
 unfolding lowering decoding running folding imaging bounding
 folds-so = refl
+
+-- ---- a byte too many is 10 at 213 for each of them, and leaves zeros; without it, one report, two of all calls, 571 bytes
+
+abbrev pub cut : List ℕ
+cut = encode flow ++ 0 ∷ []
+
+pub refused-so : foldPacked (foldOf cut 8192 (idOf 1 1)) ∷ runPacked (runOf cut 8192 0 (argumentsOf (1 ∷ 7 ∷ [])) 9) ∷ provePacked (proveOf cut 8192 0 4)
+    ∷ provePacked (proveAllOf cut 8192 8) ∷ lowerPacked (lowerAnswer (lowerOf cut 8192 0 65535)) ∷ textPacked (textFor cut 8192 0)
+    ∷ messagePacked (messageAnswer cut 8192 0 0) ∷ foldWords (foldOf cut 8192 (idOf 1 1)) ++ runWords (runOf cut 8192 0 (argumentsOf (1 ∷ 7 ∷ [])) 9)
+    ≡ replicate 7 42949673173 ++ replicate 6 0
+unfolding lowering decoding bounding reporting
+refused-so = refl
+
+pub answered-so : provePacked (proveOf (encode flow) 8192 1 4) ∷ provePacked (proveAllOf (encode flow) 8192 8) ∷ provePacked (proveAllOf (encode flow) 8192 7)
+    ∷ lowerPacked (lowerAnswer (lowerOf (encode flow) 8192 0 65535)) ∷ [] ≡ 1 ∷ 2 ∷ 77309411328 ∷ 571 ∷ []
+unfolding lowering decoding running folding evaluating proving imaging bounding reporting
+answered-so = refl
 
 -- ---- its texts: "open" at 23, "flow" at 27, "flow id range" at 31, in 16 bits, and above them the lengths; then 20
 

@@ -101,6 +101,22 @@ pub fn nested_to(way: usize, kind: usize, [expressions, statements]: [u16; 2]) -
     })
 }
 
+/// As many loops inside one another as can be, the innermost with an empty body;
+/// each has a tall condition, or none.
+pub fn emptied(kind: Option<usize>) -> Image {
+    code::image(&["x"], |code| {
+        let holds = kind.map(|kind| tall(code, kind, EXPRESSION_HEIGHT));
+        let mut body = vec![];
+        for _ in 0..STATEMENT_HEIGHT {
+            body = vec![match holds {
+                Some(holds) => code.while_loop(holds, &body),
+                None => code.endless(&body),
+            }];
+        }
+        body
+    })
+}
+
 /// Bindings of long names, as many as can be, by texts of their own.
 fn long_bindings() -> (Code, Vec<u16>) {
     let mut builder: Builder = long(BINDINGS);

@@ -1,13 +1,15 @@
 -- What each entry point leaves in the slices that are lent to it: zeros where it refuses, and else what it answers, then zeros.
 -- Assumes nothing.
-use Prim.Native.Nat.{ℕ, _-_}
+use Prim.Native.Nat.{ℕ, _+_, _-_, _*_, _^_}
 use mathlib.Core.Path.{_≡_, refl, sym, ap, _∙_}
-use mathlib.Core.List.{List, _++_}
+use mathlib.Core.List.{List, [], _∷_, _++_}
 use lib.ListN.{length, replicate}
+use Rattle.rl_spec.specs.declared.Answer.the-variants as read
 use Rattle.rl_spec.specs.declared.Id.{Id}
 use Rattle.rl_spec.specs.declared.Cause.{Cause}
 use Rattle.rl_spec.specs.declared.Folded.{Folded}
 use Rattle.rl_spec.specs.declared.FoldAnswer.the-variants as fold
+use Rattle.rl_spec.specs.declared.LowerAnswer.the-variants as lower
 use Rattle.rl_spec.specs.declared.MessageAnswer.the-variants as message
 use Rattle.rl_spec.specs.declared.ProveAnswer.the-variants as prove
 use Rattle.rl_spec.specs.declared.Arguments.{Arguments}
@@ -15,23 +17,27 @@ use Rattle.rl_spec.specs.declared.Outcome.{Outcome}
 use Rattle.rl_spec.specs.declared.RunAnswer.the-variants as run
 use Rattle.rl_spec.specs.declared.TextAnswer.the-variants as text
 use Rattle.rl_spec.specs.declared.TextPart.{TextPart}
-use Rattle.rl_spec.specs.Read.{countsOf, workOf}
+use Rattle.rl_spec.specs.Read.{countsOf, workOf, packed}
 use Rattle.rl_spec.specs.Image.{Image, encode, imageOf}
 use Rattle.rl_spec.specs.Fold.{foldOf, foldNumber, workUnless}
 use Rattle.rl_spec.specs.Prove.{callEntries, allEntries, proveOf, reportsOf, proveAllOf, allReportsOf, proveNumber}
 use Rattle.rl_spec.specs.Texts.{textFor, textNumber, messageAt, messageAnswer, messageBytes, messageOut, messageNumber}
 use Rattle.rl_spec.specs.Lowerer.{made, refused, lowerOf, lowerNumber, lowerOut}
 use Rattle.rl_spec.specs.Runner.{runOf, runNumber}
+use Rattle.rl_spec.specs.Words.{sortWordOf, payloadWordOf}
+use Rattle.rl_spec.specs.Boundary.{provePacked, lowerPacked, foldPacked, foldWords, outcomeWords, runPacked, runWords, textPacked, messagePacked}
 use Rattle.rl_images.specs.Reading.Refusals.{zeros-unless}
 use Rattle.rl_theorems.specs.Answers.OfTexts.{message-accepts}
 
 module _ (s : List ℕ) (k : ℕ) where
-  -- folding: the work slice
-  pub fold-zero : (id : Id) (q : Cause) (p : ℕ) → foldOf s k id ≡ fold.Refused q p → workUnless (foldNumber (foldOf s k id)) s k ≡ replicate k 0
-  fold-zero id q p e = rw e (sym (zeros-unless q s k))
+  -- folding: the work slice and the value's two words
+  pub fold-zero : (id : Id) (q : Cause) (p : ℕ) → foldOf s k id ≡ fold.Refused q p →
+      (workUnless (foldNumber (foldOf s k id)) s k ≡ replicate k 0) × (foldWords (foldOf s k id) ≡ replicate 2 0)
+  fold-zero id q p e = rw e (sym (zeros-unless q s k), refl)
 
-  pub fold-leaves : (id : Id) (v : Folded) → foldOf s k id ≡ fold.Found v → workUnless (foldNumber (foldOf s k id)) s k ≡ workOf s k
-  fold-leaves id v e = rw e refl
+  pub fold-leaves : (id : Id) (v : Folded) → foldOf s k id ≡ fold.Found v →
+      (workUnless (foldNumber (foldOf s k id)) s k ≡ workOf s k) × (foldWords (foldOf s k id) ≡ sortWordOf v ∷ payloadWordOf v ∷ [])
+  fold-leaves id v e = rw e (refl, refl)
 
   -- proving a call: the work slice and the slice of reports
   module _ (call room : ℕ) where
@@ -97,10 +103,28 @@ module _ (s : List ℕ) (k : ℕ) where
         × (lowerOut room (lowerOf s k f room) ≡ encode im′ ++ replicate (room - length (encode im′)) 0)
     lower-leaves im′ e = rw e (refl, refl)
 
-  -- running: the work slice
+  -- running: the work slice and the outcome's four words
   module _ (f : ℕ) (args : Arguments) (budget : ℕ) where
-    pub run-zero : (q : Cause) (p : ℕ) → runOf s k f args budget ≡ run.Refused q p → workUnless (runNumber (runOf s k f args budget)) s k ≡ replicate k 0
-    run-zero q p e = rw e (sym (zeros-unless q s k))
+    pub run-zero : (q : Cause) (p : ℕ) → runOf s k f args budget ≡ run.Refused q p →
+        (workUnless (runNumber (runOf s k f args budget)) s k ≡ replicate k 0) × (runWords (runOf s k f args budget) ≡ replicate 4 0)
+    run-zero q p e = rw e (sym (zeros-unless q s k), refl)
 
-    pub run-leaves : (o : Outcome) (n : ℕ) → runOf s k f args budget ≡ run.Ran o n → workUnless (runNumber (runOf s k f args budget)) s k ≡ workOf s k
-    run-leaves o n e = rw e refl
+    pub run-leaves : (o : Outcome) (n : ℕ) → runOf s k f args budget ≡ run.Ran o n →
+        (workUnless (runNumber (runOf s k f args budget)) s k ≡ workOf s k) × (runWords (runOf s k f args budget) ≡ outcomeWords o n)
+    run-leaves o n e = rw e (refl, refl)
+
+-- ---- an answer in one number: a refusal's is the number and the place of `packed`, in all of them; any other is what is answered
+
+module _ (q : Cause) (p : ℕ) where
+  pub refusals-packed : (foldPacked (fold.Refused q p) ≡ packed (read.Refused q p))
+      × (runPacked (run.Refused q p) ≡ packed (read.Refused q p))
+      × (provePacked (prove.Refused q p) ≡ packed (read.Refused q p))
+      × (lowerPacked (lower.Refused q p) ≡ packed (read.Refused q p))
+      × (textPacked (text.Refused q p) ≡ packed (read.Refused q p))
+      × (messagePacked (message.Refused q p) ≡ packed (read.Refused q p))
+  refusals-packed = (refl, refl, refl, refl, refl, refl)
+
+pub answers-packed : (v : Folded) (o : Outcome) (n : ℕ) (part : TextPart) → (foldPacked (fold.Found v) ≡ 0) × (runPacked (run.Ran o n) ≡ 0)
+    × (provePacked (prove.Proved n) ≡ n) × (lowerPacked (lower.Lowered n) ≡ n) × (messagePacked (message.Message n) ≡ n)
+    × (textPacked (text.Found part) ≡ part .start + part .length * 2 ^ 16)
+answers-packed v o n part = (refl, refl, refl, refl, refl, refl)

@@ -1,25 +1,30 @@
 -- DEMAND 1. Any bytes are read, or refused with the number and place of 01's table and for those causes only; a refusal leaves every lent
 -- output zero. That all ends needs no statement here: definitions are total, and code meets a contract only where it ends.
 -- Assumes nothing.
-use Prim.Native.Nat.{ℕ, _+_, _-_, _*_, _/_, _≤_, _<_}
+use Prim.Native.Nat.{ℕ, _+_, _-_, _*_, _/_, _^_, _≤_, _<_}
 use mathlib.Core.Path.{_≡_}
 use mathlib.Core.Bool.{true, false}
 use mathlib.Core.Option.{some}
 use mathlib.Core.List.{List, [], _∷_, _++_, map}
 use mathlib.Core.Logic.{_⊎_, _↔_}
+use lib.IntN.{negsuc}
+use lib.Ieee.{ofBits, binary64}
 use lib.ListN.{length, getD, take, drop, replicate}
 use Rattle.rl_spec.specs.declared.Answer.the-variants.{Accepted, Refused}
 use Rattle.rl_spec.specs.declared.ArenaNo.{ArenaNo}
 use Rattle.rl_spec.specs.declared.Arguments.{Arguments}
 use Rattle.rl_spec.specs.declared.Cause.the-variants.{BytesEnd, BadText, BadReference, TooHigh, WrongKind, CountOverLimit, BadValue, BytesLeft, WrongValues, NoSuchText}
 use Rattle.rl_spec.specs.declared.Cause.{Cause}
-use Rattle.rl_spec.specs.declared.ConstVal.the-variants.{Str}
+use Rattle.rl_spec.specs.declared.ConstVal.the-variants.{Int, Float, Str, Bool}
 use Rattle.rl_spec.specs.declared.Counts.{Counts}
 use Rattle.rl_spec.specs.declared.FoldAnswer.the-variants as fold
 use Rattle.rl_spec.specs.declared.FoldAnswer.the-variants.{Found}
+use Rattle.rl_spec.specs.declared.Folded.the-variants as folded
 use Rattle.rl_spec.specs.declared.Folded.{Folded}
 use Rattle.rl_spec.specs.declared.Id.{Id}
+use Rattle.rl_spec.specs.declared.LowerAnswer.the-variants as lower
 use Rattle.rl_spec.specs.declared.MessageAnswer.the-variants as message
+use Rattle.rl_spec.specs.declared.Outcome.the-variants.{Returned, Stopped, Fault, Spent}
 use Rattle.rl_spec.specs.declared.Outcome.{Outcome}
 use Rattle.rl_spec.specs.declared.Plain.the-variants.{Const}
 use Rattle.rl_spec.specs.declared.ProveAnswer.the-variants as prove
@@ -46,9 +51,10 @@ use Rattle.rl_spec.specs.Prove.{callEntries, allEntries, proveOf, reportsOf, pr
 use Rattle.rl_spec.specs.Printed.{lineAt}
 use Rattle.rl_spec.specs.Texts.{textPart, textFor, textNumber, messageAt, messageAnswer, messageOut, messageNumber}
 use Rattle.rl_spec.specs.Lower.{lowered, unlimited}
-use Rattle.rl_spec.specs.Lowerer.{made, refused, lowerOf, lowerNumber, lowerOut}
+use Rattle.rl_spec.specs.Lowerer.{made, refused, lowerOf, lowerAnswer, lowerNumber, lowerOut}
 use Rattle.rl_spec.specs.Runner.{given, ranIn, runOf, runNumber}
-use Rattle.rl_spec.specs.Boundary.{areValues, countOfWords, argumentsOf, textPacked}
+use Rattle.rl_spec.specs.Words.{sortWordOf, payloadWordOf}
+use Rattle.rl_spec.specs.Boundary.{provePacked, lowerPacked, idOf, foldPacked, foldWords, areValues, countOfWords, argumentsOf, outcomeWords, runPacked, runWords, textPacked, messagePacked}
 use Rattle.rl_laws.specs.Heights.{exprHeight}
 use Rattle.rl_images.specs.Encoding.Accepted as Well
 use Rattle.rl_images.specs.Encoding.Encoded as Encoded
@@ -162,10 +168,10 @@ module _ (s : List ℕ) (k : ℕ) where
   pub refused-work : (q : Cause) (p : ℕ) → answerOf s k ≡ Refused q p → workOf s k ≡ replicate k 0
   refused-work = Refusals.refused-work s k
 
-  pub fold-zero : (id : Id) (q : Cause) (p : ℕ) → foldOf s k id ≡ fold.Refused q p → workUnless (foldNumber (foldOf s k id)) s k ≡ replicate k 0
+  pub fold-zero : (id : Id) (q : Cause) (p : ℕ) → foldOf s k id ≡ fold.Refused q p → (workUnless (foldNumber (foldOf s k id)) s k ≡ replicate k 0) × (foldWords (foldOf s k id) ≡ replicate 2 0)
   fold-zero = Outputs.fold-zero s k
 
-  pub fold-leaves : (id : Id) (v : Folded) → foldOf s k id ≡ fold.Found v → workUnless (foldNumber (foldOf s k id)) s k ≡ workOf s k
+  pub fold-leaves : (id : Id) (v : Folded) → foldOf s k id ≡ fold.Found v → (workUnless (foldNumber (foldOf s k id)) s k ≡ workOf s k) × (foldWords (foldOf s k id) ≡ sortWordOf v ∷ payloadWordOf v ∷ [])
   fold-leaves = Outputs.fold-leaves s k
 
   pub prove-zero : (call room : ℕ) (q : Cause) (p : ℕ) → proveOf s k call room ≡ prove.Refused q p → (workUnless (proveNumber (proveOf s k call room)) s k ≡ replicate k 0) × (reportsOf s k call room ≡ replicate room 0)
@@ -199,10 +205,10 @@ module _ (s : List ℕ) (k : ℕ) where
   pub lower-leaves : (f room : ℕ) (im′ : Image) → lowerOf s k f room ≡ made im′ → (workUnless (lowerNumber (lowerOf s k f room)) s k ≡ workOf s k) × (lowerOut room (lowerOf s k f room) ≡ encode im′ ++ replicate (room - length (encode im′)) 0)
   lower-leaves = Outputs.lower-leaves s k
 
-  pub run-zero : (f : ℕ) (args : Arguments) (budget : ℕ) (q : Cause) (p : ℕ) → runOf s k f args budget ≡ run.Refused q p → workUnless (runNumber (runOf s k f args budget)) s k ≡ replicate k 0
+  pub run-zero : (f : ℕ) (args : Arguments) (budget : ℕ) (q : Cause) (p : ℕ) → runOf s k f args budget ≡ run.Refused q p → (workUnless (runNumber (runOf s k f args budget)) s k ≡ replicate k 0) × (runWords (runOf s k f args budget) ≡ replicate 4 0)
   run-zero = Outputs.run-zero s k
 
-  pub run-leaves : (f : ℕ) (args : Arguments) (budget : ℕ) (o : Outcome) (n : ℕ) → runOf s k f args budget ≡ run.Ran o n → workUnless (runNumber (runOf s k f args budget)) s k ≡ workOf s k
+  pub run-leaves : (f : ℕ) (args : Arguments) (budget : ℕ) (o : Outcome) (n : ℕ) → runOf s k f args budget ≡ run.Ran o n → (workUnless (runNumber (runOf s k f args budget)) s k ≡ workOf s k) × (runWords (runOf s k f args budget) ≡ outcomeWords o n)
   run-leaves = Outputs.run-leaves s k
 
 -- the numbers of the causes are those of 01's table; in one word the number stands above the place's 32 bits (NumberTable)
@@ -211,6 +217,13 @@ numbers-so = NumberTable.numbers-so
 
 pub packed-so : packed (Refused BadText 300) ≡ 25769804076
 packed-so = NumberTable.packed-so
+
+-- in one word: a refusal's is the same of all entry points, and any other is what is answered (Outputs)
+pub refusals-packed : (q : Cause) (p : ℕ) → (foldPacked (fold.Refused q p) ≡ packed (Refused q p)) × (runPacked (run.Refused q p) ≡ packed (Refused q p)) × (provePacked (prove.Refused q p) ≡ packed (Refused q p)) × (lowerPacked (lower.Refused q p) ≡ packed (Refused q p)) × (textPacked (text.Refused q p) ≡ packed (Refused q p)) × (messagePacked (message.Refused q p) ≡ packed (Refused q p))
+refusals-packed = Outputs.refusals-packed
+
+pub answers-packed : (v : Folded) (o : Outcome) (n : ℕ) (part : TextPart) → (foldPacked (fold.Found v) ≡ 0) × (runPacked (run.Ran o n) ≡ 0) × (provePacked (prove.Proved n) ≡ n) × (lowerPacked (lower.Lowered n) ≡ n) × (messagePacked (message.Message n) ≡ n) × (textPacked (text.Found part) ≡ part .start + part .length * 2 ^ 16)
+answers-packed = Outputs.answers-packed
 
 -- ---- what C and Rust get, closed: words taken for values, and words that are none; runs, folds, texts, messages and lines by number (BoundaryTable)
 
@@ -233,9 +246,27 @@ pub runs-so : BoundaryTable.runsOf 0 (1 ∷ 7 ∷ []) 9 ∷ BoundaryTable.runsOf
     ∷ (85899345920 ∷ 0 ∷ 0 ∷ 0 ∷ 0 ∷ []) ∷ (90194313216 ∷ 0 ∷ 0 ∷ 0 ∷ 0 ∷ []) ∷ []
 runs-so = BoundaryTable.runs-so
 
+pub outcomes-so : outcomeWords (Returned (Ok (Const (Int (negsuc 0))))) 7 ∷ outcomeWords (Stopped (Const (Str 2))) 14 ∷ outcomeWords (Fault 4) 5 ∷ outcomeWords Spent 9 ∷ []
+    ≡ (1 ∷ 7 ∷ 9 ∷ 18446744073709551615 ∷ []) ∷ (2 ∷ 14 ∷ 3 ∷ 2 ∷ []) ∷ (3 ∷ 5 ∷ 4 ∷ 0 ∷ []) ∷ (4 ∷ 9 ∷ 0 ∷ 0 ∷ []) ∷ []
+outcomes-so = BoundaryTable.outcomes-so
+
+pub words-so : map foldWords (fold.Found (folded.Value (Float (ofBits binary64 13832806255468478464))) ∷ fold.Found (folded.Value (Bool true)) ∷ fold.Found (folded.Value (Bool false)) ∷ fold.Found folded.Nothing ∷ [])
+    ≡ (2 ∷ 13832806255468478464 ∷ []) ∷ (4 ∷ 1 ∷ []) ∷ (4 ∷ 0 ∷ []) ∷ (0 ∷ 0 ∷ []) ∷ []
+words-so = BoundaryTable.words-so
+
 pub folds-so : BoundaryTable.foldsOf 1 0 ∷ BoundaryTable.foldsOf 1 1 ∷ BoundaryTable.foldsOf 1 3 ∷ BoundaryTable.foldsOf 7 1 ∷ BoundaryTable.foldsOf 1 7 ∷ []
     ≡ (0 ∷ 0 ∷ 0 ∷ []) ∷ (0 ∷ 1 ∷ 4096 ∷ []) ∷ (0 ∷ 3 ∷ 2 ∷ []) ∷ (64424509440 ∷ 0 ∷ 0 ∷ []) ∷ (68719476736 ∷ 0 ∷ 0 ∷ []) ∷ []
 folds-so = BoundaryTable.folds-so
+
+pub refused-so : foldPacked (foldOf BoundaryTable.cut 8192 (idOf 1 1)) ∷ runPacked (runOf BoundaryTable.cut 8192 0 (argumentsOf (1 ∷ 7 ∷ [])) 9) ∷ provePacked (proveOf BoundaryTable.cut 8192 0 4)
+    ∷ provePacked (proveAllOf BoundaryTable.cut 8192 8) ∷ lowerPacked (lowerAnswer (lowerOf BoundaryTable.cut 8192 0 65535)) ∷ textPacked (textFor BoundaryTable.cut 8192 0)
+    ∷ messagePacked (messageAnswer BoundaryTable.cut 8192 0 0) ∷ foldWords (foldOf BoundaryTable.cut 8192 (idOf 1 1)) ++ runWords (runOf BoundaryTable.cut 8192 0 (argumentsOf (1 ∷ 7 ∷ [])) 9)
+    ≡ replicate 7 42949673173 ++ replicate 6 0
+refused-so = BoundaryTable.refused-so
+
+pub answered-so : provePacked (proveOf (encode MarkedImages.flow) 8192 1 4) ∷ provePacked (proveAllOf (encode MarkedImages.flow) 8192 8) ∷ provePacked (proveAllOf (encode MarkedImages.flow) 8192 7)
+    ∷ lowerPacked (lowerAnswer (lowerOf (encode MarkedImages.flow) 8192 0 65535)) ∷ [] ≡ 1 ∷ 2 ∷ 77309411328 ∷ 571 ∷ []
+answered-so = BoundaryTable.answered-so
 
 pub texts-so : map (λ t. textPacked (textFor (encode MarkedImages.flow) 8192 t)) (0 ∷ 1 ∷ 2 ∷ 3 ∷ 65536 ∷ [])
     ≡ 262167 ∷ 262171 ∷ 851999 ∷ 85899345920 ∷ 85899345920 ∷ []

@@ -42,6 +42,7 @@ const KNOWN: usize = 100_000;
 fn listed() -> Vec<Vec<u8>> {
     let ways = (0..deep::NESTED).flat_map(|way| (0..deep::TALL).map(move |kind| (way, kind)));
     let mut all: Vec<Image> = ways.map(|(way, kind)| deep::nested(way, kind)).collect();
+    all.extend((0..deep::TALL).map(Some).chain([None]).map(deep::emptied));
     all.extend((0..deep::TALL).map(deep::called));
     all.extend(limits::all());
     all.extend([hostile::doubled(EXPRESSION_HEIGHT.into()), hostile::deep_tree()]);
