@@ -8,7 +8,6 @@ use lib.ListN.{length, getD, take, drop, replicate, length-replicate}
 use lib.Seq.{paste, take-length}
 use mir.Syntax.{w32}
 use mir.Val.{Fits}
-use Rattle.rl_laws.specs.Tests.{by-ltb}
 use Rattle.rl_spec.specs.declared.Cause.{Cause}
 use Rattle.rl_spec.specs.declared.Counts.{Counts}
 use Rattle.rl_spec.specs.declared.Violation.{Violation}
@@ -21,7 +20,7 @@ use Rattle.rl_spec.specs.Prove.{callEntries, violationsOf, reportEntries}
 use Rattle.rl_spec.specs.Message.{defaultText, messageBy, opening}
 use Rattle.rl_spec.specs.Printed.{refusedLine, lineOf, lineAt}
 use Rattle.rl_spec.specs.Texts.{messageAt}
-use Rattle.rl_images.specs.Images.Reports.{kindOf, numberAmong, at-most-512, numbered, default-short, message-short, line-short, refused-short, entry-kind, entry-number, line-at, no-line, message-at, no-message, callee-there}
+use Rattle.rl_images.specs.Images.Reports.{kindOf, numberAmong, at-most-512, numbered, default-short, line-fits, message-fits, refused-short, entry-kind, entry-number, line-at, no-line, message-at, no-message, callee-there}
 use Rattle.rl_text_out.specs.Put.{fitting, withText, afterText}
 use Rattle.rl_lines.specs.declared.lines.Lines.{Lines}
 use Rattle.rl_lines.specs.Opened.{Known}
@@ -153,9 +152,7 @@ module _ (s p : List ℕ) (c : Counts) (kn : Known s p c) (lines : Lines) (a : l
     module _ (n : ℕ) (l : List ℕ) (z : l ≡ replicate n 0) where
       module _ (m : n ≡ 65536) where
         short : length (lineAt im (lines .call) number) ≤ n
-        short =
-            let k : length (lineOf im (lines .function) (lines .call) (callAt im (lines .call) .span) found) ≤ 65536 = line-short im (kn .whole) (lines .function) (lines .call) (callAt im (lines .call) .span) found in
-            rw (line-at im (lines .call) (lines .function) number callee there) (omega arith)
+        short = omega (arith, line-fits im (kn .whole) (lines .call) number)
 
         pub line-length : (x : ℕ) → Roomy (x ≡ afterText l 0 (lineOf (imageFound s p c) (lines .function) (lines .call) (lines .span) v)) → x ≡ length (lineAt im (lines .call) number)
         line-length x g = g room ∙ ap (afterText l 0) line-is ∙ put-after n l _ z short
@@ -165,9 +162,7 @@ module _ (s p : List ℕ) (c : Counts) (kn : Known s p c) (lines : Lines) (a : l
 
       module _ (m : n ≡ 65535) where
         told : length (messageAt im (lines .call) number) ≤ n
-        told =
-            let k : length (opening ++ messageBy im (lines .function) found) ≤ 65535 = message-short im (kn .whole) (lines .function) found in
-            rw (message-at im (lines .call) (lines .function) number callee there) (omega arith)
+        told = omega (arith, message-fits im (kn .whole) (lines .call) number)
 
         pub message-length : (x : ℕ) → Roomy (x ≡ afterText l 0 (opening ++ messageBy (imageFound s p c) (lines .function) v)) → x ≡ length (messageAt im (lines .call) number)
         message-length x g = g room ∙ ap (afterText l 0) message-is ∙ put-after n l _ z told
@@ -177,17 +172,8 @@ module _ (s p : List ℕ) (c : Counts) (kn : Known s p c) (lines : Lines) (a : l
 
 -- ---- the length of a message
 
-pub message-fits : (s p : List ℕ) (c : Counts) → Known s p c → (call number n : ℕ) → n ≡ length (messageAt (imageOf s) call number) → Fits w32 n
-message-fits s p c kn call number n e = by-ltb number (length (violationsOf (imageOf s) call)) some-report no-report
-  where
-    some-report : number < length (violationsOf (imageOf s) call) → Fits w32 n
-    some-report h =
-        let f = callee-there (imageOf s) call (omega (arith, h)) in
-        let m = ap length (message-at (imageOf s) call (f .0) number (f .1) h) in
-        omega (arith, e, m, message-short (imageOf s) (kn .whole) (f .0) (getD (violationsOf (imageOf s) call) number (Refinement 0)))
-
-    no-report : length (violationsOf (imageOf s) call) ≤ number → Fits w32 n
-    no-report h = let m = ap length (no-message (imageOf s) call number h) in omega (arith, e, m)
+pub message-word : (s p : List ℕ) (c : Counts) → Known s p c → (call number n : ℕ) → n ≡ length (messageAt (imageOf s) call number) → Fits w32 n
+message-word s p c kn call number n e = omega (arith, e, message-fits (imageOf s) (kn .whole) call number)
 
 -- ---- a refusal
 

@@ -219,6 +219,27 @@ module _ (im : Image) (call : ℕ) where
       go none e l = absurd (omega arith)
       go (some f) e l = (f, e)
 
+module _ (im : Image) (wf : WellFormed im) (call n : ℕ) where
+  -- THEOREM: every line fits the 65,536 bytes of the printer's buffer
+  pub line-fits : length (lineAt im call n) ≤ 65536
+  line-fits =
+      by-ltb n (length (violationsOf im call))
+      (λ l.
+      let f = callee-there im call (omega (arith, l)) in
+      rw (line-at im call (f .0) n (f .1) l)
+      (line-short im wf (f .0) call (callAt im call .span) (getD (violationsOf im call) n (Refinement 0))))
+      (λ l. rw (no-line im call n l) (omega arith))
+
+  -- THEOREM: and every message the 65,535 bytes of its array
+  pub message-fits : length (messageAt im call n) ≤ 65535
+  message-fits =
+      by-ltb n (length (violationsOf im call))
+      (λ l.
+      let f = callee-there im call (omega (arith, l)) in
+      rw (message-at im call (f .0) n (f .1) l)
+      (message-short im wf (f .0) (getD (violationsOf im call) n (Refinement 0))))
+      (λ l. rw (no-message im call n l) (omega arith))
+
 -- ---- how many reports, and their numbers: at most one for each parameter and each requires of the callee
 
 -- a range has as many numbers as it says

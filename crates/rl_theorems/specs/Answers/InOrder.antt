@@ -1,6 +1,6 @@
 -- The printer's lines by their numbers are all that it writes: call after call, and of a call one for each report, in order; and what a line is.
 -- Assumes nothing.
-use Prim.Native.Nat.{ℕ, zero, suc, _+_, _≤_, _<_}
+use Prim.Native.Nat.{ℕ, zero, suc, _+_, _<_}
 use mathlib.Core.Path.{_≡_, refl, sym, ap, ap₂}
 use mathlib.Core.List.{List, [], _∷_, _++_, map, append-nil, append-assoc}
 use native.Mathlib.Omega.{arith}
@@ -12,7 +12,7 @@ use Rattle.rl_spec.specs.declared.Counts.{Counts}
 use Rattle.rl_spec.specs.declared.Violation.{Violation}
 use Rattle.rl_spec.specs.declared.Violation.the-variants.{Refinement}
 use Rattle.rl_spec.specs.Read.{answerOf}
-use Rattle.rl_spec.specs.Image.{Image, imageOf, WellFormed}
+use Rattle.rl_spec.specs.Image.{Image, imageOf}
 use Rattle.rl_spec.specs.Tree.{ascii}
 use Rattle.rl_spec.specs.Records.{callAt}
 use Rattle.rl_spec.specs.Ranges.{upFrom}
@@ -20,8 +20,7 @@ use Rattle.rl_spec.specs.Prove.{violationsOf}
 use Rattle.rl_spec.specs.Message.{decimal, opening, messageBy}
 use Rattle.rl_spec.specs.Texts.{messageAt}
 use Rattle.rl_spec.specs.Printed.{refusedLine, lineWith, lineOf, callLines, lineAt, allLines, linesOf, joined, outputOf}
-use Rattle.rl_laws.specs.Tests.{by-ltb}
-use Rattle.rl_images.specs.Images.Reports.{message-short, line-short, lines-count, line-at, no-line, message-at, no-message, callee-there}
+use Rattle.rl_images.specs.Images.Reports.{lines-count, line-at, message-at, callee-there}
 
 -- ---- the lines in order
 
@@ -64,26 +63,6 @@ module _ (s : List ℕ) where
 -- ---- a line
 
 module _ (im : Image) (call n : ℕ) where
-  -- THEOREM: every one fits the 65,536 bytes of the printer's buffer
-  pub line-fits : WellFormed im → length (lineAt im call n) ≤ 65536
-  line-fits wf =
-      by-ltb n (length (violationsOf im call))
-      (λ l.
-      let f = callee-there im call (omega (arith, l)) in
-      rw (line-at im call (f .0) n (f .1) l)
-      (line-short im wf (f .0) call (callAt im call .span) (getD (violationsOf im call) n (Refinement 0))))
-      (λ l. rw (no-line im call n l) (omega arith))
-
-  -- THEOREM: and every message the 65,535 bytes of its array
-  pub message-fits : WellFormed im → length (messageAt im call n) ≤ 65535
-  message-fits wf =
-      by-ltb n (length (violationsOf im call))
-      (λ l.
-      let f = callee-there im call (omega (arith, l)) in
-      rw (message-at im call (f .0) n (f .1) l)
-      (message-short im wf (f .0) (getD (violationsOf im call) n (Refinement 0))))
-      (λ l. rw (no-message im call n l) (omega arith))
-
   module _ (l : n < length (violationsOf im call)) where
     -- THEOREM: where there is a report, the call's number, its span, the report's message and a newline
     pub message-in-line : lineAt im call n ≡ decimal call ++ ascii " " ++ decimal (callAt im call .span) ++ ascii " " ++ messageAt im call n ++ ascii "\n"

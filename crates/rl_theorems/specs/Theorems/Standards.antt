@@ -226,7 +226,7 @@ pub output-refused : (s : List ℕ) (q : Cause) (p : ℕ) → answerOf s 8192 �
 output-refused = InOrder.output-refused
 
 -- a line with a report has the report's message in it and ends in a newline; every line fits the printer's buffer, and every message its
--- array (InOrder)
+-- array (InOrder; the last two: Reports of rl_images)
 pub message-in-line : (im : Image) (call n : ℕ) → n < length (violationsOf im call) → lineAt im call n ≡ decimal call ++ ascii " " ++ decimal (callAt im call .span) ++ ascii " " ++ messageAt im call n ++ ascii "\n"
 message-in-line = InOrder.message-in-line
 
@@ -234,10 +234,10 @@ pub line-ends : (im : Image) (call n : ℕ) → n < length (violationsOf im call
 line-ends = InOrder.line-ends
 
 pub line-fits : (im : Image) → WellFormed im → (call n : ℕ) → length (lineAt im call n) ≤ 65536
-line-fits im wf call n = InOrder.line-fits im call n wf
+line-fits = Reports.line-fits
 
 pub message-fits : (im : Image) → WellFormed im → (call n : ℕ) → length (messageAt im call n) ≤ 65535
-message-fits im wf call n = InOrder.message-fits im call n wf
+message-fits = Reports.message-fits
 
 -- a call has at most the 512 reports that the printer's slice takes (rl_images: Images.Reports)
 pub at-most-512 : (im : Image) → WellFormed im → (call : ℕ) → length (violationsOf im call) ≤ 512

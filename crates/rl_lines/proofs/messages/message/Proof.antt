@@ -1,6 +1,6 @@
 use mathlib.Core.Path.{_≡_}
 use lib.ListN.{length}
-use Rattle.rl_lines.proofs.LineLaws.{message-fits}
+use Rattle.rl_lines.proofs.LineLaws.{message-word}
 use Rattle.rl_lines.proofs.OpenLaws.{opened-known, opened-classed}
 use borrow.Author.Needs.{needs}
 use Rattle.rl_lines.proofs.messages.message.Statement.{statement}
@@ -58,7 +58,7 @@ cast-t32 : tie.Need-cast-t32
 cast-t32 c =
     let o = c .before .before .before .before .before .before .before .before .before .before .before .«open» .ensures .1 .1 in
     let f = c .before .before .before .before .before .before .before .answer2 .given .1 in
-    let fits = message-fits _ _ _ (opened-known _ _ _ _ o _ _ f) _ _ _ (c .message-in .ensures .0) in
+    let fits = message-word _ _ _ (opened-known _ _ _ _ o _ _ f) _ _ _ (c .message-in .ensures .0) in
     search (fits, needs)
 
 same-length-2 : tie.Need-same-length-2
