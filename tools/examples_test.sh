@@ -173,6 +173,17 @@ run 0 'returned Err("modem not known") in 15 steps' 0 1000 int:24 false
 run 0 'fault 2 after 7 steps' 0 1000 int:24 int:1
 run 0 'fault 4 after 5 steps' 0 1000 ok:int:24 true
 
+image priority samples/priority.img 0 <<'END'
+1 7 contract violation (proven at compile time): priority above 7
+2 8 contract violation (proven at compile time): refinement failed: priority >= 0
+function 0: lowered to 594 bytes
+END
+run 0 'returned 224 in 14 steps' 0 1000 int:7
+run 0 'returned 0 in 14 steps' 0 14 int:0
+run 0 'spent after 13 steps' 0 13 int:7
+run 0 'stopped with "priority above 7" after 14 steps' 0 1000 int:9
+run 0 'stopped with "refinement failed: priority >= 0" after 9 steps' 0 1000 int:-1
+
 image cut samples/cut.img 1 <<'END'
 refused 3 at 99
 END

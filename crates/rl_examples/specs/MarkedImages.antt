@@ -25,6 +25,9 @@ uint n = made 19 (num 2 ∷ num n ∷ [])
 abbrev pub byte : ℕ → Rec
 byte n = made 21 (num 2 ∷ num n ∷ [])
 
+abbrev pub character : ℕ → Rec
+character scalar = made 29 (num 2 ∷ num scalar ∷ [])
+
 abbrev pub string : ℕ → Rec
 string t = made 25 (num 2 ∷ num t ∷ [])
 

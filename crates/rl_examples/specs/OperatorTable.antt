@@ -56,6 +56,11 @@ rows =
     ∷ binaries (float 0x4004000000000000) (float 0x4004000000000000) (bits 0x4014000000000000 ∷ bits 0 ∷ bits 0x4019000000000000 ∷ bits 0x3FF0000000000000 ∷ []) same
     -- 2.5 and 1.5: 4.0, 1.0, 3.75, 1.6666666666666667
     ∷ binaries (float 0x4004000000000000) (float 0x3FF8000000000000) (bits 0x4010000000000000 ∷ bits 0x3FF0000000000000 ∷ bits 0x400E000000000000 ∷ bits 0x3FFAAAAAAAAAAAAB ∷ []) greater
+    -- SByte -7 and Byte 2; BSByte -2 and SUInt 7; BByte 3 and 2.5: 5.5, 0.5, 7.5, 1.2; Byte 1 and true
+    ∷ binaries (literal 22 0xF9) (literal 21 2) (minus 5 ∷ minus 9 ∷ minus 14 ∷ minus 3 ∷ []) less
+    ∷ binaries (literal 24 0xFFFE) (literal 20 7) (int 5 ∷ minus 9 ∷ minus 14 ∷ int 0 ∷ []) less
+    ∷ binaries (literal 23 3) (float 0x4004000000000000) (bits 0x4016000000000000 ∷ bits 0x3FE0000000000000 ∷ bits 0x401E000000000000 ∷ bits 0x3FF3333333333333 ∷ []) greater
+    ∷ binaries (literal 21 1) (bool 1) noArithmetic incomparable
     -- two texts, one of them twice in the image
     -- "" and "b"
     ∷ binaries (string 0) (string 3) noArithmetic less
@@ -94,6 +99,7 @@ rows =
     -- one: `-`, byte 2, and `!`, byte 5
     ∷ unaries (number 7) (minus 7) none
     ∷ unaries (negative 7) (int 7) none
+    ∷ unaries (literal 22 0x80) (int 128) none
     ∷ unaries (number 0) (int 0) none
     ∷ unaries (number 9223372036854775807) (minus 9223372036854775807) none
     ∷ unaries (negative 9223372036854775808) none none
@@ -118,12 +124,27 @@ rows =
     ∷ folds (literal 19 0x7FFFFFFFFFFFFFFF) (whole (pos 9223372036854775807))
     ∷ lacks (literal 19 0x8000000000000000) 4
     ∷ lacks (literal 19 0xFFFFFFFFFFFFFFFF) 4
-    -- SUInt, Byte, SByte, BByte, BSByte
-    ∷ lacks (literal 20 5) 1
-    ∷ lacks (literal 21 5) 1
-    ∷ lacks (literal 22 5) 1
-    ∷ lacks (literal 23 5) 1
-    ∷ lacks (literal 24 5) 1
+    -- SUInt, Byte, SByte, BByte, BSByte, which the Rust does not fold
+    ∷ folds (literal 20 0) (whole (pos 0))
+    ∷ folds (literal 20 5) (whole (pos 5))
+    ∷ folds (literal 20 0x80000000) (whole (pos 2147483648))
+    ∷ folds (literal 20 0xFFFFFFFF) (whole (pos 4294967295))
+    ∷ folds (literal 21 0) (whole (pos 0))
+    ∷ folds (literal 21 5) (whole (pos 5))
+    ∷ folds (literal 21 0x80) (whole (pos 128))
+    ∷ folds (literal 21 0xFF) (whole (pos 255))
+    ∷ folds (literal 22 5) (whole (pos 5))
+    ∷ folds (literal 22 0x7F) (whole (pos 127))
+    ∷ folds (literal 22 0x80) (whole (negsuc 127))
+    ∷ folds (literal 22 0xFF) (whole (negsuc 0))
+    ∷ folds (literal 23 0) (whole (pos 0))
+    ∷ folds (literal 23 0x0105) (whole (pos 261))
+    ∷ folds (literal 23 0x8000) (whole (pos 32768))
+    ∷ folds (literal 23 0xFFFF) (whole (pos 65535))
+    ∷ folds (literal 24 0xFF) (whole (pos 255))
+    ∷ folds (literal 24 0x7FFF) (whole (pos 32767))
+    ∷ folds (literal 24 0x8000) (whole (negsuc 32767))
+    ∷ folds (literal 24 0xFFFF) (whole (negsuc 0))
     -- String, Bool
     ∷ folds (literal 25 2) (text 2)
     ∷ folds (literal 26 0) (truth false)
@@ -150,9 +171,9 @@ rows =
     ∷ node (number 7 ∷ made 48 (num 2 ∷ num 0 ∷ []) ∷ []) none (faults 1) 2
     ∷ node (number 7 ∷ made 46 (num 2 ∷ num 0 ∷ num 0 ∷ []) ∷ []) none (faults 1) 2
     -- an operand that does not fold: left, right, of `-`. A Grouping
-    ∷ node (literal 21 5 ∷ number 1 ∷ binary 0 1 1 ∷ []) none (faults 1) 3
-    ∷ node (literal 21 5 ∷ number 1 ∷ binary 1 1 0 ∷ []) none (faults 1) 4
-    ∷ node (literal 21 5 ∷ unary 2 0 ∷ []) none (faults 1) 3
+    ∷ node (literal 29 65 ∷ number 1 ∷ binary 0 1 1 ∷ []) none (faults 1) 3
+    ∷ node (literal 29 65 ∷ number 1 ∷ binary 1 1 0 ∷ []) none (faults 1) 4
+    ∷ node (literal 29 65 ∷ unary 2 0 ∷ []) none (faults 1) 3
     ∷ node (number 7 ∷ grouping 0 ∷ []) (int 7) (gives (whole (pos 7))) 3
     ∷ otherTokens
 

@@ -13,7 +13,7 @@ use Rattle.rl_spec.specs.Tree.{ascii}
 use Rattle.rl_spec.specs.Ranges.{upFrom}
 use Rattle.rl_spec.specs.Run.{Plain, nothing, folded, plain, err, Outcome, returned, stopped, fault}
 use Rattle.rl_spec.specs.Mapped.{Text}
-use Rattle.rl_examples.specs.MarkedImages.{made, string, bool, identifier, grouping, parameter, clause, call, build}
+use Rattle.rl_examples.specs.MarkedImages.{made, byte, string, bool, identifier, grouping, parameter, clause, call, build}
 use Rattle.rl_examples.specs.LowerExamples.{lowering, running}
 use Rattle.rl_examples.specs.NodeRows.{number, folding, evaluating}
 use Rattle.rl_examples.specs.ContractRows.{Given, whole, minus, float, text, yes, no, nodeOf, Ends, Call, Row, actual, expected, proving}
@@ -184,9 +184,10 @@ rows =
     -- a requires without a message, of a function and of a result function
     ∷ on (requiring 0 [] 65535) ("contract violation (proven at compile time): requires violated" ∷ []) (stopped (said "requires violated")) 7
     ∷ on (requiring 1 [] 65535) ("contract violation (proven at compile time): requires violated" ∷ []) (returned (err (said "requires violated"))) 6
-    -- with a String, which is shown; with an Integer, a name and a String in parentheses, which are not, but are evaluated
+    -- with a String, which is shown; with an Integer, a Byte, a name and a String in parentheses, which are not, but are evaluated
     ∷ on (requiring 0 (string 2 ∷ []) 2) ("contract violation (proven at compile time): own" ∷ []) (stopped (said "own")) 7
     ∷ on (requiring 0 (number 5 ∷ []) 2) ("contract violation (proven at compile time): requires violated" ∷ []) (stopped (folded (value.int (pos 5)))) 7
+    ∷ on (requiring 0 (byte 5 ∷ []) 2) ("contract violation (proven at compile time): requires violated" ∷ []) (stopped (folded (value.int (pos 5)))) 7
     ∷ on (requiring 0 (identifier 1 ∷ []) 2) ("contract violation (proven at compile time): requires violated" ∷ []) (stopped (folded (value.int (pos 7)))) 7
     ∷ on (requiring 0 (string 2 ∷ grouping 2 ∷ []) 3) ("contract violation (proven at compile time): requires violated" ∷ []) (stopped (said "own")) 8
     -- an ensures, which is never reported: without a message, of a function and of a result function; with one

@@ -8,7 +8,7 @@ use Rattle.rl_spec.specs.Image.{pair, Rec, Image}
 use Rattle.rl_spec.specs.Values as value
 use Rattle.rl_spec.specs.Run.{nothing, folded, Value, plain, ok, err, Outcome, returned, fault}
 use Rattle.rl_spec.specs.Mapped.{Text}
-use Rattle.rl_examples.specs.MarkedImages.{byte, string, bool, identifier, binary, unary, grouping, plus, minus, compare, parameter, function, build}
+use Rattle.rl_examples.specs.MarkedImages.{character, string, bool, identifier, binary, unary, grouping, plus, minus, compare, parameter, function, build}
 use Rattle.rl_examples.specs.FunctionRows.{x, y, no, otherX, otherNo, from, null, number, assign, none, declare, bare, return, returnAlone, conditional, branchBy, branch, while, loop, break, continue, never, int, truth, str, returnedNull, five, said, Contract, contract, of, Row, ends, endless, ofFunction}
 
 -- ---- functions without contracts: the parameters x, y and another x, as many as there are values
@@ -214,10 +214,10 @@ nodes =
     ∷ node (number 5 ∷ grouping 0 ∷ []) (returned (int 5)) 3
     -- a shared record stands for copies: (1 + 1) + (1 + 1)
     ∷ node (number 1 ∷ binary 0 plus 0 ∷ binary 1 plus 1 ∷ []) (returned (int 4)) 8
-    -- -y, y + Byte 5, Byte 5 + y, Null + y, where no y is
+    -- -y, y + 'a', 'a' + y, Null + y, where no y is
     ∷ node (identifier y ∷ unary minus 0 ∷ []) (fault 3) 3
-    ∷ node (identifier y ∷ byte 5 ∷ binary 0 plus 1 ∷ []) (fault 3) 3
-    ∷ node (identifier y ∷ byte 5 ∷ binary 1 plus 0 ∷ []) (fault 1) 3
+    ∷ node (identifier y ∷ character 97 ∷ binary 0 plus 1 ∷ []) (fault 3) 3
+    ∷ node (identifier y ∷ character 97 ∷ binary 1 plus 0 ∷ []) (fault 1) 3
     ∷ node (null ∷ identifier y ∷ binary 0 plus 1 ∷ []) (fault 3) 4
     -- (x = 2) + x, x + (x = 2)
     ∷ nodeOf (int 1 ∷ []) (number 2 ∷ assign x 0 ∷ identifier x ∷ binary 1 plus 2 ∷ []) (returned (int 4)) 5

@@ -20,7 +20,7 @@ use Rattle.rl_spec.specs.Run.{nothing, folded, Value, plain, ok, err, Outcome, 
 use Rattle.rl_spec.specs.Reading.{turns, stmt, body, branchOr, orElse, top, runFunction}
 use Rattle.rl_spec.specs.Mapped.{Text, mapOutcome}
 use Rattle.rl_spec.specs.Functions.{plainFunction}
-use Rattle.rl_examples.specs.MarkedImages.{made, integer, uint, byte, string, bool, float, identifier, binary, unary, plus, minus, slash, less, textBytes, textRecords}
+use Rattle.rl_examples.specs.MarkedImages.{made, integer, uint, byte, character, string, bool, float, identifier, binary, unary, plus, minus, slash, less, textBytes, textRecords}
 use Rattle.rl_examples.specs.FunctionRows.{x, y, no, from, null, number, assign, okLiteral, errLiteral, callOf, isErr, resultUnwrap, none, declare, bare, returnAlone, conditional, branch, while, loop, break, continue, never, int, truth, str, returnedNull, five, said, listed, Row, expected, endsLate}
 use Rattle.rl_examples.specs.RunnerRows.{plainly, runs, nodeOf, node, half, firstRows}
 
@@ -29,9 +29,10 @@ use Rattle.rl_examples.specs.RunnerRows.{plainly, runs, nodeOf, node, ha
 abbrev folding : List Row
 folding =
     node (integer (negsuc 2) ∷ []) (returned (plain (folded (value.int (negsuc 2))))) 2
-    -- SInt -3, UInt 5, SFloat 1.5
+    -- SInt -3, UInt 5, Byte 5, SFloat 1.5
     ∷ node (made 18 (num 2 ∷ num 4294967293 ∷ []) ∷ []) (returned (plain (folded (value.int (negsuc 2))))) 2
     ∷ node (uint 5 ∷ []) (returned (int 5)) 2
+    ∷ node (byte 5 ∷ []) (returned (int 5)) 2
     ∷ node (string no ∷ []) (returned (plain (said "no"))) 2
     ∷ node (bool 0 ∷ []) (returned (truth false)) 2
     ∷ node (bool 1 ∷ []) (returned (truth true)) 2
@@ -51,10 +52,10 @@ folding =
 abbrev taken : List Row
 taken =
     node (null ∷ []) returnedNull 2
-    -- x = 2; x = x + 1; y = Byte 5 and y = 2, where no y is
+    -- x = 2; x = x + 1; y = Character 'a' and y = 2, where no y is
     ∷ nodeOf (int 1 ∷ []) (number 2 ∷ assign x 0 ∷ []) (returned (int 2)) 3
     ∷ nodeOf (int 1 ∷ []) (identifier x ∷ number 1 ∷ binary 0 plus 1 ∷ assign x 2 ∷ []) (returned (int 2)) 5
-    ∷ node (byte 5 ∷ assign y 0 ∷ []) (fault 1) 3
+    ∷ node (character 97 ∷ assign y 0 ∷ []) (fault 1) 3
     ∷ node (number 2 ∷ assign y 0 ∷ []) (fault 3) 3
     -- x = (y = 5); x + y
     ∷ runs (int 1 ∷ int 2 ∷ []) (number 5 ∷ assign y 0 ∷ assign x 1 ∷ identifier x ∷ identifier y ∷ binary 3 plus 4 ∷ [])
@@ -66,14 +67,13 @@ taken =
     ∷ node (number 5 ∷ errLiteral 0 ∷ isErr 1 ∷ []) (returned (truth true)) 4
     ∷ []
 
--- the other forms, of which no part is entered: SUInt, Byte, SByte, BByte, BSByte, Character, ResolvedIdentifier, ArrayLiteral,
+-- the other forms, of which no part is entered: Character, ResolvedIdentifier, ArrayLiteral,
 -- MapLiteral, SetLiteral, TupleLiteral, ResolvedAssign, CallExpr, MethodCall, Index, IndexAssign, Cast, Is, ErrorLiteral, Propagate,
 -- StructLiteral, FieldAccess, FieldAssign, EnumVariant, Lambda, ResolvedLambda; Calls of is_err on none and on two, of std::res, of
 -- std::res::is_err and one more, of x::res::is_err, std::x::result_unwrap and std::res::x
 abbrev otherNodes : List Rec
 otherNodes =
-    made 20 (num 2 ∷ num 5 ∷ []) ∷ byte 5 ∷ made 22 (num 2 ∷ num 5 ∷ []) ∷ made 23 (num 2 ∷ num 5 ∷ [])
-    ∷ made 24 (num 2 ∷ num 5 ∷ []) ∷ made 29 (num 2 ∷ num 97 ∷ []) ∷ made 31 (num 2 ∷ num x ∷ num 0 ∷ num 0 ∷ [])
+    character 97 ∷ made 31 (num 2 ∷ num x ∷ num 0 ∷ num 0 ∷ [])
     ∷ made 35 (num 2 ∷ from 0 2 ∷ []) ∷ made 36 (num 2 ∷ from 0 2 ∷ []) ∷ made 37 (num 2 ∷ from 0 2 ∷ [])
     ∷ made 38 (num 2 ∷ from 0 2 ∷ [])
     ∷ made 40 (num 2 ∷ num x ∷ num 0 ∷ num 0 ∷ num 0 ∷ [])

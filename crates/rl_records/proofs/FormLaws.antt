@@ -5,13 +5,14 @@ use mathlib.Core.Path.{_≡_, refl, ap, _∙_}
 use mathlib.Core.Bool.{Bool, true, false, not, _&&_}
 use mathlib.Core.List.{List, [], _∷_}
 use native.Mathlib.Nat.{add-zero}
+use native.Mathlib.Omega.{arith}
 use lib.Dec.{eqb}
 use lib.IntN.{ℤ}
 use lib.ListN.{getD}
 use lib.Ieee.{Float, ofBits, binary32, binary64}
-use mir.Syntax.{w64}
-use mir.Val.{toZ, ofZ, SFits}
-use mir.Facts.{toZ-ofZ}
+use mir.Syntax.{w8, w16, w32, w64}
+use mir.Val.{toZ, ofZ, Fits, SFits}
+use mir.Facts.{toZ-ofZ, toZ-pos}
 use borrow.Author.Tests.{ne-eqb}
 use Rattle.rl_spec.specs.declared.Counts.{Counts}
 use Rattle.rl_spec.specs.declared.Interval.{Interval}
@@ -113,6 +114,10 @@ module _ (s : List ℕ) (c : Counts) where
     abbrev form : List ℕ → Form
     form p = formBy (imageFound s p c) (recordAs s (getD s start 0) start)
 
+    -- the form of a whole number
+    abbrev whole : ℤ → Form
+    whole v = Literal (Value (Int v))
+
     pub form-null : k ≡ 16 → (p : List ℕ) → Null ≡ form p
     unfolding formBy recordAs
     form-null q p = rw (← e, q) refl
@@ -128,6 +133,26 @@ module _ (s : List ℕ) (c : Counts) where
     pub form-uint : k ≡ 19 → (n : ℕ) → n ≡ numAt s at 8 → (v : Folded) → v ≡ unsigned n → (p : List ℕ) → Literal v ≡ form p
     unfolding formBy recordAs fieldsAt fieldsOf fieldsIn schema sortOf
     form-uint q n f v g p = rw (← e, q, ← f, ← g) refl
+
+    pub form-suint : k ≡ 20 → (n : ℕ) → n ≡ u32At s at → Fits w32 n → (r : Form) → r ≡ Literal (Value (Int (toZ w64 n))) → (p : List ℕ) → r ≡ form p
+    unfolding formBy recordAs fieldsAt fieldsOf fieldsIn schema sortOf
+    form-suint q n f h r i p = rw (← e, q, ← four s at, ← f) (i ∙ ap whole (toZ-pos w64 (omega (arith, h .fits))))
+
+    pub form-byte : k ≡ 21 → (n : ℕ) → n ≡ getD s at 0 → Fits w8 n → (r : Form) → r ≡ Literal (Value (Int (toZ w64 n))) → (p : List ℕ) → r ≡ form p
+    unfolding formBy recordAs fieldsAt fieldsOf fieldsIn schema sortOf
+    form-byte q n f h r i p = rw (← e, q, ← one s at, ← f) (i ∙ ap whole (toZ-pos w64 (omega (arith, h .fits))))
+
+    pub form-bbyte : k ≡ 23 → (n : ℕ) → n ≡ u16At s at → Fits w16 n → (r : Form) → r ≡ Literal (Value (Int (toZ w64 n))) → (p : List ℕ) → r ≡ form p
+    unfolding formBy recordAs fieldsAt fieldsOf fieldsIn schema sortOf
+    form-bbyte q n f h r i p = rw (← e, q, ← two s at, ← f) (i ∙ ap whole (toZ-pos w64 (omega (arith, h .fits))))
+
+    pub form-sbyte : k ≡ 22 → (n : ℕ) → n ≡ getD s at 0 → (v : ℤ) → v ≡ signed 8 n → SFits w64 v → (r : Form) → r ≡ Literal (Value (Int (toZ w64 (ofZ w64 v)))) → (p : List ℕ) → r ≡ form p
+    unfolding formBy recordAs fieldsAt fieldsOf fieldsIn schema sortOf
+    form-sbyte q n f v g h r i p = rw (← e, q, ← one s at, ← f, ← g) (i ∙ rw (toZ-ofZ h) refl)
+
+    pub form-bsbyte : k ≡ 24 → (n : ℕ) → n ≡ u16At s at → (v : ℤ) → v ≡ signed 16 n → SFits w64 v → (r : Form) → r ≡ Literal (Value (Int (toZ w64 (ofZ w64 v)))) → (p : List ℕ) → r ≡ form p
+    unfolding formBy recordAs fieldsAt fieldsOf fieldsIn schema sortOf
+    form-bsbyte q n f v g h r i p = rw (← e, q, ← two s at, ← f, ← g) (i ∙ rw (toZ-ofZ h) refl)
 
     pub form-str : k ≡ 25 → (n : ℕ) → n ≡ u16At s at → (r : Form) → r ≡ Literal (Value (Str n)) → (p : List ℕ) → r ≡ form p
     unfolding formBy recordAs fieldsAt fieldsOf fieldsIn schema sortOf
@@ -177,15 +202,20 @@ module _ (s : List ℕ) (c : Counts) where
     unfolding formBy recordAs fieldsAt fieldsOf fieldsIn schema sortOf
     form-err q x f p = rw (← e, q, ← two s at, ← f) refl
 
-    pub form-other : (k ≡ 16 → ⊥) → (k ≡ 17 → ⊥) → (k ≡ 18 → ⊥) → (k ≡ 19 → ⊥) → (k ≡ 25 → ⊥) → (k ≡ 26 → ⊥) → (k ≡ 27 → ⊥) → (k ≡ 28 → ⊥) → (k ≡ 30 → ⊥) → (k ≡ 32 → ⊥) → (k ≡ 33 → ⊥) → (k ≡ 34 → ⊥) → (k ≡ 39 → ⊥) → (k ≡ 41 → ⊥) → (k ≡ 49 → ⊥) → (k ≡ 50 → ⊥) → (p : List ℕ) → Other ≡ form p
+    pub form-other : (k ≡ 16 → ⊥) → (k ≡ 17 → ⊥) → (k ≡ 18 → ⊥) → (k ≡ 19 → ⊥) → (k ≡ 20 → ⊥) → (k ≡ 21 → ⊥) → (k ≡ 22 → ⊥) → (k ≡ 23 → ⊥) → (k ≡ 24 → ⊥) → (k ≡ 25 → ⊥) → (k ≡ 26 → ⊥) → (k ≡ 27 → ⊥) → (k ≡ 28 → ⊥) → (k ≡ 30 → ⊥) → (k ≡ 32 → ⊥) → (k ≡ 33 → ⊥) → (k ≡ 34 → ⊥) → (k ≡ 39 → ⊥) → (k ≡ 41 → ⊥) → (k ≡ 49 → ⊥) → (k ≡ 50 → ⊥) → (p : List ℕ) → Other ≡ form p
     unfolding formBy recordAs
-    form-other h16 h17 h18 h19 h25 h26 h27 h28 h30 h32 h33 h34 h39 h41 h49 h50 p =
+    form-other h16 h17 h18 h19 h20 h21 h22 h23 h24 h25 h26 h27 h28 h30 h32 h33 h34 h39 h41 h49 h50 p =
         rw (
           ← e,
           ne-eqb k 16 h16,
           ne-eqb k 17 h17,
           ne-eqb k 18 h18,
           ne-eqb k 19 h19,
+          ne-eqb k 20 h20,
+          ne-eqb k 21 h21,
+          ne-eqb k 22 h22,
+          ne-eqb k 23 h23,
+          ne-eqb k 24 h24,
           ne-eqb k 25 h25,
           ne-eqb k 26 h26,
           ne-eqb k 27 h27,

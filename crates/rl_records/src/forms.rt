@@ -15,6 +15,8 @@ use rl_spec::Interval;
 use rl_values::same_text;
 use rl_words::float32;
 use rl_words::float64;
+use rl_words::signed8;
+use rl_words::signed16;
 use rl_words::signed32;
 use rl_words::signed64;
 use rl_words::unsigned64;
@@ -83,6 +85,11 @@ fn form_in(image: &[u8], counts: Counts, start: u16) -> Form
         17 => literal(ConstVal::Int(signed64(u64_at(image, at)))),
         18 => literal(ConstVal::Int(signed32(u32_at(image, at)))),
         19 => Form::Literal(unsigned64(u64_at(image, at))),
+        20 => literal(ConstVal::Int(u32_at(image, at) as i64)),
+        21 => literal(ConstVal::Int(byte_at(image, at) as i64)),
+        22 => literal(ConstVal::Int(signed8(byte_at(image, at)))),
+        23 => literal(ConstVal::Int(u16_at(image, at) as i64)),
+        24 => literal(ConstVal::Int(signed16(u16_at(image, at)))),
         25 => literal(ConstVal::Str(u16_at(image, at))),
         26 => literal(ConstVal::Bool(byte_at(image, at) == 1)),
         27 => literal(ConstVal::Float(float64(u64_at(image, at)))),

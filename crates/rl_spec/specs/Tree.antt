@@ -78,6 +78,11 @@ formBy im r =
     (cond (eqb (r .kind) 17) (Literal (Value (Int (signed 64 (number r 1)))))
     (cond (eqb (r .kind) 18) (Literal (Value (Int (signed 32 (number r 1)))))
     (cond (eqb (r .kind) 19) (Literal (unsigned (number r 1)))
+    (cond (eqb (r .kind) 20) (Literal (Value (Int (pos (number r 1)))))
+    (cond (eqb (r .kind) 21) (Literal (Value (Int (pos (number r 1)))))
+    (cond (eqb (r .kind) 22) (Literal (Value (Int (signed 8 (number r 1)))))
+    (cond (eqb (r .kind) 23) (Literal (Value (Int (pos (number r 1)))))
+    (cond (eqb (r .kind) 24) (Literal (Value (Int (signed 16 (number r 1)))))
     (cond (eqb (r .kind) 25) (Literal (Value (Str (number r 1))))
     (cond (eqb (r .kind) 26) (Literal (Value (Truth (eqb (number r 1) 1))))
     (cond (eqb (r .kind) 27) (Literal (Value (Float (ofBits binary64 (number r 1)))))
@@ -89,7 +94,7 @@ formBy im r =
     (cond (eqb (r .kind) 39) (Assign (number r 1) (number r 2))
     (cond (eqb (r .kind) 41) (callForm im (fieldOf r 1) (fieldOf r 2))
     (cond (eqb (r .kind) 49) (OkLiteral (number r 1))
-    (cond (eqb (r .kind) 50) (ErrLiteral (number r 1)) Other)))))))))))))))
+    (cond (eqb (r .kind) 50) (ErrLiteral (number r 1)) Other))))))))))))))))))))
 
 abbrev pub formOf : Image → ℕ → Form
 formOf im i = formBy im (recordOf im Expressions i)

@@ -15,5 +15,7 @@ pub mod Lowering
 pub mod Answers
 -- ---- both halves of demand 3, from bytes, and the marked cases
 pub mod DemandThree
+-- ---- what change requests keep of what was there before them
+pub mod Changes
 -- ---- THE STATEMENTS
 pub mod Theorems

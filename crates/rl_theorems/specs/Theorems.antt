@@ -1,5 +1,5 @@
--- WHAT IS PROVED of the definitions in rl_spec: a file for each of the three demands. The proofs stand in the files that are named at each
--- part; closed tables and examples in rl_examples.
+-- WHAT IS PROVED of the definitions in rl_spec: a file for each of the three demands, and one for change requests. The proofs stand in the
+-- files that are named at each part; closed tables and examples in rl_examples.
 -- ---- demand 1: any bytes are read, or refused with the number and place of 01's table and for those causes only; all ends; a refusal
 -- leaves every lent output zero
 pub mod AnyBytes
@@ -11,3 +11,5 @@ pub mod Standards
 pub mod AlikeRuns
 -- ---- proved on the way
 pub mod OnTheWay
+-- ---- what change requests keep of what was there before them
+pub mod Changes

@@ -1,11 +1,11 @@
 -- Laws for literals: numbers by their bits.
 -- Assumes nothing.
-use Prim.Native.Nat.{ℕ, zero, suc, _-_, _*_, _%_, _≤_, _<_}
+use Prim.Native.Nat.{ℕ, zero, suc, _+_, _-_, _*_, _%_, _≤_, _<_}
 use mathlib.Core.Path.{_≡_, refl, sym, ap, subst, _∙_}
-use mathlib.Core.Bool.{Bool, true, false, not, cond, _&&_}
+use mathlib.Core.Bool.{true, false, not, cond, _&&_}
 use native.Mathlib.Omega.{arith}
-use lib.Dec.{T}
-use lib.IntN.{pos, negsuc, _-ℤ_}
+use lib.Dec.{T, ltb}
+use lib.IntN.{ℤ, pos, negsuc, _-ℤ_}
 use lib.Ieee.{Float, nan, inf, fin, Format, binary32, binary64, div, fits, isNan, ones, hid, top, ofBits, nanBits}
 use lib.Ieee.Bits.{ofBits-fits, nanBits-is, nanBits-above}
 use lib.Ieee.Fits.{and-i, fits-widens}
@@ -47,18 +47,58 @@ module _ (n : ℕ) where
     pub high64 : toZ w64 (ofZ w64 (negsuc 0 -ℤ toZ w64 (18446744073709551615 - n))) ≡ signed 64 n
     high64 = toZ-ofZ high64-fits ∙ high ∙ rw (le-ltb n 9223372036854775808 h) (ap negsuc (omega arith))
 
+minus : (n m : ℕ) → n < m → pos n -ℤ pos m ≡ negsuc (m - suc n)
+minus n zero h = absurd (omega arith)
+minus n (suc m) h = rw (lt-ltb n (suc m) h) refl
+
+-- a number of at most 32 bits, by half of the numbers that there are of its width
+module _ (half n : ℕ) (few : half ≤ 2147483648) where
+  abbrev signedBy : ℤ
+  signedBy = cond (ltb n half) (pos n) (negsuc (half + half - suc n))
+
+  narrow-low : n < half → toZ w64 n ≡ signedBy
+  narrow-low h = toZ-pos w64 {n = n} (omega arith) ∙ rw (lt-ltb n half h) refl
+
+  module _ (h : half ≤ n) (l : n < half + half) where
+    below : toZ w64 n -ℤ pos (half + half) ≡ negsuc (half + half - suc n)
+    below = rw (toZ-pos w64 {n = n} (omega arith)) (minus n (half + half) l)
+
+    narrow-fits : SFits w64 (toZ w64 n -ℤ pos (half + half))
+    narrow-fits = moved below (record { sfits = omega arith })
+
+    narrow-high : toZ w64 (ofZ w64 (toZ w64 n -ℤ pos (half + half))) ≡ signedBy
+    narrow-high = toZ-ofZ narrow-fits ∙ below ∙ rw (le-ltb n half h) refl
+
+module _ (n : ℕ) where
+  pub low8 : n < 128 → toZ w64 n ≡ signed 8 n
+  low8 h = narrow-low 128 n (omega arith) h
+
+  pub low16 : n < 32768 → toZ w64 n ≡ signed 16 n
+  low16 h = narrow-low 32768 n (omega arith) h
+
   pub low32 : n < 2147483648 → toZ w64 n ≡ signed 32 n
-  low32 h = toZ-pos w64 {n = n} (omega arith) ∙ rw (lt-ltb n 2147483648 h) refl
+  low32 h = narrow-low 2147483648 n (omega arith) h
+
+  module _ (h : 128 ≤ n) (l : n < 256) where
+    pub high8-fits : SFits w64 (toZ w64 n -ℤ pos 256)
+    high8-fits = narrow-fits 128 n (omega arith) h l
+
+    pub high8 : toZ w64 (ofZ w64 (toZ w64 n -ℤ pos 256)) ≡ signed 8 n
+    high8 = narrow-high 128 n (omega arith) h l
+
+  module _ (h : 32768 ≤ n) (l : n < 65536) where
+    pub high16-fits : SFits w64 (toZ w64 n -ℤ pos 65536)
+    high16-fits = narrow-fits 32768 n (omega arith) h l
+
+    pub high16 : toZ w64 (ofZ w64 (toZ w64 n -ℤ pos 65536)) ≡ signed 16 n
+    high16 = narrow-high 32768 n (omega arith) h l
 
   module _ (h : 2147483648 ≤ n) (l : n < 4294967296) where
-    short : toZ w64 n -ℤ pos 4294967296 ≡ negsuc (4294967296 - suc n)
-    short = rw (toZ-pos w64 {n = n} (omega arith)) (ap (λ (t : Bool). cond t (negsuc (4294967296 - suc n)) (pos (n - 4294967296))) (lt-ltb n 4294967296 l))
-
     pub high32-fits : SFits w64 (toZ w64 n -ℤ pos 4294967296)
-    high32-fits = moved short (record { sfits = omega arith })
+    high32-fits = narrow-fits 2147483648 n (omega arith) h l
 
     pub high32 : toZ w64 (ofZ w64 (toZ w64 n -ℤ pos 4294967296)) ≡ signed 32 n
-    high32 = toZ-ofZ high32-fits ∙ short ∙ rw (le-ltb n 2147483648 h) refl
+    high32 = narrow-high 2147483648 n (omega arith) h l
 
 -- ---- floats
 

@@ -4,6 +4,8 @@ mod values;
 
 pub use literals::float32;
 pub use literals::float64;
+pub use literals::signed8;
+pub use literals::signed16;
 pub use literals::signed32;
 pub use literals::signed64;
 pub use literals::unsigned64;

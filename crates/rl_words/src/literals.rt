@@ -23,6 +23,24 @@ pub fn signed32(n: u32) -> i64
     (n as i64) - 4294967296
 }
 
+pub fn signed16(n: u16) -> i64
+    ensures { λ r. ⌜ r ≡ signed 16 n ⌝ }
+{
+    if n < 32768 {
+        return n as i64;
+    }
+    (n as i64) - 65536
+}
+
+pub fn signed8(n: u8) -> i64
+    ensures { λ r. ⌜ r ≡ signed 8 n ⌝ }
+{
+    if n < 128 {
+        return n as i64;
+    }
+    (n as i64) - 256
+}
+
 pub fn unsigned64(n: u64) -> Folded
     ensures { λ r. ⌜ r ≡ unsigned n ⌝ }
 {

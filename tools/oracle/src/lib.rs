@@ -5,6 +5,7 @@
 mod const_val;
 #[cfg(original)]
 mod fields;
+mod integers;
 pub mod lower;
 pub mod marked;
 pub mod pairs;
@@ -75,12 +76,13 @@ impl fmt::Display for Report {
 }
 
 pub use const_val::{ConstVal, same_value};
+pub use integers::with_integers;
 pub use prove::Original;
 pub use steps::{sizes, steps};
 
 /// `prove_call` for each call in order, after `record_fn_contracts` for each
-/// function in order. The image is one that the reader accepts; panics where
-/// the original is not `HERE`.
+/// function in order, with small constants as Integer. The image is one that
+/// the reader accepts; panics where the original is not `HERE`.
 pub fn reports(image: &Image) -> Vec<Report> {
     Original::new(image).reports()
 }

@@ -59,7 +59,7 @@ fn folding() -> Vec<Case> {
         }),
         without_value(8, Bool(false), |builder| binary(builder, Bool(true), LESS, Bool(false))),
         with_value(8, Bool(true), |builder| binary(builder, Str("a"), LESS, Str("b"))),
-        without_value(9, Int(5), |builder| builder.node(2, "Byte", &[5.into()])),
+        with_value(9, Int(5), |builder| builder.node(2, "Byte", &[5.into()])),
     ]
 }
 

@@ -11,13 +11,14 @@ use rlimg::image::{Image, LIMITS};
 use rlimg::rules::Literal::Bool;
 use rlimg::rules::{SORTS, literals};
 use rlimg::schema::{self, Section};
+use rlimg::small;
 
 const GT: u16 = 1;
 
 pub fn images() -> Vec<Image> {
     let mut images = vec![counts(), messages(), every_report(3)];
     images.extend((0..64).map(callees));
-    images.extend((1..7).map(operands));
+    images.extend((1..7).flat_map(|refinement| [operands(refinement), limits(refinement)]));
     images.extend(names::images());
     images.extend(empty());
     images
@@ -89,6 +90,22 @@ fn operands(refinement: u16) -> Image {
     for literal in (0..SORTS).flat_map(literals) {
         let argument = literal.node(&mut builder, 5);
         call(&mut builder, name, &[argument; 12]);
+    }
+    builder.image
+}
+
+/// A refinement with the limits of small constants as operands; called with
+/// each small constant.
+fn limits(refinement: u16) -> Image {
+    let mut builder = Builder::new(1).interning();
+    for (number, limit) in small::LIMITS.into_iter().enumerate() {
+        let name = builder.text(&format!("p{number}"));
+        builder.parameter(name, Some((refinement, Operand::Integer(limit))));
+    }
+    let name = function(&mut builder);
+    for constant in small::all() {
+        let argument = small::node(&mut builder, 5, constant);
+        call(&mut builder, name, &[argument; small::LIMITS.len()]);
     }
     builder.image
 }

@@ -5,7 +5,7 @@ use crate::ast::ExprId;
 use crate::contracts::inside;
 use crate::fields::{Fields, alloc_exprs};
 use crate::stand_ins::{TypeChecker, span::Span};
-use crate::{ConstVal, Report};
+use crate::{ConstVal, Report, with_integers};
 use rlimg::image::Image;
 use rlimg::schema::Section;
 
@@ -29,9 +29,14 @@ impl Call {
 }
 
 impl Original {
-    /// Takes an accepted image over; `record_fn_contracts` has run for each
-    /// function in order.
+    /// Takes an accepted image over, with small constants as Integer;
+    /// `record_fn_contracts` has run for each function in order.
     pub fn new(image: &Image) -> Original {
+        Original::of_own_kinds(&with_integers(image))
+    }
+
+    /// The same with every expression as the kind that it is.
+    pub fn of_own_kinds(image: &Image) -> Original {
         let mut checker = TypeChecker::default();
         let ids = alloc_exprs(image, &mut checker.ast_arena);
         let fields = |record| Fields { image, ids: &ids, record };

@@ -9,6 +9,7 @@ use rlimg::rng::Rng;
 use rlimg::rules::Literal::{self, Float, Int};
 use rlimg::rules::{EDGES, NANS, SORTS, literals};
 use rlimg::schema::{self, Row, Section, Sort};
+use rlimg::small;
 
 /// Binary operators: those that compute, those that compare, and some others.
 pub(crate) const OPERATORS: [u16; 13] = [1, 2, 3, 4, 6, 7, 8, 9, 10, 11, BANG, 12, 63];
@@ -22,7 +23,7 @@ pub fn images() -> Vec<Image> {
     }
     images.extend([1, MINUS, BANG, COMPARE, 12, 63].map(of_unary_operator));
     images.extend(schema::rows(Section::Expression).map(of_kind));
-    images.extend([edges(), hidden()]);
+    images.extend([edges(), hidden(), small_constants()]);
     images
 }
 
@@ -164,18 +165,37 @@ fn edges() -> Image {
     builder.image
 }
 
-/// `f(a, a)` requires `a == 2`: in f(1, x) the 1 counts where x has no value,
-/// and a NaN is a value.
+/// `f(a, b)` requires `a != b` and `a == b`, called with each small constant
+/// and the Integer of its value.
+fn small_constants() -> Image {
+    let mut builder = Builder::new(1).interning();
+    let [a, b] = parameters(&mut builder, ["a", "b"]);
+    compare(&mut builder, [a, BANG_EQUAL, b], "equal");
+    compare(&mut builder, [a, COMPARE, b], "unequal");
+    let name = function(&mut builder);
+    for constant in small::all() {
+        let value = builder.integer(5, constant.1);
+        let constant = small::node(&mut builder, 5, constant);
+        call(&mut builder, name, &[constant, value]);
+    }
+    builder.image
+}
+
+/// `f(a, a)` requires `a == 2` and `a != 5`: in f(1, x) the 1 counts where x
+/// has no value; a NaN is a value, and so is a small constant.
 fn hidden() -> Image {
     let mut builder = Builder::new(1).interning();
     let [a, _] = parameters(&mut builder, ["a", "a"]);
-    let (one, two) = (builder.integer(2, 1), builder.integer(2, 2));
+    let [one, two, five] = [1, 2, 5].map(|number| builder.integer(2, number));
     compare(&mut builder, [a, COMPARE, two], "a is not 2");
+    compare(&mut builder, [a, BANG_EQUAL, five], "a is 5");
     let name = function(&mut builder);
     let nan = Float(f64::NAN).node(&mut builder, 2);
     let mut arguments = vec![one, two, nan, unary(&mut builder, MINUS, nan)];
     arguments.push(builder.node(2, "SFloat", &[Value::Number(0x7f80_0001)]));
     arguments.push(builder.node(2, "Grouping", &[nan.into()]));
+    let small = small::holding(2).into_iter().chain(small::holding(5));
+    arguments.extend(small.map(|constant| small::node(&mut builder, 2, constant)));
     for (left, operator, right) in EDGES.into_iter().chain(NANS) {
         arguments.push(binary(&mut builder, left, operator, right));
     }

@@ -8,7 +8,7 @@ use rlimg::fold::{self, Names};
 use rlimg::image::{Image, Value};
 use rlimg::rng::Rng;
 use rlimg::rules::Literal::{self, Bool, Float, Int, Str};
-use rlimg::{random, rules};
+use rlimg::{random, rules, small};
 
 const PLUS: u16 = 1;
 const MINUS: u16 = 2;
@@ -97,6 +97,19 @@ fn the_other_sorts_are_told_apart() {
     assert_eq!(literal(Bool(true)), Some(ConstVal::Bool(true)));
     assert_eq!(binary(Str("a"), LESS, Str("b")), Some(ConstVal::Bool(true)));
     assert_eq!(binary(Bool(true), LESS, Bool(false)), None);
+}
+
+/// The original folds none of the small constants, and as Integer each of them
+/// to its whole number.
+#[test]
+fn small_constants_are_handed_over_as_integers() {
+    for small in small::all().into_iter().chain([("Byte", 5)]) {
+        let mut builder = Builder::new(1);
+        let node = small::node(&mut builder, 0, small);
+        let own = Original::of_own_kinds(&builder.image).const_eval(usize::from(node));
+        assert_eq!(own, None, "{small:?}");
+        assert_eq!(value(&builder.image, node), Some(ConstVal::Int(small.1)), "{small:?}");
+    }
 }
 
 /// Another sign, sort, payload or text.

@@ -120,10 +120,9 @@ fn asking(image: &Image) -> Image {
     }
     let all = Value::Range(0, asking.of(Section::Clause).len() as u16);
     for function in asking.of_mut(Section::Function) {
-        if !matches!(function.values[5], Value::Range(_, 0)) {
-            function.values[5] = all;
-        }
-        function.values[6] = Value::Range(0, 0);
+        let none = Value::Range(0, 0);
+        let some = !matches!(function.values[5], Value::Range(_, 0));
+        function.values[5..].copy_from_slice(&[if some { all } else { none }, none]);
     }
     asking
 }

@@ -40,6 +40,19 @@ fn the_lowering_agrees_with_the_original() {
     assert_eq!((count > 2_000, kinds.len()), (true, 40), "{count} {kinds:?}");
 }
 
+/// The original is handed small constants as they are, and copies conditions
+/// of them so.
+#[test]
+fn small_constants_keep_their_kinds() {
+    for image in listed::small_constants() {
+        let nodes = original(&image, 0, returns(&image, 0)[0]).nodes;
+        let kinds: Vec<u8> = nodes.iter().map(|node| node.kind).collect();
+        assert_eq!(kinds[..5], [21, 22, 24, 20, 23]);
+        let copied: Vec<&u8> = kinds[5..].iter().filter(|kind| **kind < 25).collect();
+        assert_eq!(copied, [&21, &24]);
+    }
+}
+
 /// The flag stands for two types, of which the original makes the same; of a
 /// plain one it makes something else.
 #[test]

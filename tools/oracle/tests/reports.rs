@@ -81,13 +81,14 @@ fn the_last_function_with_contracts_is_called() {
 
 #[test]
 fn a_message_that_is_no_string_is_the_default() {
-    let more = "expression 7 span 0 Grouping 6\n\
+    let more = "expression 7 span 0 Grouping 6\nexpression 8 span 0 Byte 3\n\
         clause 0 condition 0 message none\nclause 1 condition 0 message 7\n\
         clause 2 condition 0 message 4\nclause 3 condition 0 message 6\n\
-        function 0 name 0 span 0 parameters 0+0 result false body 0+0 requires 0+4 ensures 0+0\n\
+        clause 4 condition 0 message 8\n\
+        function 0 name 0 span 0 parameters 0+0 result false body 0+0 requires 0+5 ensures 0+0\n\
         call 0 callee 0 span 0 arguments 0+0\n";
     let default = "requires violated";
-    assert_eq!(messages(more), [default, default, default, "say"]);
+    assert_eq!(messages(more), [default, default, default, "say", default]);
 }
 
 #[test]
@@ -139,6 +140,19 @@ fn a_nan_is_a_value_without_verdicts() {
     assert!(second_of_one_name("Binary 7 Slash 7").is_empty(), "inf / inf");
     assert_eq!(second_of_one_name("Binary 7 Slash 8"), reported, "inf / 0.0");
     assert_eq!(second_of_one_name("Binary 8 Star 6"), reported, "0.0 * text");
+}
+
+#[test]
+fn a_small_constant_is_a_value() {
+    for kind in ["SUInt", "Byte", "SByte", "BByte", "BSByte"] {
+        assert!(second_of_one_name(&format!("{kind} 2")).is_empty(), "{kind}");
+        assert_eq!(second_of_one_name(&format!("{kind} 5")), ["requires violated"], "{kind}");
+    }
+    // A condition that is no truth value has no verdict.
+    let more = "expression 7 span 0 Byte 0\nclause 0 condition 7 message none\n\
+        function 0 name 0 span 0 parameters 0+0 result false body 0+0 requires 0+1 ensures 0+0\n\
+        call 0 callee 0 span 0 arguments 0+0\n";
+    assert!(messages(more).is_empty());
 }
 
 /// f(1, a, 2), parameters a, b, a: the first pass gives b the first a, the

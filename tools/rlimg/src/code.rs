@@ -2,6 +2,7 @@
 
 use crate::builder::{Builder, Function};
 use crate::image::{Image, Value, NONE};
+use crate::small::{self, Small};
 
 /// Builds an image; each record has another span.
 #[derive(Debug, Default)]
@@ -31,6 +32,10 @@ impl Code {
 
     pub fn integer(&mut self, value: i64) -> u16 {
         self.node("Integer", &[Value::Number(value as u64)])
+    }
+
+    pub fn small(&mut self, small: Small) -> u16 {
+        self.node(small.0, &[Value::Number(small::bits(small))])
     }
 
     pub fn float(&mut self, value: f64) -> u16 {

@@ -45,9 +45,7 @@ fn value(image: &Image, names: &Names, before: &[Option<Folded>], node: &Record)
     let number = |position| node.number(position);
     let child = |position| before[node.number(position) as usize];
     match node.kind {
-        17 => Some(Int(number(1) as i64)),
-        18 => Some(Int(i64::from(number(1) as i32))),
-        19 => i64::try_from(number(1)).ok().map(Int),
+        17..=24 => whole(node).map(Int),
         25 => Some(Str(number(1) as u16)),
         26 => Some(Bool(number(1) == 1)),
         27 => Some(Float(f64::from_bits(number(1)))),
@@ -57,6 +55,23 @@ fn value(image: &Image, names: &Names, before: &[Option<Folded>], node: &Record)
         33 => unary(number(1), child(2)?),
         34 => child(1),
         _ => None,
+    }
+}
+
+/// The whole number in a literal of one of the kinds 17 to 24; none in a UInt
+/// that is too large.
+pub fn whole(node: &Record) -> Option<i64> {
+    let bits = node.number(1);
+    match node.kind {
+        17 => Some(bits as i64),
+        18 => Some(i64::from(bits as i32)),
+        19 => i64::try_from(bits).ok(),
+        20 => Some(i64::from(bits as u32)),
+        21 => Some(i64::from(bits as u8)),
+        22 => Some(i64::from(bits as i8)),
+        23 => Some(i64::from(bits as u16)),
+        24 => Some(i64::from(bits as i16)),
+        kind => panic!("kind {kind} has no whole number"),
     }
 }
 

@@ -22,5 +22,6 @@ pub mod rules;
 pub mod run;
 pub mod runs;
 pub mod schema;
+pub mod small;
 pub mod text;
 pub mod texts;

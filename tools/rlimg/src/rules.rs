@@ -179,7 +179,7 @@ impl Generator<'_> {
     }
 
     fn condition(&mut self, depth: usize) -> u16 {
-        match self.rng.below(13) {
+        match self.rng.below(14) {
             0..=2 => {
                 let left = self.identifier();
                 let right = self.any_literal();
@@ -219,6 +219,7 @@ impl Generator<'_> {
                 let any = if self.rng.one_in(2) { self.not_taken() } else { self.operand(1) };
                 self.binary(any, BANG_EQUAL, any)
             }
+            12 => self.small(),
             _ => self.operand(depth),
         }
     }

@@ -5,6 +5,7 @@
 mod calls;
 mod contracts;
 mod expressions;
+pub mod operands;
 pub mod words;
 
 pub use calls::broken;
@@ -15,6 +16,7 @@ use crate::image::{Image, Value, NONE};
 use crate::rng::Rng;
 use crate::run::{Call, BINDINGS, BUDGET, VALUES};
 use crate::schema::{self, Row, Section};
+use crate::small;
 use expressions::Sort;
 
 const NAMES: [&str; 9] = ["a", "b", "ab", "", "\u{e9}", "flow", "flo", "A", "ret"];
@@ -141,15 +143,23 @@ impl Generator<'_> {
         match self.rng.below(4) {
             0 => (),
             1 => {
-                let node = self.expression(sort, 3);
+                let node = self.last(sort);
                 body.push(self.code.give(node));
             }
             _ => {
-                let node = self.expression(sort, 3);
+                let node = self.last(sort);
                 body.push(self.code.bare(node));
             }
         }
         body
+    }
+
+    /// The expression at the end of a body, sometimes a small constant.
+    fn last(&mut self, sort: Sort) -> u16 {
+        match self.rng.one_in(8) {
+            true => self.small(),
+            false => self.expression(sort, 3),
+        }
     }
 
     /// As many declarations as there can be bindings, or nearly.
@@ -236,7 +246,7 @@ impl Generator<'_> {
     fn branch(&mut self, depth: usize, unconditional: usize) -> u16 {
         let condition = match self.rng.one_in(unconditional) {
             true => NONE,
-            false => self.expression(Sort::Bool, 2),
+            false => self.truth(),
         };
         let body = self.statements(depth - 1);
         let body = self.code.builder.list(&body);
@@ -277,11 +287,22 @@ impl Generator<'_> {
         if endless {
             return list.push(self.code.endless(&body));
         }
-        let condition = match self.rng.one_in(12) {
-            true => self.expression(Sort::Bool, 2),
-            false => self.code.with(counter, LESS, turns),
+        let condition = match self.rng.below(12) {
+            0 => self.truth(),
+            1 => self.small(),
+            2..=6 => self.shifted(counter, turns),
+            _ => self.code.with(counter, LESS, turns),
         };
         list.push(self.code.while_loop(condition, &body));
+    }
+
+    /// Whether the counter is below the turns, a small constant added to both.
+    fn shifted(&mut self, counter: &str, turns: i64) -> u16 {
+        let small = small::any(self.rng);
+        let (left, right) = (self.code.name(counter), self.code.small(small));
+        let sum = self.code.binary(left, PLUS, right);
+        let most = self.code.integer(small.1 + turns);
+        self.code.binary(sum, LESS, most)
     }
 
     /// Mostly under a condition.
@@ -289,7 +310,7 @@ impl Generator<'_> {
         if self.rng.one_in(5) {
             return statement;
         }
-        let condition = self.expression(Sort::Bool, 2);
+        let condition = self.truth();
         self.code.when(condition, &[statement])
     }
 

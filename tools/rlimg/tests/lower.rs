@@ -10,7 +10,7 @@ use rlimg::lower::{answer, lowered, Call, FORMAT, ROOM};
 use rlimg::lowerings::limits::{deepest, fitting, heights, hostile, small};
 use rlimg::lowerings::{any, calls, with_clauses};
 use rlimg::rng::Rng;
-use rlimg::run::{premises_hold, Program, Value};
+use rlimg::run::{premises_hold, Program, Shown, Value};
 use rlimg::runs::{self, Run};
 use rlimg::schema::Section;
 use std::time::{Duration, Instant};
@@ -63,6 +63,36 @@ fn a_return_under_an_ensures_takes_nine_steps() {
     let run = Program::new(&lowered).plainly(0, &[], 100);
     assert_eq!(run, Ok(([1, 9, 4, 1], vec![])));
     assert_eq!(Program::new(&image).reading(0, &[], 100), run);
+}
+
+/// Both as the reading and as the lowered run.
+fn read_and_run(image: &Image) -> Shown {
+    let lowered = lowered(image, 0, FORMAT).expect("within the limits");
+    let run = Program::new(&lowered).plainly(0, &[], 100).expect("no refusal");
+    assert_eq!(Program::new(image).reading(0, &[], 100).as_ref(), Ok(&run));
+    run
+}
+
+#[test]
+fn small_constants_are_copied_and_read() {
+    let image = code::image(&[], |code| {
+        let [_, message, value] =
+            [("Byte", 5), ("SByte", -128), ("BByte", 65_535)].map(|small| code.small(small));
+        _ = code.binary(value, 8, message);
+        vec![code.give(value)]
+    });
+    let verdict = |clause| with_clauses(image.clone(), 0, &[clause], &[]);
+    // A condition that is no truth value is fault 4.
+    let byte = verdict((0, None));
+    assert_eq!(added(&byte), [25, 21, 33, 50, 41]);
+    assert_eq!(read_and_run(&byte).0, [3, 3, 4, 0]);
+    // A message is what it evaluates to.
+    let failing = verdict((3, Some(1)));
+    assert_eq!(added(&failing), [23, 22, 32, 33, 50, 41]);
+    assert_eq!(read_and_run(&failing).0, [2, 9, 1, -128_i64 as u64]);
+    assert_eq!(read_and_run(&result_function(failing)).0, [1, 8, 17, -128_i64 as u64]);
+    let ensured = with_clauses(image.clone(), 0, &[], &[(3, Some(1))]);
+    assert_eq!(read_and_run(&ensured).0[2..], [1, -128_i64 as u64]);
 }
 
 #[test]

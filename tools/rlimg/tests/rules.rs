@@ -36,7 +36,7 @@ fn the_same_seed_gives_the_same_contracts() {
 #[test]
 fn generated_contracts_cover_expressions() {
     let mut seen = HashSet::new();
-    for image in images(4_000) {
+    for image in images(6_000) {
         let heights = reader::read(&encode(&image), WORK).expect("accepted").expression_heights;
         seen.extend(heights.iter().map(|height| format!("height {height}")));
         for record in image.of(Section::Expression) {
@@ -116,7 +116,7 @@ fn sort_of(image: &Image, node: u64) -> &'static str {
     }
     let record = &image.of(Section::Expression)[node as usize];
     match record.kind {
-        17 | 18 => "whole",
+        17 | 18 | 20..=24 => "whole",
         19 if number(record, 1) >> 63 == 0 => "whole",
         27 | 28 => "float",
         25 => "text",

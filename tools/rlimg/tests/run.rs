@@ -99,7 +99,7 @@ fn literals_and_operators() {
     check_value(|code| code.float(1.5), given(Float(1.5)), 1);
     check_value(|code| code.string("x"), given(Str(0)), 1);
     check_value(|code| code.null(), Returned(NULL), 1);
-    check_value(|code| code.node("Byte", &[Field::Number(5)]), fault(Fault::NotTaken), 1);
+    check_value(|code| code.node("Character", &[Field::Number(65)]), fault(Fault::NotTaken), 1);
     check_value(
         |code| {
             let t = code.bool(true);

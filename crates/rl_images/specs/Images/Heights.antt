@@ -135,6 +135,11 @@ module _ (im : Image) (i : ℕ) (h : List ℕ) (t : ℕ → Expr ℕ) (low : (n 
         (by-kind 17 _ _ (λ e. omega arith)
         (by-kind 18 _ _ (λ e. omega arith)
         (by-kind 19 _ _ (λ e. omega arith)
+        (by-kind 20 _ _ (λ e. omega arith)
+        (by-kind 21 _ _ (λ e. omega arith)
+        (by-kind 22 _ _ (λ e. omega arith)
+        (by-kind 23 _ _ (λ e. omega arith)
+        (by-kind 24 _ _ (λ e. omega arith)
         (by-kind 25 _ _ (λ e. omega arith)
         (by-kind 26 _ _ (λ e. omega arith)
         (by-kind 27 _ _ (λ e. omega arith)
@@ -146,7 +151,7 @@ module _ (im : Image) (i : ℕ) (h : List ℕ) (t : ℕ → Expr ℕ) (low : (n 
         (by-kind 39 _ _ (λ e. omega (arith, child-low e (assign-low (rw e at fits))))
         (by-kind 41 _ _ call-low
         (by-kind 49 _ _ (λ e. omega (arith, child-low e (ok-low (rw e at fits))))
-        (by-kind 50 _ _ (λ e. omega (arith, child-low e (err-low (rw e at fits)))) (omega arith))))))))))))))))
+        (by-kind 50 _ _ (λ e. omega (arith, child-low e (err-low (rw e at fits)))) (omega arith)))))))))))))))))))))
 
 -- ---- the tree at an index
 

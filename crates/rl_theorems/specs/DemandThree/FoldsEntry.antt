@@ -39,7 +39,7 @@ no-verdict none e = absurd (false≢true e)
 no-verdict (some true) e = absurd (false≢true e)
 no-verdict (some false) e = refl
 
-false-value : {T : Type 0} (o : Option (ConstVal T)) → isFalse o ≡ true → o ≡ some (value.bool false)
+pub false-value : {T : Type 0} (o : Option (ConstVal T)) → isFalse o ≡ true → o ≡ some (value.bool false)
 false-value none e = absurd (false≢true e)
 false-value (some (value.int x)) e = absurd (false≢true e)
 false-value (some (value.float x)) e = absurd (false≢true e)

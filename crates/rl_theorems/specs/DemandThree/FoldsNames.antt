@@ -70,7 +70,7 @@ module _ (f : ℕ → Text) where
   Values (p ∷ ps) (a ∷ args) [] = ⊥
   Values (p ∷ ps) (a ∷ args) (v ∷ vs) = ((w : ConstVal ℕ) → constEval f [] a ≡ some w → v ≡ folds (mapConst f w)) × Values ps args vs
 
-  abbrev Fresh : List (Binding ℕ) → List (Param ℕ) → Type 0
+  abbrev pub Fresh : List (Binding ℕ) → List (Param ℕ) → Type 0
   Fresh names [] = Unit {0}
   Fresh names (p ∷ ps) = (lookup f names (p .name) ≡ none) × Fresh names ps
 
@@ -79,7 +79,7 @@ module _ (f : ℕ → Text) where
   past y x none names h = refl
   past y x (some u) names h = ap (λ b. cond b (some u) (lookup f names x)) h
 
-  fresh-bound : (y : ℕ) (o : Option (ConstVal ℕ)) (names : List (Binding ℕ)) (ps : List (Param ℕ)) → Apart y ps → Fresh names ps → Fresh (bound y o names) ps
+  pub fresh-bound : (y : ℕ) (o : Option (ConstVal ℕ)) (names : List (Binding ℕ)) (ps : List (Param ℕ)) → Apart y ps → Fresh names ps → Fresh (bound y o names) ps
   fresh-bound y o names [] a h = tt
   fresh-bound y o names (p ∷ ps) a h = (past y (p .name) o names (a .0) ∙ h .0, fresh-bound y o names ps (a .1) (h .1))
 

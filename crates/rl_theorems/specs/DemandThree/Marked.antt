@@ -111,8 +111,8 @@ pub record MarkedCases : Type 0 where
   pub case7 : Folds (nodes [] (float 0x3FF0000000000000 ∷ float 0x8000000000000000 ∷ binary 0 slash 1 ∷ [])) Nothing × Folds (nodes [] (float 0x3FF0000000000000 ∷ float 0 ∷ unary minus 1 ∷ binary 0 slash 2 ∷ [])) Nothing
   -- 8. true < false: none; "a" < "b": true
   pub case8 : Folds (nodes [] (bool 1 ∷ bool 0 ∷ binary 0 less 1 ∷ [])) Nothing × Folds (nodes ("a" ∷ "b" ∷ []) (string 0 ∷ string 1 ∷ binary 0 less 1 ∷ [])) (Value (Truth true))
-  -- 9. Byte 5: none
-  pub case9 : Folds (nodes [] (byte 5 ∷ [])) Nothing
+  -- 9. Byte 5: 5
+  pub case9 : Folds (nodes [] (byte 5 ∷ [])) (Value (Int (pos 5)))
   -- 10. Node 0 an Identifier as requires without message, empty plain body: 1 String, 2 Identifier, 3 Unary, 4 ErrLiteral, 5 Call
   pub case10 : Lowers requires-identifier 0 (30 ∷ 25 ∷ 30 ∷ 33 ∷ 50 ∷ 41 ∷ [])
   -- 11. Result function, one-node ensures without message, one kind 66: 10 new nodes, behind the original's three

@@ -188,7 +188,7 @@ module _ (im : Image) where
       let z : a + 0 ≡ a = omega arith in
       (differ _ _ (rw z at (h 0 (omega arith))), apart-from y (a + 1) n (λ j l. let s : a + suc j ≡ a + 1 + j = omega arith in rw s at (h (suc j) (omega arith))))
 
-  distinct-from : (a n : ℕ) → ((i j : ℕ) → i < j → j < n → nameOf (a + i) ≡ nameOf (a + j) → ⊥) → Distinct (textOf im) (map (paramOf im) (upFrom a n))
+  pub distinct-from : (a n : ℕ) → ((i j : ℕ) → i < j → j < n → nameOf (a + i) ≡ nameOf (a + j) → ⊥) → Distinct (textOf im) (map (paramOf im) (upFrom a n))
   unfolding upFrom paramOf
   distinct-from a zero h = tt
   distinct-from a (suc n) h =

@@ -24,7 +24,7 @@ use Rattle.rl_images.specs.Images.SchemaSorts.{and-left, and-right}
 use Rattle.rl_images.specs.Lowering.Grows.{Grows, grows-same, size-grows}
 use Rattle.rl_images.specs.Lowering.GrowsTo.{GrowsTo, _▷_, _▹_, given, stopped, test}
 use Rattle.rl_images.specs.Lowering.NewRecords.{At, record-ok}
-use Rattle.rl_theorems.specs.Trees.Denotes.{Says, AllSay, Holds, Plain, anInteger, anSInt, aUInt, aBool, aFloat, anSFloat, callTree, IsExpr, stands, Reads, aNull, aLiteral, aString, anIdentifier, aBinary, aUnary, aGrouping, anAssign, aCall, anOk, anErr, anOther, Args, noArgs, anArg, keep, keep-says, keep-all, keep-holds, keep-args, keep-reads}
+use Rattle.rl_theorems.specs.Trees.Denotes.{Says, AllSay, Holds, Plain, anInteger, anSInt, aUInt, anSUInt, aByte, anSByte, aBByte, aBSByte, aBool, aFloat, anSFloat, callTree, IsExpr, stands, Reads, aNull, aLiteral, aString, anIdentifier, aBinary, aUnary, aGrouping, anAssign, aCall, anOk, anErr, anOther, Args, noArgs, anArg, keep, keep-says, keep-all, keep-holds, keep-args, keep-reads}
 use Rattle.rl_theorems.specs.Lowering.MadeTrees.{Turned, list-ok}
 
 infixr 20 _▸_
@@ -209,6 +209,11 @@ module _ {im im′ : Image} (grown : Grows im im′) where
   plain-copy anInteger (p ▸ q ▸ noSorts) = rw (q .kept refl) (aLiteral anInteger)
   plain-copy anSInt (p ▸ q ▸ noSorts) = rw (q .kept refl) (aLiteral anSInt)
   plain-copy aUInt (p ▸ q ▸ noSorts) = rw (q .kept refl) (aLiteral aUInt)
+  plain-copy anSUInt (p ▸ q ▸ noSorts) = rw (q .kept refl) (aLiteral anSUInt)
+  plain-copy aByte (p ▸ q ▸ noSorts) = rw (q .kept refl) (aLiteral aByte)
+  plain-copy anSByte (p ▸ q ▸ noSorts) = rw (q .kept refl) (aLiteral anSByte)
+  plain-copy aBByte (p ▸ q ▸ noSorts) = rw (q .kept refl) (aLiteral aBByte)
+  plain-copy aBSByte (p ▸ q ▸ noSorts) = rw (q .kept refl) (aLiteral aBSByte)
   plain-copy aBool (p ▸ q ▸ noSorts) = rw (q .kept refl) (aLiteral aBool)
   plain-copy aFloat (p ▸ q ▸ noSorts) = rw (q .kept refl) (aLiteral aFloat)
   plain-copy anSFloat (p ▸ q ▸ noSorts) = rw (q .kept refl) (aLiteral anSFloat)

@@ -1,5 +1,5 @@
--- DEMAND 2. RFC 3629 for text and IEEE 754-2019 for floats, save 01's listed differences; then the Rust decides. What the Rust decides
--- stands here as closed tables, a row or more for each rule, proved by computation; the marked cases are one list. What the printer
+-- DEMAND 2. RFC 3629 for text and IEEE 754-2019 for floats, save 01's listed differences; then the Rust decides, but for the change requests.
+-- What it decides stands here as closed tables, a row or more for each rule, proved by computation; the marked cases are one list. What the printer
 -- writes is stated for all bytes.
 -- Assumes nothing.
 use Prim.Native.Nat.{ℕ, _*_, _^_, _≤_, _<_}

@@ -24,7 +24,7 @@ use Rattle.rl_spec.specs.Mapped.{Text, mapConst, mapExpr, mapStmt, mapBody, map
 use Rattle.rl_spec.specs.Make.{made}
 use Rattle.rl_laws.specs.Descend.{tree-is, item-is, below-earlier, under-earlier}
 use Rattle.rl_theorems.specs.Trees.MappedItems.{statement-mapped, branch-mapped, else-mapped}
-use Rattle.rl_theorems.specs.Trees.Denotes.{AllSay, noneSay, alsoSays, Holds, Plain, anInteger, anSInt, aUInt, aBool, aFloat, anSFloat, isRes, callTree, IsExpr, stands, Reads, aNull, aLiteral, aString, anIdentifier, aBinary, aUnary, aGrouping, anAssign, aCall, anOk, anErr, anOther, Args, noArgs, anArg, IsCondition, noCondition, aCondition, IsLine, standsLine, ReadsLine, aDeclaration, anExpression, aReturn, aReturnAlone, aConditional, anArm, aWhile, aLoop, aBreak, aContinue, anOtherLine, IsElse, withoutElse, anElse, aChain, Rows, noRows, aRow}
+use Rattle.rl_theorems.specs.Trees.Denotes.{AllSay, noneSay, alsoSays, Holds, Plain, anInteger, anSInt, aUInt, anSUInt, aByte, anSByte, aBByte, aBSByte, aBool, aFloat, anSFloat, isRes, callTree, IsExpr, stands, Reads, aNull, aLiteral, aString, anIdentifier, aBinary, aUnary, aGrouping, anAssign, aCall, anOk, anErr, anOther, Args, noArgs, anArg, IsCondition, noCondition, aCondition, IsLine, standsLine, ReadsLine, aDeclaration, anExpression, aReturn, aReturnAlone, aConditional, anArm, aWhile, aLoop, aBreak, aContinue, anOtherLine, IsElse, withoutElse, anElse, aChain, Rows, noRows, aRow}
 
 -- ---- lists
 
@@ -80,6 +80,11 @@ module _ (im : Image) where
   plain-is s tree anInteger = refl
   plain-is s tree anSInt = refl
   plain-is s tree (aUInt {n = n}) = ap literal (unsigned-is texts n (ltb n (2 ^ 63)))
+  plain-is s tree anSUInt = refl
+  plain-is s tree aByte = refl
+  plain-is s tree anSByte = refl
+  plain-is s tree aBByte = refl
+  plain-is s tree aBSByte = refl
   plain-is s tree aBool = refl
   plain-is s tree aFloat = refl
   plain-is s tree anSFloat = refl

@@ -4,6 +4,7 @@ use Prim.Native.Nat.{ℕ, zero, suc, _+_, _≤_, _<_}
 use mathlib.Core.Path.{_≡_, refl, sym, subst}
 use mathlib.Core.Bool.{false}
 use mathlib.Core.List.{List, [], _∷_, map}
+use mathlib.Core.Option.{Option}
 use native.Mathlib.Omega.{arith}
 use lib.Dec.{eqb}
 use lib.ListN.{length}
@@ -11,8 +12,10 @@ use borrow.Author.Tests.{ne-eqb}
 use Rattle.rl_spec.specs.declared.Section.{Section}
 use Rattle.rl_spec.specs.declared.Section.the-variants.{Texts, Lists, Expressions, Statements, Parameters, Clauses, Functions, Calls}
 use Rattle.rl_spec.specs.declared.Target.the-variants.{Text as aText, Expression}
+use Rattle.rl_spec.specs.declared.Sort.the-variants.{Raw}
 use Rattle.rl_spec.specs.Schema.{limits, schema, sortOf, fieldsIn, fieldsOf}
 use Rattle.rl_spec.specs.Image.{Field, Image, sizeOf, recordOf, fieldOf, first, second, entryOf, textOf, Entries, aRaw, aByte, aPart, aReference, aList, FieldsFit, noFields, _&_, RecordFits, WellFormed}
+use Rattle.rl_spec.specs.Values.{ConstVal}
 use Rattle.rl_spec.specs.Tree.{Expr, formBy}
 use Rattle.rl_spec.specs.Ranges.{upFrom}
 use Rattle.rl_spec.specs.Mapped.{Text}
@@ -21,7 +24,7 @@ use Rattle.rl_laws.specs.Tests.{by-eqb}
 use Rattle.rl_images.specs.Images.SchemaSorts.{kind-range}
 use Rattle.rl_images.specs.Images.Limits.{size-within}
 use Rattle.rl_images.specs.Lowering.NewRecords.{At}
-use Rattle.rl_theorems.specs.Trees.Denotes.{Says, AllSay, noneSay, alsoSays, anInteger, anSInt, aUInt, aBool, aFloat, anSFloat, IsExpr, stands, Reads, aNull, aLiteral, aString, anIdentifier, aBinary, aUnary, aGrouping, anAssign, aCall, anOk, anErr, anOther, Args, noArgs, anArg}
+use Rattle.rl_theorems.specs.Trees.Denotes.{Says, AllSay, noneSay, alsoSays, Plain, anInteger, anSInt, aUInt, anSUInt, aByte, anSByte, aBByte, aBSByte, aBool, aFloat, anSFloat, IsExpr, stands, Reads, aNull, aLiteral, aString, anIdentifier, aBinary, aUnary, aGrouping, anAssign, aCall, anOk, anErr, anOther, Args, noArgs, anArg}
 
 module _ (im : Image) (wf : WellFormed im) where
   few : (o : Section) → sizeOf im o < 65535
@@ -80,17 +83,13 @@ module _ (im : Image) (wf : WellFormed im) where
     unfolding fieldsOf fieldsIn schema sortOf
     null-reads (aRaw w & noFields) = (_, aNull refl)
 
-    integer-reads : {fs : List Field} → Fit i 17 fs → Some i 17 fs
-    unfolding fieldsOf fieldsIn schema sortOf
-    integer-reads (aRaw w & aRaw v & noFields) = (_, aLiteral anInteger)
-
-    sint-reads : {fs : List Field} → Fit i 18 fs → Some i 18 fs
-    unfolding fieldsOf fieldsIn schema sortOf
-    sint-reads (aRaw w & aRaw v & noFields) = (_, aLiteral anSInt)
-
-    uint-reads : {fs : List Field} → Fit i 19 fs → Some i 19 fs
-    unfolding fieldsOf fieldsIn schema sortOf
-    uint-reads (aRaw w & aRaw v & noFields) = (_, aLiteral aUInt)
+    -- a number behind the span
+    number-reads : (k w : ℕ) → map sortOf (fieldsOf k) ≡ Raw 4 ∷ Raw w ∷ [] → ((n : ℕ) → (v : Option (ConstVal Text)) × Plain k n v) → {fs : List Field} →
+        Fit i k fs → Some i k fs
+    number-reads k w e plain {fs} h = go (subst (λ cs. FieldsFit im Expressions i 0 cs fs) e h)
+      where
+        go : {fs : List Field} → FieldsFit im Expressions i 0 (Raw 4 ∷ Raw w ∷ []) fs → Some i k fs
+        go (aRaw s & aRaw {x = n} v & noFields) = (_, aLiteral (plain n .1))
 
     string-reads : {fs : List Field} → Fit i 25 fs → Some i 25 fs
     unfolding fieldsOf fieldsIn schema sortOf
@@ -99,14 +98,6 @@ module _ (im : Image) (wf : WellFormed im) where
     bool-reads : {fs : List Field} → Fit i 26 fs → Some i 26 fs
     unfolding fieldsOf fieldsIn schema sortOf
     bool-reads (aRaw w & aByte l h & noFields) = (_, aLiteral aBool)
-
-    float-reads : {fs : List Field} → Fit i 27 fs → Some i 27 fs
-    unfolding fieldsOf fieldsIn schema sortOf
-    float-reads (aRaw w & aRaw v & noFields) = (_, aLiteral aFloat)
-
-    sfloat-reads : {fs : List Field} → Fit i 28 fs → Some i 28 fs
-    unfolding fieldsOf fieldsIn schema sortOf
-    sfloat-reads (aRaw w & aRaw v & noFields) = (_, aLiteral anSFloat)
 
     identifier-reads : {fs : List Field} → Fit i 30 fs → Some i 30 fs
     unfolding fieldsOf fieldsIn schema sortOf
@@ -146,12 +137,30 @@ module _ (im : Image) (wf : WellFormed im) where
     err-reads (aRaw w & aReference {x = n} q & noFields) = (_, anErr refl (q .earlier) (earlier n (q .earlier) .1))
 
     reads : (k : ℕ) (fs : List Field) → Fit i k fs → Some i k fs
-    unfolding formBy
+    unfolding formBy fieldsOf fieldsIn schema sortOf
     reads k fs h =
-        try 16 null-reads λ a. try 17 integer-reads λ b. try 18 sint-reads λ c. try 19 uint-reads λ d. try 25 string-reads λ e.
-        try 26 bool-reads λ f. try 27 float-reads λ g. try 28 sfloat-reads λ l. try 30 identifier-reads λ m. try 32 binary-reads λ n.
-        try 33 unary-reads λ o. try 34 grouping-reads λ p. try 39 assign-reads λ q. try 41 call-reads λ r. try 49 ok-reads λ s.
-        try 50 err-reads λ t. (_, anOther λ im fs. rw (a, b, c, d, e, f, g, l, m, n, o, p, q, r, s, t) refl)
+        try 16 null-reads λ k16.
+        try 17 (number-reads 17 8 refl λ n. (_, anInteger)) λ k17.
+        try 18 (number-reads 18 4 refl λ n. (_, anSInt)) λ k18.
+        try 19 (number-reads 19 8 refl λ n. (_, aUInt)) λ k19.
+        try 20 (number-reads 20 4 refl λ n. (_, anSUInt)) λ k20.
+        try 21 (number-reads 21 1 refl λ n. (_, aByte)) λ k21.
+        try 22 (number-reads 22 1 refl λ n. (_, anSByte)) λ k22.
+        try 23 (number-reads 23 2 refl λ n. (_, aBByte)) λ k23.
+        try 24 (number-reads 24 2 refl λ n. (_, aBSByte)) λ k24.
+        try 25 string-reads λ k25.
+        try 26 bool-reads λ k26.
+        try 27 (number-reads 27 8 refl λ n. (_, aFloat)) λ k27.
+        try 28 (number-reads 28 4 refl λ n. (_, anSFloat)) λ k28.
+        try 30 identifier-reads λ k30.
+        try 32 binary-reads λ k32.
+        try 33 unary-reads λ k33.
+        try 34 grouping-reads λ k34.
+        try 39 assign-reads λ k39.
+        try 41 call-reads λ k41.
+        try 49 ok-reads λ k49.
+        try 50 err-reads λ k50.
+        (_, anOther λ im fs. rw (k16, k17, k18, k19, k20, k21, k22, k23, k24, k25, k26, k27, k28, k30, k32, k33, k34, k39, k41, k49, k50) refl)
       where
         try : (K : ℕ) → (Fit i K fs → Some i K fs) → (eqb k K ≡ false → Some i k fs) → Some i k fs
         try K found not =

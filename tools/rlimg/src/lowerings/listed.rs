@@ -14,7 +14,7 @@ const BODIES: usize = 16;
 
 /// All images below.
 pub fn all() -> Vec<Image> {
-    [conditions(), bodies(), contracts()].concat()
+    [conditions(), bodies(), contracts(), small_constants()].concat()
 }
 
 /// A function that requires an expression of each kind; every other one has it
@@ -100,6 +100,24 @@ fn body(code: &mut Code, which: usize, value: u16) -> Vec<u16> {
             vec![inner, code.when(value, &[inner])]
         }
     }
+}
+
+/// A function, plain and of a result, whose conditions, messages and value are
+/// small constants: they are copied and passed on as they are.
+pub fn small_constants() -> Vec<Image> {
+    let image = code::image(&[], |code| {
+        let first = [("Byte", 5), ("SByte", -1), ("BSByte", -32_768), ("SUInt", 4_294_967_295)];
+        first.into_iter().for_each(|small| _ = code.small(small));
+        let value = code.small(("BByte", 65_535));
+        vec![code.give(value)]
+    });
+    let image = with_clauses(image, 0, &[(0, Some(1))], &[(2, Some(3))]);
+    let of_result = |result: u16| {
+        let mut image = image.clone();
+        image.of_mut(Section::Function)[0].values[3] = result.into();
+        image
+    };
+    [0, 1].map(of_result).to_vec()
 }
 
 /// Functions with refinements of every sort, clauses that share messages, and

@@ -4,6 +4,7 @@ use super::values::{self, Literal, SORTS};
 use super::{Generator, COMPARE, FUNCTIONS, NAMES, STRANGERS};
 use crate::image::Value;
 use crate::schema::{self, Row, Section, Sort};
+use crate::small;
 
 /// A tree of more nodes is not used twice.
 const SHARED: usize = 20;
@@ -25,7 +26,7 @@ impl Generator<'_> {
     /// An expression that has no value: one of a kind that is not taken, or
     /// an unsigned literal above the whole numbers.
     pub(super) fn not_taken(&mut self) -> u16 {
-        let taken = [17, 18, 19, 25, 26, 27, 28, 30, 32, 33, 34];
+        let taken = [17, 18, 19, 20, 21, 22, 23, 24, 25, 26, 27, 28, 30, 32, 33, 34];
         let kinds = schema::rows(Section::Expression).filter(|row| !taken.contains(&row.kind));
         let kinds: Vec<&Row> = kinds.collect();
         if self.rng.one_in(8) {
@@ -80,9 +81,18 @@ impl Generator<'_> {
     }
 
     pub(super) fn any_literal(&mut self) -> u16 {
+        if self.rng.one_in(5) {
+            return self.small();
+        }
         let sort = self.rng.below(SORTS);
         let literal = Literal::any(self.rng, sort);
         self.literal(literal)
+    }
+
+    /// A small constant at a limit.
+    pub(super) fn small(&mut self) -> u16 {
+        let small = small::any(self.rng);
+        self.node(small.0, &[Value::Number(small::bits(small))], &[])
     }
 
     pub(super) fn literal(&mut self, literal: Literal) -> u16 {

@@ -3,6 +3,7 @@
 use crate::builder::Builder;
 use crate::image::Value;
 use crate::rng::Rng;
+use crate::small;
 use Literal::{Bool, Float, Int, Str};
 
 /// A literal, by the sort of its value.
@@ -17,7 +18,7 @@ pub enum Literal {
 /// How many sorts of values there are.
 pub const SORTS: usize = 4;
 
-const INTEGERS: [i64; 32] = [
+const INTEGERS: [i64; 46] = [
     0,
     1,
     -1,
@@ -26,9 +27,23 @@ const INTEGERS: [i64; 32] = [
     7,
     -7,
     9,
+    127,
+    128,
+    -128,
+    -129,
+    255,
+    256,
     4_096,
+    32_767,
+    32_768,
+    -32_768,
+    -32_769,
+    65_535,
+    65_536,
     i32::MAX as i64,
+    1 << 31,
     i32::MIN as i64,
+    (1 << 32) - 1,
     1 << 32,
     3_037_000_499,
     3_037_000_500,
@@ -247,9 +262,14 @@ fn between_floats(rng: &mut Rng) -> i64 {
 
 /// The name and the bits of a number's record, of any kind that holds it.
 pub fn integer(rng: &mut Rng, value: i64) -> (&'static str, u64) {
-    match rng.below(4) {
+    let small = small::holding(value);
+    match rng.below(6) {
         0 if i32::try_from(value).is_ok() => ("SInt", u64::from(value as u32)),
         1 if value >= 0 => ("UInt", value as u64),
+        2 | 3 if !small.is_empty() => {
+            let small = rng.pick(&small);
+            (small.0, small::bits(small))
+        }
         _ => ("Integer", value as u64),
     }
 }

@@ -2,7 +2,7 @@
 //! they have in the image.
 
 use super::values::{Value, NULL};
-use crate::fold::Folded;
+use crate::fold::{self, Folded};
 use crate::image::{Image, Record, NONE};
 use crate::schema::Section;
 use std::collections::HashMap;
@@ -84,11 +84,9 @@ impl<'a> Program<'a> {
         let literal = |folded| Node::Literal(Value::Plain(Some(folded)));
         match record.kind {
             16 => Node::Literal(NULL),
-            17 => literal(Folded::Int(number(1) as i64)),
-            18 => literal(Folded::Int(i64::from(number(1) as i32))),
-            19 => match i64::try_from(number(1)) {
-                Ok(value) => literal(Folded::Int(value)),
-                Err(_) => Node::Valueless,
+            17..=24 => match fold::whole(record) {
+                Some(value) => literal(Folded::Int(value)),
+                None => Node::Valueless,
             },
             25 => literal(Folded::Str(number(1) as u16)),
             26 => literal(Folded::Bool(number(1) == 1)),

@@ -101,10 +101,12 @@ impl Generator<'_> {
         (first, count as u16)
     }
 
-    /// Mostly something that is equal to itself.
+    /// Mostly something that is equal to itself; a small constant is no verdict.
     fn condition(&mut self) -> u16 {
-        if self.rng.one_in(5) {
-            return self.expression(Sort::Bool, 2);
+        match self.rng.below(30) {
+            0 => return self.small(),
+            1..=6 => return self.expression(Sort::Bool, 2),
+            _ => (),
         }
         let sort = self.rng.pick(&[Sort::Int, Sort::Int, Sort::Str, Sort::Bool, Sort::Float]);
         let node = self.expression(sort, 2);
@@ -133,12 +135,12 @@ impl Generator<'_> {
                 vec![self.code.declare("__ensure_ret_0", value)]
             }
             3..=9 => {
-                let node = self.expression(sort, 3);
+                let node = self.last(sort);
                 return vec![self.code.bare(node)];
             }
             _ => self.statements(DEPTH),
         };
-        let node = self.expression(sort, 3);
+        let node = self.last(sort);
         match self.rng.below(8) {
             0 => body.push(self.code.statement("ReturnAlone", &[])),
             // With ensures, a bare last expression comes ahead of the others.

@@ -4,6 +4,7 @@ use super::{Generator, COUNTERS, NAMES};
 use crate::image::Value;
 use crate::rules::{self, Literal};
 use crate::schema::{self, Row, Section, Sort as FieldSort};
+use crate::small;
 
 /// A tree of more nodes is not used twice.
 const SHARED: usize = 20;
@@ -11,7 +12,8 @@ const MINUS: u16 = 2;
 const BANG: u16 = 5;
 const COMPARE: u16 = 6;
 /// The kinds that mean something in a run.
-const TAKEN: [u8; 16] = [16, 17, 18, 19, 25, 26, 27, 28, 30, 32, 33, 34, 39, 41, 49, 50];
+const TAKEN: [u8; 21] =
+    [16, 17, 18, 19, 20, 21, 22, 23, 24, 25, 26, 27, 28, 30, 32, 33, 34, 39, 41, 49, 50];
 
 #[derive(Debug, Clone, Copy, PartialEq, Eq)]
 pub(super) enum Sort {
@@ -77,6 +79,7 @@ impl Generator<'_> {
             5 | 6 if depth > 0 => self.assign(sort, depth - 1),
             7..=16 => self.variable(sort),
             17..=33 if depth > 0 => self.compound(sort, depth - 1),
+            34..=36 if sort == Sort::Int => self.small(),
             _ => self.leaf(sort),
         };
         self.known.push((node, sort));
@@ -158,14 +161,29 @@ impl Generator<'_> {
                 let inner = self.leaf(plain);
                 self.wrapped(inner)
             }
-            Sort::Int if !self.rng.one_in(4) => {
-                let small = self.rng.below(8) as i64;
-                self.code.integer(small)
+            Sort::Int if self.rng.one_in(2) => {
+                let near = self.rng.below(8) as i64;
+                self.code.integer(near)
             }
+            Sort::Int if self.rng.one_in(2) => self.small(),
             _ => {
                 let literal = Literal::any(self.rng, sort as usize);
                 self.literal(literal)
             }
+        }
+    }
+
+    /// A small constant at a limit.
+    pub(super) fn small(&mut self) -> u16 {
+        let small = small::any(self.rng);
+        self.code.small(small)
+    }
+
+    /// A truth value, rarely a small constant, which is none.
+    pub(super) fn truth(&mut self) -> u16 {
+        match self.rng.one_in(40) {
+            true => self.small(),
+            false => self.expression(Sort::Bool, 2),
         }
     }
 
@@ -213,7 +231,10 @@ impl Generator<'_> {
     }
 
     fn of_result(&mut self, name: &str, depth: usize) -> u16 {
-        let inner = self.expression(Sort::Wrapped, depth);
+        let inner = match self.rng.one_in(20) {
+            true => self.small(),
+            false => self.expression(Sort::Wrapped, depth),
+        };
         self.code.result(name, inner)
     }
 

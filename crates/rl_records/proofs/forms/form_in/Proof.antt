@@ -1,9 +1,9 @@
 use borrow.Author.Needs.{needs}
 use Rattle.rl_records.proofs.forms.form_in.Statement.{statement}
 use Rattle.rl_records.proofs.forms.form_in.Tie as tie
-use Rattle.rl_records.proofs.FormLaws.{form-null, form-int, form-sint, form-uint, form-str, form-bool, form-float, form-sfloat, form-identifier, form-binary, form-unary, form-grouping, form-assign, form-call, form-ok, form-err, form-other}
+use Rattle.rl_records.proofs.FormLaws.{form-null, form-int, form-sint, form-uint, form-suint, form-byte, form-sbyte, form-bbyte, form-bsbyte, form-str, form-bool, form-float, form-sfloat, form-identifier, form-binary, form-unary, form-grouping, form-assign, form-call, form-ok, form-err, form-other}
 
-ruleset laws = (form-null, form-int, form-sint, form-uint, form-str, form-bool, form-float, form-sfloat, form-identifier, form-binary, form-unary, form-grouping, form-assign, form-call, form-ok, form-err, form-other)
+ruleset laws = (form-null, form-int, form-sint, form-uint, form-suint, form-byte, form-sbyte, form-bbyte, form-bsbyte, form-str, form-bool, form-float, form-sfloat, form-identifier, form-binary, form-unary, form-grouping, form-assign, form-call, form-ok, form-err, form-other)
 
 add-at : tie.Need-add-at
 add-at c = search needs
@@ -38,8 +38,11 @@ u64-at-requires-2 c κs = search needs
 unsigned64-requires : tie.Need-unsigned64-requires
 unsigned64-requires c κs = search needs
 
-u16-at-requires : tie.Need-u16-at-requires
-u16-at-requires c κs = search needs
+u32-at-requires-2 : tie.Need-u32-at-requires-2
+u32-at-requires-2 c κs = search needs
+
+cast-t18 : tie.Need-cast-t18
+cast-t18 c = search needs
 
 literal-requires-3 : tie.Need-literal-requires-3
 literal-requires-3 c κs = search needs
@@ -47,23 +50,26 @@ literal-requires-3 c κs = search needs
 byte-at-requires-2 : tie.Need-byte-at-requires-2
 byte-at-requires-2 c κs = search needs
 
+cast-t21 : tie.Need-cast-t21
+cast-t21 c = search needs
+
 literal-requires-4 : tie.Need-literal-requires-4
 literal-requires-4 c κs = search needs
 
-u64-at-requires-3 : tie.Need-u64-at-requires-3
-u64-at-requires-3 c κs = search needs
+byte-at-requires-3 : tie.Need-byte-at-requires-3
+byte-at-requires-3 c κs = search needs
 
-float64-requires : tie.Need-float64-requires
-float64-requires c κs = search needs
+signed8-requires : tie.Need-signed8-requires
+signed8-requires c κs = search needs
 
 literal-requires-5 : tie.Need-literal-requires-5
 literal-requires-5 c κs = search needs
 
-u32-at-requires-2 : tie.Need-u32-at-requires-2
-u32-at-requires-2 c κs = search needs
+u16-at-requires : tie.Need-u16-at-requires
+u16-at-requires c κs = search needs
 
-float32-requires : tie.Need-float32-requires
-float32-requires c κs = search needs
+cast-t27 : tie.Need-cast-t27
+cast-t27 c = search needs
 
 literal-requires-6 : tie.Need-literal-requires-6
 literal-requires-6 c κs = search needs
@@ -71,14 +77,53 @@ literal-requires-6 c κs = search needs
 u16-at-requires-2 : tie.Need-u16-at-requires-2
 u16-at-requires-2 c κs = search needs
 
+signed16-requires : tie.Need-signed16-requires
+signed16-requires c κs = search needs
+
+literal-requires-7 : tie.Need-literal-requires-7
+literal-requires-7 c κs = search needs
+
 u16-at-requires-3 : tie.Need-u16-at-requires-3
 u16-at-requires-3 c κs = search needs
+
+literal-requires-8 : tie.Need-literal-requires-8
+literal-requires-8 c κs = search needs
+
+byte-at-requires-4 : tie.Need-byte-at-requires-4
+byte-at-requires-4 c κs = search needs
+
+literal-requires-9 : tie.Need-literal-requires-9
+literal-requires-9 c κs = search needs
+
+u64-at-requires-3 : tie.Need-u64-at-requires-3
+u64-at-requires-3 c κs = search needs
+
+float64-requires : tie.Need-float64-requires
+float64-requires c κs = search needs
+
+literal-requires-10 : tie.Need-literal-requires-10
+literal-requires-10 c κs = search needs
+
+u32-at-requires-3 : tie.Need-u32-at-requires-3
+u32-at-requires-3 c κs = search needs
+
+float32-requires : tie.Need-float32-requires
+float32-requires c κs = search needs
+
+literal-requires-11 : tie.Need-literal-requires-11
+literal-requires-11 c κs = search needs
+
+u16-at-requires-4 : tie.Need-u16-at-requires-4
+u16-at-requires-4 c κs = search needs
+
+u16-at-requires-5 : tie.Need-u16-at-requires-5
+u16-at-requires-5 c κs = search needs
 
 add-byte-at : tie.Need-add-byte-at
 add-byte-at c = search needs
 
-byte-at-requires-3 : tie.Need-byte-at-requires-3
-byte-at-requires-3 c κs = search needs
+byte-at-requires-5 : tie.Need-byte-at-requires-5
+byte-at-requires-5 c κs = search needs
 
 add-u16-at : tie.Need-add-u16-at
 add-u16-at c = search needs
@@ -86,29 +131,29 @@ add-u16-at c = search needs
 add-u16-at-2 : tie.Need-add-u16-at-2
 add-u16-at-2 c = search needs
 
-u16-at-requires-4 : tie.Need-u16-at-requires-4
-u16-at-requires-4 c κs = search needs
+u16-at-requires-6 : tie.Need-u16-at-requires-6
+u16-at-requires-6 c κs = search needs
 
-byte-at-requires-4 : tie.Need-byte-at-requires-4
-byte-at-requires-4 c κs = search needs
+byte-at-requires-6 : tie.Need-byte-at-requires-6
+byte-at-requires-6 c κs = search needs
 
 add-u16-at-3 : tie.Need-add-u16-at-3
 add-u16-at-3 c = search needs
 
-u16-at-requires-5 : tie.Need-u16-at-requires-5
-u16-at-requires-5 c κs = search needs
-
-u16-at-requires-6 : tie.Need-u16-at-requires-6
-u16-at-requires-6 c κs = search needs
-
 u16-at-requires-7 : tie.Need-u16-at-requires-7
 u16-at-requires-7 c κs = search needs
+
+u16-at-requires-8 : tie.Need-u16-at-requires-8
+u16-at-requires-8 c κs = search needs
+
+u16-at-requires-9 : tie.Need-u16-at-requires-9
+u16-at-requires-9 c κs = search needs
 
 add-u16-at-4 : tie.Need-add-u16-at-4
 add-u16-at-4 c = search needs
 
-u16-at-requires-8 : tie.Need-u16-at-requires-8
-u16-at-requires-8 c κs = search needs
+u16-at-requires-10 : tie.Need-u16-at-requires-10
+u16-at-requires-10 c κs = search needs
 
 interval-at-requires : tie.Need-interval-at-requires
 interval-at-requires c κs = search needs
@@ -122,11 +167,11 @@ interval-at-requires-2 c κs = search needs
 call-form-requires : tie.Need-call-form-requires
 call-form-requires c κs = search needs
 
-u16-at-requires-9 : tie.Need-u16-at-requires-9
-u16-at-requires-9 c κs = search needs
+u16-at-requires-11 : tie.Need-u16-at-requires-11
+u16-at-requires-11 c κs = search needs
 
-u16-at-requires-10 : tie.Need-u16-at-requires-10
-u16-at-requires-10 c κs = search needs
+u16-at-requires-12 : tie.Need-u16-at-requires-12
+u16-at-requires-12 c κs = search needs
 
 returns : tie.Need-returns
 returns c = search (laws, needs)
@@ -179,6 +224,21 @@ returns-16 c = search (laws, needs)
 returns-17 : tie.Need-returns-17
 returns-17 c = search (laws, needs)
 
+returns-18 : tie.Need-returns-18
+returns-18 c = search (laws, needs)
+
+returns-19 : tie.Need-returns-19
+returns-19 c = search (laws, needs)
+
+returns-20 : tie.Need-returns-20
+returns-20 c = search (laws, needs)
+
+returns-21 : tie.Need-returns-21
+returns-21 c = search (laws, needs)
+
+returns-22 : tie.Need-returns-22
+returns-22 c = search (laws, needs)
+
 pub form-in-spec : {M : Type 1} → statement M
 form-in-spec =
     tie.close
@@ -194,36 +254,51 @@ form-in-spec =
     literal-requires-2
     u64-at-requires-2
     unsigned64-requires
-    u16-at-requires
+    u32-at-requires-2
+    cast-t18
     literal-requires-3
     byte-at-requires-2
+    cast-t21
     literal-requires-4
-    u64-at-requires-3
-    float64-requires
+    byte-at-requires-3
+    signed8-requires
     literal-requires-5
-    u32-at-requires-2
-    float32-requires
+    u16-at-requires
+    cast-t27
     literal-requires-6
     u16-at-requires-2
+    signed16-requires
+    literal-requires-7
     u16-at-requires-3
+    literal-requires-8
+    byte-at-requires-4
+    literal-requires-9
+    u64-at-requires-3
+    float64-requires
+    literal-requires-10
+    u32-at-requires-3
+    float32-requires
+    literal-requires-11
+    u16-at-requires-4
+    u16-at-requires-5
     add-byte-at
-    byte-at-requires-3
+    byte-at-requires-5
     add-u16-at
     add-u16-at-2
-    u16-at-requires-4
-    byte-at-requires-4
-    add-u16-at-3
-    u16-at-requires-5
     u16-at-requires-6
+    byte-at-requires-6
+    add-u16-at-3
     u16-at-requires-7
-    add-u16-at-4
     u16-at-requires-8
+    u16-at-requires-9
+    add-u16-at-4
+    u16-at-requires-10
     interval-at-requires
     add-interval-at
     interval-at-requires-2
     call-form-requires
-    u16-at-requires-9
-    u16-at-requires-10
+    u16-at-requires-11
+    u16-at-requires-12
     returns
     returns-2
     returns-3
@@ -240,4 +315,9 @@ form-in-spec =
     returns-14
     returns-15
     returns-16
-    returns-17)
+    returns-17
+    returns-18
+    returns-19
+    returns-20
+    returns-21
+    returns-22)

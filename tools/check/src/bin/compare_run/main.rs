@@ -1,7 +1,9 @@
 //! `compare_run [FUNCTIONS] [SEED]`: the library's `rl_run` against the
 //! independent runner, on generated functions with budgets around what they
-//! take, on calls that are refused, on listed words and on damaged images.
+//! take, on listed functions over small constants, on calls that are refused, on
+//! listed words and on damaged images.
 
+mod operands;
 mod words;
 
 use check::runs::{compare, Case, Slices};
@@ -16,6 +18,8 @@ use std::process::ExitCode;
 
 /// Everything that is counted must have been seen so often.
 const ENOUGH: usize = 50;
+/// The listed functions over small constants are so many.
+const OPERANDS: usize = 14_685;
 /// A run of more steps is not waited for, or rarely.
 const LONG: u32 = 2_000;
 /// The refusals that are looked for.
@@ -35,6 +39,8 @@ struct Tally {
     /// Listed words that had all of their answers: values, no values, values
     /// of which a text is missing.
     words: [usize; 3],
+    /// Listed functions over small constants.
+    operands: usize,
 }
 
 struct Comparison {
@@ -156,6 +162,7 @@ fn main() -> ExitCode {
     let (tally, rng, slices) = (Tally::default(), Rng::new(seed), Slices::default());
     let mut comparison = Comparison { tally, rng, slices };
     let mut done = comparison.listed().and_then(|()| comparison.listed_words());
+    done = done.and_then(|()| comparison.listed_operands());
     while done.is_ok() && comparison.tally.functions < functions {
         done = comparison.function();
     }
@@ -179,12 +186,17 @@ fn summary(tally: &Tally) -> ExitCode {
     let refusals = tally.refusals.iter().map(|(number, count)| format!("{number}: {count}"));
     println!(
         "compare_run: {} functions, {} runs, {} steps, 0 differ; {outcomes}; faults {faults}; \
-         listed words {words}; refusals {}",
+         listed words {words}; listed operands {}; refusals {}",
         tally.functions,
         tally.runs,
         tally.steps,
+        tally.operands,
         refusals.collect::<Vec<String>>().join(", "),
     );
+    if tally.operands < OPERANDS {
+        println!("the listed operands are fewer than {OPERANDS}");
+        return ExitCode::FAILURE;
+    }
     let refused = |number: &u32| tally.refusals.get(number).copied().unwrap_or(0);
     let counts = tally.outcomes.iter().chain(&tally.faults).chain(&tally.words).copied();
     if counts.chain(REFUSALS.iter().map(refused)).min() < Some(ENOUGH) {

@@ -41,6 +41,7 @@ pub fn around() -> Vec<Image> {
         body(leaving),
         body(scopes),
         body(chain),
+        body(small_constants),
         body(|code| bindings(code, BINDINGS)),
         body(|code| bindings(code, BINDINGS + 1)),
         bare(unwrapping),
@@ -100,6 +101,26 @@ fn chain(code: &mut Code) -> Vec<u16> {
     let [first, second] = [never, never].map(|condition| code.branch(Some(condition), &[]));
     let second = code.conditional(second, Some(third));
     vec![code.conditional(first, Some(second))]
+}
+
+/// let x = Byte 255; while SByte -1 < x { x = x - Byte 128 }
+/// return result_unwrap(Err(-x * BSByte -32768 + SUInt 4294967295 - BByte 65535))
+fn small_constants(code: &mut Code) -> Vec<u16> {
+    let [most, half, minus_one] =
+        [("Byte", 255), ("Byte", 128), ("SByte", -1)].map(|small| code.small(small));
+    let [least, large, wide] = [("BSByte", -32_768), ("SUInt", 4_294_967_295), ("BByte", 65_535)]
+        .map(|small| code.small(small));
+    let x = code.name("x");
+    let condition = code.binary(minus_one, LESS, x);
+    let less = code.binary(x, MINUS, half);
+    let body = code.set("x", less);
+    let negated = code.unary(MINUS, x);
+    let product = code.binary(negated, STAR, least);
+    let sum = code.binary(product, PLUS, large);
+    let difference = code.binary(sum, MINUS, wide);
+    let err = code.over("ErrLiteral", difference);
+    let stop = code.result("result_unwrap", err);
+    vec![code.declare("x", most), code.while_loop(condition, &[body]), code.give(stop)]
 }
 
 fn bindings(code: &mut Code, count: usize) -> Vec<u16> {
@@ -166,8 +187,20 @@ fn literals() -> Vec<Image> {
         ("SInt", 0xffff_fff9),
         ("UInt", 7),
         ("UInt", 1 << 63),
-        ("SUInt", 7),
-        ("Byte", 7),
+        ("SUInt", 0),
+        ("SUInt", 0x8000_0000),
+        ("SUInt", 0xffff_ffff),
+        ("Byte", 0),
+        ("Byte", 0x80),
+        ("Byte", 0xff),
+        ("SByte", 0x7f),
+        ("SByte", 0x80),
+        ("BByte", 0),
+        ("BByte", 0xff),
+        ("BByte", 0xffff),
+        ("BSByte", 0x80),
+        ("BSByte", 0x7fff),
+        ("BSByte", 0x8000),
         ("Character", 65),
         ("SFloat", 0x3fc0_0000),
         ("Float", 0xfff0_0000_0000_0000),
@@ -238,10 +271,14 @@ fn not_taken() -> Vec<Image> {
                 3 => code.statement("Match", &[n.into(), empty]),
                 4 => code.statement("Other", &[0.into()]),
                 5 => code.when(n, &[inner]),
+                6 => {
+                    let byte = code.small(("Byte", 1));
+                    code.when(byte, &[inner])
+                }
                 _ => code.while_loop(n, &[inner]),
             };
             vec![made]
         })
     };
-    (0..7).map(statement).collect()
+    (0..8).map(statement).collect()
 }
