@@ -4,7 +4,7 @@
 
 use oracle::{pairs, picked};
 use rlimg::image::{Image, Record};
-use rlimg::schema::{self, Section};
+use rlimg::schema::Section;
 use rlimg::small::{self, KINDS, Small};
 use std::collections::HashSet;
 
@@ -15,30 +15,20 @@ const BESIDE: [&str; 13] = [
     "Bool", "Float", "NaN",
 ];
 
-fn node(image: &Image, number: u64) -> &Record {
-    &image.of(Section::Expression)[number as usize]
-}
-
-/// The name of the kind; a NaN has one of its own.
-fn name(record: &Record) -> &'static str {
-    match record.kind {
-        27 if f64::from_bits(record.number(1)).is_nan() => "NaN",
-        kind => schema::of_kind(kind).expect("a kind of the format").name,
-    }
-}
-
 #[test]
 fn beside_every_sort() {
     let (mut pairs, mut alone) = (HashSet::new(), HashSet::new());
     for image in pairs::images() {
         for record in image.of(Section::Expression) {
             if record.kind == 32 {
-                let [left, right] = [1, 3].map(|at| node(&image, record.number(at)));
-                let seen = |side, small: Small, other| (record.number(2), side, small, name(other));
+                let [left, right] = [1, 3].map(|at| image.node(record.number(at)));
+                let seen = |side, small: Small, other| {
+                    (record.number(2), side, small, small::beside(other))
+                };
                 pairs.extend(small::of(left).map(|small| seen("left", small, right)));
                 pairs.extend(small::of(right).map(|small| seen("right", small, left)));
             } else if record.kind == 33 {
-                let small = small::of(node(&image, record.number(2)));
+                let small = small::of(image.node(record.number(2)));
                 alone.extend(small.map(|small| (record.number(1), small)));
             }
         }
@@ -70,7 +60,7 @@ fn refined(image: &Image) -> Vec<(u64, i64, Small)> {
         for function in image.of(Section::Function).iter().filter(called) {
             let parameters = image.part(Section::Parameter, function.range(2));
             for (parameter, argument) in parameters.expect("a range").iter().zip(arguments) {
-                let small = small::of(node(image, u64::from(*argument)));
+                let small = small::of(image.node(u64::from(*argument)));
                 let row = |small| (parameter.number(2), parameter.number(4) as i64, small);
                 all.extend(small.filter(|_| parameter.number(3) == 1).map(row));
             }

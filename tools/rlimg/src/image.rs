@@ -68,6 +68,11 @@ impl Image {
         &self.records[section as usize]
     }
 
+    /// The expression of a number that is there.
+    pub fn node(&self, number: u64) -> &Record {
+        &self.of(Section::Expression)[number as usize]
+    }
+
     pub fn of_mut(&mut self, section: Section) -> &mut Vec<Record> {
         &mut self.records[section as usize]
     }

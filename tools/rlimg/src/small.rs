@@ -66,6 +66,14 @@ pub fn node(builder: &mut Builder, span: u32, small: Small) -> u16 {
     builder.node(span, small.0, &[Value::Number(bits(small))])
 }
 
+/// The kind of what stands beside one, by its name; a NaN has one of its own.
+pub fn beside(record: &Record) -> &'static str {
+    match record.kind {
+        27 if f64::from_bits(record.number(1)).is_nan() => "NaN",
+        kind => schema::of_kind(kind).expect("a kind of the format").name,
+    }
+}
+
 /// The small constant that a record is.
 pub fn of(record: &Record) -> Option<Small> {
     let row = schema::of_kind(record.kind).filter(|row| matches!(row.kind, 20..=24))?;

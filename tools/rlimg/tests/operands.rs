@@ -6,7 +6,7 @@ use rlimg::decode::decode;
 use rlimg::encode::encode;
 use rlimg::image::{Image, Record};
 use rlimg::runs::operands;
-use rlimg::schema::{self, Section};
+use rlimg::schema::Section;
 use rlimg::small::{self, Small};
 use std::collections::HashSet;
 
@@ -41,18 +41,6 @@ const ALONE: [&str; 11] = [
     "ErrLiteral",
 ];
 
-fn node(image: &Image, number: u64) -> &Record {
-    &image.of(Section::Expression)[number as usize]
-}
-
-/// The name of the kind; a NaN has one of its own.
-fn name(record: &Record) -> &'static str {
-    match record.kind {
-        27 if f64::from_bits(record.number(1)).is_nan() => "NaN",
-        kind => schema::of_kind(kind).expect("a kind of the format").name,
-    }
-}
-
 /// What was seen of the functions.
 #[derive(Default)]
 struct Seen {
@@ -73,14 +61,14 @@ impl Seen {
         let body = image.list(first, count).expect("a list of the image");
         for (position, number) in body.iter().enumerate() {
             let statement = &image.of(Section::Statement)[usize::from(*number)];
-            let of = |at| node(image, statement.number(at));
+            let of = |at| image.node(statement.number(at));
             match statement.kind {
                 64 => self.see("declared", of(3)),
                 65 if position + 1 == body.len() => self.see_last(image, of(1)),
                 65 | 66 => self.see_given(image, of(1)),
                 68 => {
                     let branch = &image.of(Section::Statement)[statement.number(1) as usize];
-                    self.see("branch", node(image, branch.number(1)));
+                    self.see("branch", image.node(branch.number(1)));
                 }
                 70 => self.see("while", of(1)),
                 kind => panic!("a statement of kind {kind}"),
@@ -90,14 +78,14 @@ impl Seen {
 
     fn see_last(&mut self, image: &Image, record: &Record) {
         match record.kind {
-            34 => self.see("last, grouped", node(image, record.number(1))),
+            34 => self.see("last, grouped", image.node(record.number(1))),
             _ => self.see("last", record),
         }
     }
 
     /// What is returned, or evaluated.
     fn see_given(&mut self, image: &Image, record: &Record) {
-        let of = |at| node(image, record.number(at));
+        let of = |at| image.node(record.number(at));
         match record.kind {
             32 => self.see_pair(record.number(2), of(1), of(3)),
             33 => {
@@ -106,7 +94,7 @@ impl Seen {
             }
             39 => self.see("assigned", of(2)),
             41 => self.see_call(image, record),
-            49 | 50 => self.see(name(record), of(1)),
+            49 | 50 => self.see(small::beside(record), of(1)),
             _ => self.see("returned", record),
         }
     }
@@ -114,7 +102,7 @@ impl Seen {
     fn see_pair(&mut self, operator: u64, left: &Record, right: &Record) {
         for (side, constant, other) in [("left", left, right), ("right", right, left)] {
             if let Some(small) = small::of(constant) {
-                self.pairs.insert((operator, side, small, name(other)));
+                self.pairs.insert((operator, side, small, small::beside(other)));
             }
         }
     }
@@ -129,7 +117,7 @@ impl Seen {
             Some(b"result_unwrap") => "result_unwrap",
             other => panic!("a call of {other:?}"),
         };
-        self.see(function, node(image, u64::from(arguments[0])));
+        self.see(function, image.node(u64::from(arguments[0])));
     }
 }
 

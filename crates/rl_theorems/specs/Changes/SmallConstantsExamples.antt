@@ -17,13 +17,14 @@ use Rattle.rl_spec.specs.declared.Form.the-variants.{Literal}
 use Rattle.rl_spec.specs.declared.ProveAnswer.the-variants.{Proved}
 use Rattle.rl_spec.specs.declared.Violation.{Violation}
 use Rattle.rl_spec.specs.declared.Violation.the-variants.{Refinement, Requires}
-use Rattle.rl_spec.specs.Image.{Image, num, pair, textOf, encode}
+use Rattle.rl_spec.specs.Image.{Image, pair, textOf, encode}
 use Rattle.rl_spec.specs.Values.{ConstVal, int}
 use Rattle.rl_spec.specs.Tree.{formBy, exprTree}
 use Rattle.rl_spec.specs.Ranges.{upFrom}
 use Rattle.rl_spec.specs.Fold.{constEval}
 use Rattle.rl_spec.specs.Prove.{violationsOf, proveOf}
-use Rattle.rl_examples.specs.MarkedImages.{made, integer, byte, identifier, binary, bangEqual, less, parameter, refined, clause, function, call, build, nodes}
+use Rattle.rl_examples.specs.MarkedImages.{integer, byte, identifier, binary, bangEqual, less, parameter, refined, clause, function, call, build, nodes}
+use Rattle.rl_examples.specs.NodeRows.{literal}
 use Rattle.rl_theorems.specs.DemandThree.Marked.{decoding, folding, proving}
 use Rattle.rl_theorems.specs.Changes.SmallConstants.{isSmall, before}
 
@@ -31,7 +32,7 @@ use Rattle.rl_theorems.specs.Changes.SmallConstants.{isSmall, before}
 
 -- a literal of a kind, with its bits as a number
 abbrev pub formed : Image → ℕ → ℕ → Form
-formed im kind n = formBy im (made kind (num 2 ∷ num n ∷ []))
+formed im kind n = formBy im (literal kind n)
 
 abbrev pub whole : ℤ → Form
 whole z = Literal (Value (Int z))
@@ -62,7 +63,7 @@ kinds-so = refl
 -- what a literal of a kind, of the payload 5, folds to in an image as it is, or as it was
 abbrev pub five : (Image → Image) → ℕ → Option (ConstVal ℕ)
 five taken kind =
-    let im : Image = taken (nodes [] (made kind (num 2 ∷ num 5 ∷ []) ∷ [])) in
+    let im : Image = taken (nodes [] (literal kind 5 ∷ [])) in
     constEval (textOf im) [] (exprTree im 0)
 
 -- Integer, SInt, UInt; SUInt, Byte, SByte, BByte, BSByte; Character, which never does
@@ -103,7 +104,7 @@ level =
     record {
       texts = "f" ∷ "a" ∷ [];
       lists = 0 ∷ [];
-      expressions = made 22 (num 2 ∷ num 255 ∷ []) ∷ [];
+      expressions = literal 22 255 ∷ [];
       statements = [];
       parameters = refined 1 1 (pos 9) ∷ [];
       clauses = [];
