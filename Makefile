@@ -1,7 +1,7 @@
 # make run [IMAGE=path]   the printer on an image (default: the sample)
 # make test               the gate, the comparisons, formatting
 # make compare [CASES=n] [PROVED=n] [RUN=n] [LOWERED=n] [SEED=n]   reading and running against independent ones, proving and lowering
-#                         against rl-lang's where it is, lowered runs against contract readings, on more cases
+#                         against rl-lang's where it is, texts by words against Rust's slices, lowered runs against contract readings, on more cases
 # make bench              times of this and of Rust, in one run
 # make fmt                lay all files out
 IMAGE ?= samples/flow.img
@@ -27,10 +27,12 @@ test:
 
 staticlib:
 	rt staticlib rl_abi
+	rt staticlib bench_texts
 
 compare: staticlib
 	$(CARGO_RELEASE)
 	tools/target/release/compare_read $(CASES) $(SEED)
+	tools/target/release/compare_words $(CASES) $(SEED)
 	tools/target/release/compare_prove $(PROVED) $(SEED)
 	tools/target/release/compare_run $(RUN) $(SEED)
 	tools/target/release/run_limits
@@ -46,6 +48,7 @@ bench: staticlib
 	tools/target/release/bench_read
 	tools/target/release/bench_prove
 	tools/target/release/bench_names
+	tools/target/release/bench_texts
 	tools/target/release/bench_run
 	tools/target/release/bench_lower
 

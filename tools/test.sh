@@ -36,11 +36,13 @@ sh tools/shared_condition.sh
 phase definitions
 
 # the library, compared with an independent reader, folder, prover, runner and lowering and, where it is here, with the original;
-# the stack that it takes; the printer too
+# both forms of comparing texts; the stack that it takes; the printer too
 rt staticlib rl_abi >"$new/library" 2>&1 || { cat "$new/library"; exit 1; }
+rt staticlib bench_texts >"$new/library" 2>&1 || { cat "$new/library"; exit 1; }
 (cd tools && cargo test --quiet -p rlimg -p oracle >"$new/tests" 2>&1) || { cat "$new/tests"; exit 1; }
 (cd tools && cargo build --quiet --release)
 tools/target/release/compare_read
+tools/target/release/compare_words
 tools/target/release/compare_prove 100000
 tools/target/release/compare_run 200000
 tools/target/release/run_limits

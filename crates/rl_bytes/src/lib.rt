@@ -1,6 +1,6 @@
 // Access to bytes and to words, for every place: what is past the end reads as 0 and is not written.
 ghost use mathlib.Core.Path.{_≡_};
-ghost use Prim.Native.Nat.{_+_, _-_, _*_, max};
+ghost use Prim.Native.Nat.{_+_, _-_, _*_, min, max};
 ghost use lib.ListN.{length, getD, set, replicate, take, drop};
 ghost use Rattle.rl_spec.specs.Bytes.{numAt, u16At, u32At, past};
 
@@ -120,6 +120,12 @@ pub fn is_past(s: &[u8], at: usize, n: usize) -> bool
         return true;
     }
     s.len() - at < n
+}
+
+pub fn least(a: usize, b: usize) -> usize
+    ensures { λ r. ⌜ r ≡ min a b ⌝ }
+{
+    if a < b { a } else { b }
 }
 
 pub fn larger(a: u16, b: u16) -> u16

@@ -1,22 +1,35 @@
 -- Laws for the functions on two texts: the first mismatch, whether they are the same, the next link.
 -- Assumes nothing.
-use Prim.Native.Nat.{ℕ, suc, _+_, _-_, _*_, _%_, _≤_, _<_}
+use Prim.Native.Nat.{ℕ, suc, _+_, _-_, _*_, _%_, _≤_, _<_, min}
 use mathlib.Core.Path.{_≡_, refl, sym, ap, _∙_}
 use mathlib.Core.Bool.{Bool, true, false}
-use mathlib.Core.List.{List, [], _∷_}
+use mathlib.Core.List.{List, [], _∷_, _++_}
 use native.Mathlib.Omega.{arith}
 use native.Mathlib.Numerals.{add-one}
 use lib.ListN.{length, getD, take, drop, length-drop, drop-of-length-le, take-append-drop}
 use lib.Seq.{drop-cons}
 use borrow.Author.Tests.{lt-ltb, le-ltb, eq-eqb, ne-eqb}
-use Rattle.rl_laws.specs.Tests.{by-eqb}
+use Rattle.rl_laws.specs.Tests.{by-ltb, by-eqb}
+use Rattle.rl_laws.specs.Words.{eightAt, Word, eight-then, eight-long, same-eight}
 use Rattle.rl_spec.specs.Values.{sameText}
 use Rattle.rl_classes.specs.Links.{common, mismatch, nextLink}
 use Rattle.rl_classes.proofs.Same.{never, same-equal, equal-same, apart-same}
 
 -- ---- the first mismatch; whole is what the loop has to answer
 
+common-front : (s u v : List ℕ) → common (s ++ u) (s ++ v) ≡ length s + common u v
+unfolding common
+common-front [] u v = omega arith
+common-front (x ∷ s) u v = rw (eq-eqb x x refl, common-front s u v) (omega arith)
+
 module _ (a b : List ℕ) (i whole : ℕ) (v : whole ≡ mismatch a b i) where
+  pub mismatch-word : (n x y : ℕ) → n ≡ min (length a) (length b) → 8 ≤ n - i → Word a i x → Word b i y → x ≡ y → whole ≡ mismatch a b (i + 8)
+  unfolding mismatch
+  mismatch-word n x y p l wa wb e =
+      let f : eightAt a i ≡ eightAt b i = same-equal (eightAt a i) (eightAt b i) (same-eight wa wb (omega arith) (omega arith) ∙ eq-eqb x y e) in
+      let g : common (drop i a) (drop i b) ≡ 8 + common (drop (i + 8) a) (drop (i + 8) b) = rw (eight-then a i, eight-then b i, f, common-front (eightAt b i) (drop (i + 8) a) (drop (i + 8) b), eight-long b i (omega arith)) refl in
+      v ∙ rw g (omega arith)
+
   none : common (drop i a) (drop i b) ≡ 0 → i ≡ whole
   unfolding mismatch
   none e = sym (v ∙ rw e (omega arith))
@@ -40,6 +53,15 @@ module _ (a b : List ℕ) (i whole : ℕ) (v : whole ≡ mismatch a b i) where
       mismatch-more h =
           let e : common (drop i a) (drop i b) ≡ suc (common (drop (i + 1) a) (drop (i + 1) b)) = rw (drop-cons a i 0 p, drop-cons b i 0 q, eq-eqb (getD a i 0) (getD b i 0) h, add-one i) refl in
           v ∙ rw e (omega arith)
+
+  pub mismatch-past : (n : ℕ) → n ≡ min (length a) (length b) → n ≤ i → i ≡ whole
+  mismatch-past n e p =
+      by-ltb i (length a)
+      (λ l. mismatch-short l (omega arith))
+      mismatch-end
+
+  pub mismatch-rest : (r : ℕ) → r ≡ mismatch a b i → r ≡ whole
+  mismatch-rest r e = e ∙ sym v
 
 -- ---- whether they are the same
 

@@ -3,13 +3,15 @@
 // for a text goes down from parent to child: it meets only texts that have its own link, and compares from that place on. The
 // same text was sought the same way before, so it is met. The work is linear in the texts' bytes, beside one link for each pair.
 use rl_bytes::clear;
+use rl_bytes::least;
 use rl_bytes::long_at;
 use rl_bytes::part;
 use rl_bytes::put;
 use rl_bytes::put_long;
 use rl_records::text_at;
 use rl_spec::Counts;
-use rl_values::same_text;
+use rl_text_order::same_text;
+use rl_text_order::u64_be_at;
 ghost use mathlib.Core.Path.{_≡_};
 ghost use mathlib.Core.List.{List};
 ghost use Prim.Native.Nat.{ℕ, _%_, _<_, _≤_};
@@ -21,8 +23,8 @@ ghost use Rattle.rl_names.specs.Names.{Classes};
 ghost use Rattle.rl_classes.specs.Classes.{ClassOfEach};
 ghost use Rattle.rl_classes.specs.Links.{mismatch, nextLink, Linked, PlaceOf};
 
-// The first place from `at` on where two texts differ, or one ends.
-fn mismatch(a: &[u8], b: &[u8], at: usize) -> usize
+// The first place from `at` on where two texts differ, or one ends, byte by byte.
+fn mismatch_bytes(a: &[u8], b: &[u8], at: usize) -> usize
     ensures { λ r. ⌜ r ≡ mismatch (now (a .entry)) (now (b .entry)) at ⌝ }
 {
     let mut i = at;
@@ -34,6 +36,26 @@ fn mismatch(a: &[u8], b: &[u8], at: usize) -> usize
             return i;
         }
         i += 1;
+    }
+    i
+}
+
+// The same by words.
+fn mismatch(a: &[u8], b: &[u8], at: usize) -> usize
+    ensures { λ r. ⌜ r ≡ mismatch (now (a .entry)) (now (b .entry)) at ⌝ }
+{
+    let n = least(a.len(), b.len());
+    let mut i = at;
+    while i < n {
+        if n - i < 8 {
+            return mismatch_bytes(a, b, i);
+        }
+        let x = u64_be_at(a, i);
+        let y = u64_be_at(b, i);
+        if x != y {
+            return mismatch_bytes(a, b, i);
+        }
+        i += 8;
     }
     i
 }

@@ -2,6 +2,8 @@
 pub mod Tests
 pub mod Within
 pub mod Optionals
+-- ---- texts by words
+pub mod Words
 -- ---- records that are found, the trees of an image and their heights
 pub mod Found
 pub mod Descend

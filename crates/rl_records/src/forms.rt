@@ -12,7 +12,7 @@ use rl_spec::Counts;
 use rl_spec::Folded;
 use rl_spec::Form;
 use rl_spec::Interval;
-use rl_values::same_text;
+use rl_text_order::same_text;
 use rl_words::float32;
 use rl_words::float64;
 use rl_words::signed8;

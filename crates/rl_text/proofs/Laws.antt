@@ -1,6 +1,6 @@
 -- The laws that the functions' proofs cite: one for each way out.
 -- Assumes nothing.
-use Prim.Native.Nat.{ℕ, zero, suc, _+_, _-_, _^_, _≤_, _<_}
+use Prim.Native.Nat.{ℕ, zero, suc, _+_, _-_, _^_, _≤_, _<_, max}
 use mathlib.Core.Path.{_≡_, refl, sym, ap, _∙_}
 use mathlib.Core.Bool.{Bool, true, false, cond, _&&_, false≢true}
 use mathlib.Core.List.{List, [], _∷_, _++_}
@@ -14,6 +14,7 @@ use mir.Val.{Fits}
 use mir.Syntax.{w64}
 use Rattle.rl_laws.specs.Tests.{by-ltb}
 use Rattle.rl_laws.specs.Within.{within-yes, within-low, within-high}
+use Rattle.rl_text.specs.Highest.{highestOf}
 use Rattle.rl_spec.specs.Utf8.{Range, _to_, within, utf8Tail, utf8Char, begins, widthBy, charWidth, octets, utf8, isScalar}
 
 -- ---- tests
@@ -265,6 +266,31 @@ module _ (s : List ℕ) (i : ℕ) (whole : Bool) (v : whole ≡ utf8 (drop i s))
 
     pub text-ascii : getD s i 0 < 0x80 → whole ≡ utf8 (drop (i + 1) s)
     text-ascii q = text-more 1 (width-one s i p q) (λ e. omega arith)
+
+-- ---- all of it ASCII
+module _ (s : List ℕ) where
+  ascii : (n : ℕ) → n ≤ length s → highestOf s n < 0x80 → utf8 s ≡ utf8 (drop n s)
+  unfolding highestOf
+  ascii zero p q = refl
+  ascii (suc n) p q =
+      ascii n (omega arith) (omega arith)
+      ∙ text-ascii s n (utf8 (drop n s)) refl (omega arith) (omega arith)
+      ∙ rw (add-one n) refl
+
+  pub text-all-ascii : (m : ℕ) → m ≡ highestOf s (length s) → m < 0x80 → true ≡ utf8 s
+  text-all-ascii m e h =
+      text-end s (length s) (utf8 s) (ascii (length s) (omega arith) (omega arith)) (omega arith)
+
+  pub highest-start : 0 ≡ highestOf s 0
+  unfolding highestOf
+  highest-start = refl
+
+  pub highest-more : (m i r : ℕ) → m ≡ highestOf s i → r ≡ max m (getD s i 0) → r ≡ highestOf s (i + 1)
+  unfolding highestOf
+  highest-more m i r e f = f ∙ rw (add-one i, e) refl
+
+  pub highest-end : (m i : ℕ) → i ≤ length s → length s ≤ i → m ≡ highestOf s i → m ≡ highestOf s (length s)
+  highest-end m i p q e = e ∙ ap (highestOf s) (omega arith)
 
 pub text-within : (s : List ℕ) (i n : ℕ) → i ≤ length s → n ≡ charWidth s i → i + n ≤ length s
 unfolding charWidth

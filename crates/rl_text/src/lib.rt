@@ -1,8 +1,9 @@
 ghost use mathlib.Core.Path.{_≡_};
 ghost use mathlib.Core.Bool.{cond};
 ghost use mathlib.Core.List.{[], _∷_};
-ghost use Prim.Native.Nat.{_+_, _<_};
+ghost use Prim.Native.Nat.{_+_, _<_, max};
 ghost use lib.ListN.{length, drop};
+ghost use Rattle.rl_text.specs.Highest.{highestOf};
 ghost use Rattle.rl_spec.specs.Utf8.{_to_, utf8Tail, begins, charWidth, utf8, isScalar};
 
 // Whether an octet from low to high stands at a place.
@@ -99,10 +100,34 @@ pub fn char_width(s: &[u8], at: usize) -> usize
     0
 }
 
-// Whether a text is UTF-8.
+fn higher(a: u8, b: u8) -> u8
+    ensures { λ r. ⌜ r ≡ max a b ⌝ }
+{
+    if a < b { b } else { a }
+}
+
+// The highest octet of a text. The compiler makes many octets a step of it.
+fn highest(s: &[u8]) -> u8
+    ensures { λ r. ⌜ r ≡ highestOf (now (s .entry)) (length (now (s .entry))) ⌝ }
+{
+    let mut m = 0;
+    let mut i = 0;
+    while i < s.len() {
+        m = higher(m, s[i]);
+        i += 1;
+    }
+    m
+}
+
+// Whether a text is UTF-8. Of a long text it is first seen whether all of it is ASCII.
 pub fn is_utf8(s: &[u8]) -> bool
     ensures { λ r. ⌜ r ≡ utf8 (now (s .entry)) ⌝ }
 {
+    if 64 <= s.len() {
+        if highest(s) < 0x80 {
+            return true;
+        }
+    }
     let mut i = 0;
     while i < s.len() {
         if s[i] < 0x80 {

@@ -1,7 +1,8 @@
 // Text and numbers into a lent buffer, at a place; each function answers the place after what it put. What has no room is
 // left out.
+use rl_bytes::least;
 ghost use mathlib.Core.Path.{_≡_};
-ghost use Prim.Native.Nat.{_+_, _≤_, min};
+ghost use Prim.Native.Nat.{_+_, _≤_};
 ghost use lib.ListN.{length};
 ghost use lib.Seq.{paste};
 ghost use Rattle.rl_spec.specs.Message.{decimal};
@@ -17,12 +18,6 @@ fn copy(out: &mut [u8], at: usize, text: &[u8], n: usize)
         out[at + i] = text[i];
         i += 1;
     }
-}
-
-fn least(a: usize, b: usize) -> usize
-    ensures { λ r. ⌜ r ≡ min a b ⌝ }
-{
-    if a < b { a } else { b }
 }
 
 pub fn put_text(out: &mut [u8], at: usize, text: &[u8]) -> usize

@@ -1,14 +1,11 @@
 -- The laws that the functions' proofs cite: one for each way out.
 -- Assumes nothing.
-use Prim.Native.Nat.{ℕ, zero, suc, _+_, _-_, _^_, _≤_, _<_}
+use Prim.Native.Nat.{ℕ, zero, suc, _-_, _^_, _≤_, _<_}
 use mathlib.Core.Path.{_≡_, refl, sym, ap, subst, _∙_}
 use mathlib.Core.Bool.{Bool, true, false, not, _||_, Bool·beq}
-use mathlib.Core.List.{List}
+use mathlib.Core.List.{List, [], _∷_}
 use mathlib.Core.Option.{Option, some, none}
 use native.Mathlib.Omega.{arith}
-use native.Mathlib.Numerals.{add-one}
-use lib.ListN.{length, getD, drop, drop-of-length-le}
-use lib.Seq.{drop-cons}
 use lib.Dec.{T, ltb, leb, eqb}
 use lib.IntN.{ℤ, pos, negsuc, negℤ, _-ℤ_, +ℤ-idl}
 use lib.Signed.{mag, ltZ, leZ}
@@ -19,7 +16,7 @@ use mir.Syntax.{w64}
 use mir.Val.{toZ, ofZ, SFits}
 use mir.Facts.{toZ-ofZ}
 use borrow.Author.Tests.{lt-ltb, le-ltb, le-leb, lt-leb, eq-eqb, ne-eqb, eqb-true, eqb-false}
-use Rattle.rl_laws.specs.Tests.{by-ltb}
+use Rattle.rl_laws.specs.Tests.{by-ltb, by-eqb}
 use Rattle.rl_spec.specs.Values.{compareBy, sameInt, sameText, lessText, compareFloats, compareBools, asF64, compareValues, int, float, bool, checked, negate, bang, arithFloats}
 use Rattle.rl_spec.specs.Folded.{constOf, opOf, verdictOf, withText, foldedOf, arithOf}
 use Rattle.rl_spec.specs.declared.ConstVal.{ConstVal}
@@ -34,51 +31,6 @@ use Rattle.rl_spec.specs.declared.Verdict.the-variants.{Yes, No, Unknown}
 
 pub never : {A : Type 0} → true ≡ false → A
 never p = absurd (subst T p tt)
-
--- ---- texts. whole is what the loop has to answer, and v its invariant
-
-module _ (a b : List ℕ) (i : ℕ) (whole : Bool) where
-  module _ (v : whole ≡ sameText (drop i a) (drop i b)) where
-    pub same-short : i < length a → length b ≤ i → false ≡ whole
-    unfolding sameText
-    same-short p q = rw (v, drop-cons a i 0 p, drop-of-length-le b q) refl
-
-    pub same-end : length a ≤ i → leb (length b) i ≡ whole
-    unfolding sameText
-    same-end p =
-        by-ltb i (length b)
-        (λ q. rw (lt-leb (length b) i q, v, drop-of-length-le a p, drop-cons b i 0 q) refl)
-        (λ q. rw (le-leb (length b) i q, v, drop-of-length-le a p, drop-of-length-le b q) refl)
-
-    module _ (p : i < length a) (q : i < length b) where
-      pub same-apart : (getD a i 0 ≡ getD b i 0 → ⊥) → false ≡ whole
-      unfolding sameText
-      same-apart h = rw (v, drop-cons a i 0 p, drop-cons b i 0 q, ne-eqb (getD a i 0) (getD b i 0) h) refl
-
-      pub same-more : getD a i 0 ≡ getD b i 0 → whole ≡ sameText (drop (i + 1) a) (drop (i + 1) b)
-      unfolding sameText
-      same-more h = rw (v, drop-cons a i 0 p, drop-cons b i 0 q, eq-eqb (getD a i 0) (getD b i 0) h, add-one i) refl
-
-  module _ (v : whole ≡ lessText (drop i a) (drop i b)) where
-    pub less-short : i < length a → length b ≤ i → false ≡ whole
-    unfolding lessText
-    less-short p q = rw (v, drop-of-length-le b q) refl
-
-    pub less-end : length a ≤ i → ltb i (length b) ≡ whole
-    unfolding lessText
-    less-end p =
-        by-ltb i (length b)
-        (λ q. rw (lt-ltb i (length b) q, v, drop-of-length-le a p, drop-cons b i 0 q) refl)
-        (λ q. rw (le-ltb i (length b) q, v, drop-of-length-le b q) refl)
-
-    module _ (p : i < length a) (q : i < length b) where
-      pub less-apart : (getD a i 0 ≡ getD b i 0 → ⊥) → ltb (getD a i 0) (getD b i 0) ≡ whole
-      unfolding lessText
-      less-apart h = rw (v, drop-cons a i 0 p, drop-cons b i 0 q, ne-eqb (getD a i 0) (getD b i 0) h) refl
-
-      pub less-more : getD a i 0 ≡ getD b i 0 → whole ≡ lessText (drop (i + 1) a) (drop (i + 1) b)
-      unfolding lessText
-      less-more h = rw (v, drop-cons a i 0 p, drop-cons b i 0 q, eq-eqb (getD a i 0) (getD b i 0) h, add-one i) refl
 
 -- ---- a comparison by its operator
 
@@ -101,16 +53,27 @@ module _ {A : Type 0} (less same : A → A → Bool) (op : RefineOp) (x y : A) (
   pub by-ne : op ≡ Ne → r ≡ not (same x y) → r ≡ compareBy less same (opOf op) x y
   by-ne e f = rw e f
 
--- ---- texts by two tests
-module _ (a b : List ℕ) (l r : Bool) (e : l ≡ lessText a b) where
-  pub either-less : l ≡ true → true ≡ lessText a b || sameText a b
-  either-less p = rw (← e, p) refl
+-- ---- texts in one pass: at most is not above
 
-  pub either-same : l ≡ false → r ≡ sameText a b → r ≡ lessText a b || sameText a b
-  either-same p f = rw (← e, p) f
+at-most : (s t : List ℕ) → not (lessText t s) ≡ lessText s t || sameText s t
+unfolding sameText lessText
+at-most [] [] = refl
+at-most [] (b ∷ t) = refl
+at-most (a ∷ s) [] = refl
+at-most (a ∷ s) (b ∷ t) =
+    by-eqb a b
+    (λ e. rw (eq-eqb a b e, eq-eqb b a (sym e)) (at-most s t))
+    (λ e. rw (ne-eqb a b e, ne-eqb b a (λ f. e (sym f)))
+    (by-ltb a b
+    (λ l. rw (lt-ltb a b l, le-ltb b a (omega arith)) refl)
+    (λ l. by-ltb b a (λ m. rw (le-ltb a b l, lt-ltb b a m) refl) (λ m. absurd (e (omega arith))))))
 
-pub other-text : (a b : List ℕ) (r : Bool) → r ≡ sameText a b → not r ≡ not (sameText a b)
-other-text a b r e = ap not e
+module _ (a b : List ℕ) (r : Bool) where
+  pub not-above : r ≡ lessText b a → not r ≡ lessText a b || sameText a b
+  not-above e = ap not e ∙ at-most a b
+
+  pub other-text : r ≡ sameText a b → not r ≡ not (sameText a b)
+  other-text e = ap not e
 
 -- ---- whole numbers, of which the code has the bits
 

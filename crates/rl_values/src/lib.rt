@@ -4,6 +4,8 @@ use rl_spec::ConstVal;
 use rl_spec::Folded;
 use rl_spec::RefineOp;
 use rl_spec::Verdict;
+use rl_text_order::less_text;
+use rl_text_order::same_text;
 ghost use mathlib.Core.Path.{_≡_};
 ghost use mathlib.Core.Bool.{cond, Bool·beq};
 ghost use mathlib.Core.Option.{some};
@@ -16,56 +18,15 @@ ghost use lib.Ieee.{binary64};
 ghost use Rattle.rl_spec.specs.Values.{compareBy, sameInt, sameText, lessText, compareFloats, compareBools, asF64, compareValues, bang, negate, checked, arithFloats, arithInts, arithValues, slash};
 ghost use Rattle.rl_spec.specs.Folded.{constOf, opOf, foldedOf, verdictOf, withText, arithOf};
 
-pub fn same_text(a: &[u8], b: &[u8]) -> bool
-    ensures { λ r. ⌜ r ≡ sameText (now (a .entry)) (now (b .entry)) ⌝ }
-{
-    let mut i = 0;
-    while i < a.len() {
-        if b.len() <= i {
-            return false;
-        }
-        if a[i] != b[i] {
-            return false;
-        }
-        i += 1;
-    }
-    b.len() <= i
-}
-
-pub fn less_text(a: &[u8], b: &[u8]) -> bool
-    ensures { λ r. ⌜ r ≡ lessText (now (a .entry)) (now (b .entry)) ⌝ }
-{
-    let mut i = 0;
-    while i < a.len() {
-        if b.len() <= i {
-            return false;
-        }
-        if a[i] != b[i] {
-            return a[i] < b[i];
-        }
-        i += 1;
-    }
-    i < b.len()
-}
-
+// One pass for each: at most is not above.
 fn compare_texts(op: RefineOp, a: &[u8], b: &[u8]) -> bool
     ensures { λ r. ⌜ r ≡ compareBy lessText sameText (opOf op) (now (a .entry)) (now (b .entry)) ⌝ }
 {
     match op {
         RefineOp::Gt => less_text(b, a),
-        RefineOp::Ge => {
-            if less_text(b, a) {
-                return true;
-            }
-            same_text(b, a)
-        }
+        RefineOp::Ge => !less_text(a, b),
         RefineOp::Lt => less_text(a, b),
-        RefineOp::Le => {
-            if less_text(a, b) {
-                return true;
-            }
-            same_text(a, b)
-        }
+        RefineOp::Le => !less_text(b, a),
         RefineOp::Eq => same_text(a, b),
         RefineOp::Ne => !same_text(a, b),
     }

@@ -6,6 +6,7 @@ pub mod lowerings;
 pub mod runs;
 pub mod slices;
 pub mod stack;
+pub mod texts;
 pub mod timing;
 
 use ffi::Answer;

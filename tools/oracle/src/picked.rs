@@ -10,6 +10,7 @@ use rlimg::edges;
 use rlimg::image::{Image, LIMITS};
 use rlimg::rules::Literal::Bool;
 use rlimg::rules::{SORTS, literals};
+use rlimg::runs::texts;
 use rlimg::schema::{self, Section};
 use rlimg::small;
 
@@ -18,7 +19,9 @@ const GT: u16 = 1;
 pub fn images() -> Vec<Image> {
     let mut images = vec![counts(), messages(), every_report(3)];
     images.extend((0..64).map(callees));
-    images.extend((1..7).flat_map(|refinement| [operands(refinement), limits(refinement)]));
+    images.extend((1..7).flat_map(|refinement| {
+        [operands(refinement), limits(refinement), listed_texts(refinement)]
+    }));
     images.extend(names::images());
     images.extend(empty());
     images
@@ -106,6 +109,22 @@ fn limits(refinement: u16) -> Image {
     for constant in small::all() {
         let argument = small::node(&mut builder, 5, constant);
         call(&mut builder, name, &[argument; small::LIMITS.len()]);
+    }
+    builder.image
+}
+
+/// A refinement with each listed text as operand; called with each.
+fn listed_texts(refinement: u16) -> Image {
+    let mut builder = Builder::new(1);
+    let listed = texts::listed();
+    for (number, text) in listed.iter().enumerate() {
+        let (name, text) = (builder.text(&format!("p{number}")), builder.text(text));
+        builder.parameter(name, Some((refinement, Operand::Str(text))));
+    }
+    let name = function(&mut builder);
+    for text in &listed {
+        let argument = builder.string(5, text);
+        call(&mut builder, name, &vec![argument; listed.len()]);
     }
     builder.image
 }

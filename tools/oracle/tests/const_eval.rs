@@ -8,6 +8,7 @@ use rlimg::fold::{self, Names};
 use rlimg::image::{Image, Value};
 use rlimg::rng::Rng;
 use rlimg::rules::Literal::{self, Bool, Float, Int, Str};
+use rlimg::runs::texts;
 use rlimg::{random, rules, small};
 
 const PLUS: u16 = 1;
@@ -143,7 +144,8 @@ fn images(count: usize) -> impl Iterator<Item = Image> {
         size => rules::image(&mut rng, [1, 2, 4, 12][size]),
     });
     let marked = marked::cases().into_iter().map(|case| case.image);
-    marked.chain(tables::images()).chain(picked::images()).chain(pairs::images()).chain(generated)
+    let listed = marked.chain(tables::images()).chain(picked::images()).chain(pairs::images());
+    listed.chain(texts::images()).chain(generated)
 }
 
 /// Every node that does not take the original too long.

@@ -6,6 +6,7 @@ mod calls;
 mod contracts;
 mod expressions;
 pub mod operands;
+pub mod texts;
 pub mod words;
 
 pub use calls::broken;

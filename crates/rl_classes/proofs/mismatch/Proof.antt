@@ -1,31 +1,43 @@
+use borrow.Author.Needs.{needs}
 use mathlib.Core.Path.{_≡_}
-use Prim.Native.Nat.{_-_}
+use Prim.Native.Nat.{_-_, min}
 use lib.ListN.{length}
 use Rattle.rl_classes.specs.Links.{mismatch}
+use Rattle.rl_classes.proofs.Links.{mismatch-word, mismatch-past, mismatch-rest}
 use Rattle.rl_classes.proofs.mismatch.Statement.{statement}
 use Rattle.rl_classes.proofs.mismatch.Tie as tie
-use borrow.Author.Needs.{needs}
-use Rattle.rl_classes.proofs.Links.{mismatch-end, mismatch-short, mismatch-apart, mismatch-more}
 
-ruleset laws = (mismatch-end, mismatch-short, mismatch-apart, mismatch-more)
+ruleset laws = (mismatch-word, mismatch-past, mismatch-rest)
 
 abbrev Inv-loop : tie.InvT-loop
-Inv-loop a b at i₀ i = mismatch a b at ≡ mismatch a b i
+Inv-loop a b at n i₀ i = (n ≡ min (length a) (length b)) × (mismatch a b at ≡ mismatch a b i)
 
 abbrev μ-loop : tie.MeasureT-loop
-μ-loop a b at i₀ i = length a - i
+μ-loop a b at n i₀ i = n - i
+
+least-requires : tie.Need-least-requires Inv-loop μ-loop
+least-requires c κs = search (laws, needs)
 
 loop-holds : tie.Need-loop-holds Inv-loop μ-loop
 loop-holds c = search (laws, needs)
 
+sub-if1 : tie.Need-sub-if1 Inv-loop μ-loop
+sub-if1 c = search (laws, needs)
+
+mismatch-bytes-requires : tie.Need-mismatch-bytes-requires Inv-loop μ-loop
+mismatch-bytes-requires c κs = search (laws, needs)
+
 returns : tie.Need-returns Inv-loop μ-loop
 returns c = search (laws, needs)
 
-shared-slice-read-if2 : tie.Need-shared-slice-read-if2 Inv-loop μ-loop
-shared-slice-read-if2 c = search (laws, needs)
+u64-be-at-requires : tie.Need-u64-be-at-requires Inv-loop μ-loop
+u64-be-at-requires c κs = search (laws, needs)
 
-shared-slice-read-if2-2 : tie.Need-shared-slice-read-if2-2 Inv-loop μ-loop
-shared-slice-read-if2-2 c = search (laws, needs)
+u64-be-at-requires-2 : tie.Need-u64-be-at-requires-2 Inv-loop μ-loop
+u64-be-at-requires-2 c κs = search (laws, needs)
+
+mismatch-bytes-requires-2 : tie.Need-mismatch-bytes-requires-2 Inv-loop μ-loop
+mismatch-bytes-requires-2 c κs = search (laws, needs)
 
 returns-2 : tie.Need-returns-2 Inv-loop μ-loop
 returns-2 c = search (laws, needs)
@@ -48,10 +60,14 @@ mismatch-spec =
     (tie.spec
     Inv-loop
     μ-loop
+    least-requires
     loop-holds
+    sub-if1
+    mismatch-bytes-requires
     returns
-    shared-slice-read-if2
-    shared-slice-read-if2-2
+    u64-be-at-requires
+    u64-be-at-requires-2
+    mismatch-bytes-requires-2
     returns-2
     add-i
     loop-less

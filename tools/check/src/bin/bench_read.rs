@@ -17,7 +17,9 @@ fn main() {
         ("largest, long lists", edges::largest()),
         ("typical", typical(1)),
         ("4,096 expressions on one list", one_list()),
-        ("2,048 texts of the same 16,384", one_text()),
+        ("2,048 texts of the same 16,384", one_text("service flow id\u{e9} ")),
+        ("the same, all of it ASCII", one_text("service flow id ")),
+        ("the same, none of it ASCII", one_text("\u{e9}")),
     ];
     for (name, image) in images {
         let bytes = encode(&image);
@@ -55,10 +57,10 @@ fn one_list() -> Image {
     builder.image
 }
 
-/// Every text is the whole raw text.
-fn one_text() -> Image {
+/// Every text is the whole raw text, which repeats some characters.
+fn one_text(characters: &str) -> Image {
     let mut builder = Builder::new(1);
-    builder.image.text = "service flow id\u{e9} ".bytes().cycle().take(LIMITS[0]).collect();
+    builder.image.text = characters.bytes().cycle().take(LIMITS[0]).collect();
     let whole = (0, LIMITS[0] as u16);
     builder.image.texts = vec![whole; LIMITS[1]];
     builder.image

@@ -9,12 +9,15 @@ use rlimg::random::{self, Shape};
 use rlimg::rng::Rng;
 use rlimg::schema::ROWS;
 use rlimg::{builder::Builder, edges};
+use std::ops::RangeInclusive;
 use std::process::ExitCode;
 
 /// What the work slices hold before each call.
 const GARBAGE: u16 = 0xabcd;
 /// Entries behind the work slice, which must stay as they are.
 const GUARD: usize = 64;
+/// Lengths of texts, around that from which a text is first seen as a whole.
+const LONG: RangeInclusive<usize> = 60..=130;
 /// Every answer must have been seen so often.
 const ENOUGH: usize = 50;
 
@@ -126,8 +129,34 @@ impl Comparison {
         Ok(())
     }
 
-    /// Generated images and damaged copies of them.
-    fn generated(&mut self, rng: &mut Rng, until: usize) -> Result<(), Differs> {
+    /// Long texts of ASCII, each also with a bad or a good sequence at each
+    /// place.
+    fn long_texts(&mut self) -> Result<(), Differs> {
+        let good = ["\u{7f}", "\u{80}", "\u{7ff}", "\u{20ac}", "\u{10ffff}"].map(str::as_bytes);
+        for length in LONG {
+            self.text(vec![b'a'; length])?;
+            for sequence in NOT_UTF8.into_iter().chain(good) {
+                for at in 0..=length - sequence.len() {
+                    let mut text = vec![b'a'; length];
+                    text[at..at + sequence.len()].copy_from_slice(sequence);
+                    self.text(text)?;
+                }
+            }
+        }
+        Ok(())
+    }
+
+    /// An image with this text alone.
+    fn text(&mut self, text: Vec<u8>) -> Result<(), Differs> {
+        let mut builder = Builder::new(1);
+        builder.image.texts.push((0, text.len() as u16));
+        builder.image.text = text;
+        self.compare(&encode(&builder.image), WORK)
+    }
+
+    /// So many generated images and damaged copies of them.
+    fn generated(&mut self, rng: &mut Rng, cases: usize) -> Result<(), Differs> {
+        let until = self.cases + cases;
         while self.cases < until {
             let image = any_image(rng);
             let bytes = encode(&image);
@@ -169,6 +198,7 @@ fn main() -> ExitCode {
         .limits()
         .and_then(|_| comparison.kinds())
         .and_then(|_| comparison.texts())
+        .and_then(|_| comparison.long_texts())
         .and_then(|_| comparison.generated(&mut Rng::new(seed), cases));
     if done.is_err() {
         return ExitCode::FAILURE;

@@ -14,8 +14,10 @@ use std::time::Instant;
 const STACK: usize = 1 << 20;
 /// Steps over long names and texts.
 const STEPS: u32 = 200_000;
-/// The most nanoseconds a step, where only names are long.
+/// The most nanoseconds a step over long names, and over long texts.
 const STEP: f64 = 1_000.0;
+/// The time is the least of so many runs.
+const RUNS: usize = 3;
 
 fn call(words: &[u64], budget: u32) -> Call {
     Call { work: WORK, function: 0, words: words.to_vec(), budget }
@@ -45,9 +47,12 @@ fn deep() -> Result<(usize, u64), String> {
 /// Nanoseconds a step.
 fn time(image: &Image) -> f64 {
     let (bytes, mut work, mut outcome) = (encode(image), vec![0; WORK], [0; OUTCOME]);
-    let start = Instant::now();
-    ffi::run(&bytes, &mut work, 0, &[], STEPS, &mut outcome);
-    start.elapsed().as_nanos() as f64 / f64::from(STEPS)
+    let mut run = || {
+        let start = Instant::now();
+        ffi::run(&bytes, &mut work, 0, &[], STEPS, &mut outcome);
+        start.elapsed().as_nanos() as f64 / f64::from(STEPS)
+    };
+    (0..RUNS).map(|_| run()).fold(f64::INFINITY, f64::min)
 }
 
 fn long() -> Result<(f64, f64), String> {
@@ -55,8 +60,8 @@ fn long() -> Result<(f64, f64), String> {
         agreed(&Case::new(encode(&image)), &[], 2_000)?;
     }
     let (names, texts) = (time(&long_names()), time(&long_texts()));
-    if names > STEP {
-        return Err(format!("long names take {names:.0} ns a step"));
+    if names.max(texts) > STEP {
+        return Err(format!("long names take {names:.0} ns a step, long texts {texts:.0}"));
     }
     Ok((names, texts))
 }

@@ -18,7 +18,7 @@ use rlimg::image::{Image, EXPRESSION_HEIGHT};
 use rlimg::random::{self, Shape};
 use rlimg::rng::Rng;
 use rlimg::schema::Section;
-use rlimg::{edges, hostile, rules};
+use rlimg::{edges, hostile, rules, runs};
 use std::process::ExitCode;
 use std::time::{Duration, Instant};
 
@@ -39,6 +39,7 @@ fn compare(comparison: &mut Comparison, bytes: Vec<u8>) -> Result<(), Shown> {
 fn listed(comparison: &mut Comparison) -> Result<(), Shown> {
     let marked = marked::cases().into_iter().map(|case| case.image);
     let images = marked.chain(tables::images()).chain(picked::images()).chain(pairs::images());
+    let images = images.chain(runs::texts::images());
     let tall = (67..76).map(edges::expression_chain).chain((35..44).map(edges::statement_chain));
     for image in images.chain(tall) {
         compare(comparison, encode(&image))?;

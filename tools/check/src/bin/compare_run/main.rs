@@ -1,7 +1,7 @@
 //! `compare_run [FUNCTIONS] [SEED]`: the library's `rl_run` against the
 //! independent runner, on generated functions with budgets around what they
-//! take, on listed functions over small constants, on calls that are refused, on
-//! listed words and on damaged images.
+//! take, on listed functions over small constants and over texts, on calls that
+//! are refused, on listed words and on damaged images.
 
 mod operands;
 mod words;
@@ -20,6 +20,8 @@ use std::process::ExitCode;
 const ENOUGH: usize = 50;
 /// The listed functions over small constants are so many.
 const OPERANDS: usize = 14_685;
+/// Those over texts are so many.
+const TEXTS: usize = 24_255;
 /// A run of more steps is not waited for, or rarely.
 const LONG: u32 = 2_000;
 /// The refusals that are looked for.
@@ -39,8 +41,9 @@ struct Tally {
     /// Listed words that had all of their answers: values, no values, values
     /// of which a text is missing.
     words: [usize; 3],
-    /// Listed functions over small constants.
+    /// Listed functions over small constants, and over texts.
     operands: usize,
+    texts: usize,
 }
 
 struct Comparison {
@@ -163,6 +166,7 @@ fn main() -> ExitCode {
     let mut comparison = Comparison { tally, rng, slices };
     let mut done = comparison.listed().and_then(|()| comparison.listed_words());
     done = done.and_then(|()| comparison.listed_operands());
+    done = done.and_then(|()| comparison.listed_texts());
     while done.is_ok() && comparison.tally.functions < functions {
         done = comparison.function();
     }
@@ -186,15 +190,17 @@ fn summary(tally: &Tally) -> ExitCode {
     let refusals = tally.refusals.iter().map(|(number, count)| format!("{number}: {count}"));
     println!(
         "compare_run: {} functions, {} runs, {} steps, 0 differ; {outcomes}; faults {faults}; \
-         listed words {words}; listed operands {}; refusals {}",
+         listed words {words}; listed operands {}; listed texts {}; refusals {}",
         tally.functions,
         tally.runs,
         tally.steps,
         tally.operands,
+        tally.texts,
         refusals.collect::<Vec<String>>().join(", "),
     );
-    if tally.operands < OPERANDS {
-        println!("the listed operands are fewer than {OPERANDS}");
+    let listed = [("operands", tally.operands, OPERANDS), ("texts", tally.texts, TEXTS)];
+    if let Some((name, _, all)) = listed.into_iter().find(|(_, count, all)| count < all) {
+        println!("the listed {name} are fewer than {all}");
         return ExitCode::FAILURE;
     }
     let refused = |number: &u32| tally.refusals.get(number).copied().unwrap_or(0);

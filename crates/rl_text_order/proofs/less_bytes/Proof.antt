@@ -3,9 +3,9 @@ use Rattle.rl_spec.specs.Values.{lessText}
 use lib.ListN.{length, drop}
 use mathlib.Core.Path.{_≡_}
 use Prim.Native.Nat.{_-_, _≤_}
-use Rattle.rl_values.proofs.less_text.Statement.{statement}
-use Rattle.rl_values.proofs.less_text.Tie as tie
-use Rattle.rl_values.proofs.Laws.{less-short, less-end, less-apart, less-more}
+use Rattle.rl_text_order.proofs.less_bytes.Statement.{statement}
+use Rattle.rl_text_order.proofs.less_bytes.Tie as tie
+use Rattle.rl_text_order.proofs.Laws.{less-short, less-end, less-apart, less-more}
 
 ruleset laws = (less-short, less-end, less-apart, less-more)
 
@@ -48,8 +48,8 @@ loop-again c = search (laws, needs)
 returns-3 : tie.Need-returns-3 Inv-loop μ-loop
 returns-3 c = search (laws, needs)
 
-pub less-text-spec : {M : Type 1} → statement M
-less-text-spec =
+pub less-bytes-spec : {M : Type 1} → statement M
+less-bytes-spec =
     tie.close
     (tie.spec
     Inv-loop

@@ -1,19 +1,19 @@
 use borrow.Author.Needs.{needs}
-use Rattle.rl_spec.specs.Values.{sameText}
-use lib.ListN.{length, drop}
 use mathlib.Core.Path.{_≡_}
-use Prim.Native.Nat.{_-_, _≤_}
-use Rattle.rl_values.proofs.same_text.Statement.{statement}
-use Rattle.rl_values.proofs.same_text.Tie as tie
-use Rattle.rl_values.proofs.Laws.{same-short, same-end, same-apart, same-more}
+use Prim.Native.Nat.{_-_}
+use lib.ListN.{length}
+use Rattle.rl_classes.specs.Links.{mismatch}
+use Rattle.rl_classes.proofs.Links.{mismatch-end, mismatch-short, mismatch-apart, mismatch-more}
+use Rattle.rl_classes.proofs.mismatch_bytes.Statement.{statement}
+use Rattle.rl_classes.proofs.mismatch_bytes.Tie as tie
 
-ruleset laws = (same-short, same-end, same-apart, same-more)
+ruleset laws = (mismatch-end, mismatch-short, mismatch-apart, mismatch-more)
 
 abbrev Inv-loop : tie.InvT-loop
-Inv-loop a b i₀ i = (i ≤ length a) × (sameText a b ≡ sameText (drop i a) (drop i b))
+Inv-loop a b at i₀ i = mismatch a b at ≡ mismatch a b i
 
 abbrev μ-loop : tie.MeasureT-loop
-μ-loop a b i₀ i = length a - i
+μ-loop a b at i₀ i = length a - i
 
 loop-holds : tie.Need-loop-holds Inv-loop μ-loop
 loop-holds c = search (laws, needs)
@@ -42,8 +42,8 @@ loop-again c = search (laws, needs)
 returns-3 : tie.Need-returns-3 Inv-loop μ-loop
 returns-3 c = search (laws, needs)
 
-pub same-text-spec : {M : Type 1} → statement M
-same-text-spec =
+pub mismatch-bytes-spec : {M : Type 1} → statement M
+mismatch-bytes-spec =
     tie.close
     (tie.spec
     Inv-loop
