@@ -1,12 +1,14 @@
 # make run [IMAGE=path]   the printer on an image (default: the sample)
 # make test               the gate, the comparisons, formatting
-# make compare [CASES=n] [PROVED=n] [RUN=n] [LOWERED=n] [SEED=n]   reading and running against independent ones, proving and lowering
-#                         against rl-lang's where it is, texts by words against Rust's slices, lowered runs against contract readings, on more cases
+# make compare [CASES=n] [PROVED=n] [PAGED=n] [RUN=n] [LOWERED=n] [SEED=n]   reading, pages and running against independent ones, proving
+#                         and lowering against rl-lang's where it is, texts by words against Rust's slices, lowered runs against contract
+#                         readings, on more cases
 # make bench              times of this and of Rust, in one run
 # make fmt                lay all files out
 IMAGE ?= samples/flow.img
 CASES ?= 3000000
 PROVED ?= 500000
+PAGED ?= 200000
 RUN ?= 1000000
 LOWERED ?= 500000
 SEED ?= 7
@@ -34,6 +36,7 @@ compare: staticlib
 	tools/target/release/compare_read $(CASES) $(SEED)
 	tools/target/release/compare_words $(CASES) $(SEED)
 	tools/target/release/compare_prove $(PROVED) $(SEED)
+	tools/target/release/compare_pages $(PAGED) $(SEED)
 	tools/target/release/compare_run $(RUN) $(SEED)
 	tools/target/release/run_limits
 	tools/target/release/compare_lower $(LOWERED) $(SEED)
@@ -47,6 +50,7 @@ bench: staticlib
 	$(CARGO_RELEASE)
 	tools/target/release/bench_read
 	tools/target/release/bench_prove
+	tools/target/release/bench_pages
 	tools/target/release/bench_names
 	tools/target/release/bench_texts
 	tools/target/release/bench_run
@@ -54,10 +58,11 @@ bench: staticlib
 
 # writes the stored cases anew
 vectors:
-	$(CARGO_RELEASE) --bin vectors --bin vectors_run --bin vectors_lower --bin vectors_prove
+	$(CARGO_RELEASE) --bin vectors --bin vectors_run --bin vectors_lower --bin vectors_pages --bin vectors_prove
 	tools/target/release/vectors crates/vectors_read
 	tools/target/release/vectors_run crates/vectors_run
 	tools/target/release/vectors_lower crates/vectors_lower
+	tools/target/release/vectors_pages crates/vectors_pages
 	tools/target/release/vectors_prove crates/vectors_prove
 
 fmt:

@@ -3,6 +3,11 @@
  *
  * Reads an image from a file, prints what its calls violate, lowers every function
  * in turn, each in the image that came of the one before, and runs one of them.
+ *
+ * loader --pages IMAGE
+ *
+ * Prints what its calls violate on pages.
+ *
  * C99, and C++17 as well.
  */
 #include "rl_contracts.h"
@@ -37,6 +42,7 @@ static uint16_t work[RL_WORK];
 static int usage(void)
 {
     fputs("usage: loader IMAGE [FUNCTION BUDGET ARG...]\n"
+          "       loader --pages IMAGE\n"
           "  FUNCTION  the number of a function in the image, from 0\n"
           "  BUDGET    the most steps of its run\n"
           "  ARG       null, true, false, int:N, float:X, str:N (text N of the image),\n"
@@ -237,6 +243,39 @@ static int print_reports(const struct image *image)
     }
 }
 
+/*
+ * The reports are counted first: a slice that is too short does not tell how long
+ * the pages are.
+ */
+static int print_pages(const struct image *image)
+{
+    static uint32_t reports[RL_REPORT * RL_ALL_REPORTS];
+    const size_t most = sizeof reports / sizeof *reports;
+    uint64_t answer = rl_prove_all(image->bytes, image->length, work, RL_WORK, reports, most);
+    size_t room;
+    uint8_t *pages;
+    if (RL_NUMBER(answer) != 0) {
+        return refused(answer);
+    }
+    room = ((size_t)RL_REPORTS(answer) + RL_PAGE_LINES - 1) / RL_PAGE_LINES * RL_PAGE;
+    if (room == 0) {
+        return DONE;
+    }
+    pages = (uint8_t *)malloc(room);
+    if (pages == NULL) {
+        fputs("no memory for the pages\n", stderr);
+        return WRONG;
+    }
+    answer = rl_pages(image->bytes, image->length, work, RL_WORK, pages, room);
+    if (RL_NUMBER(answer) != 0) {
+        free(pages);
+        return refused(answer);
+    }
+    fwrite(pages, 1, RL_LENGTH(answer), stdout);
+    free(pages);
+    return DONE;
+}
+
 /* ---- lowering */
 
 /*
@@ -428,14 +467,14 @@ int main(int argc, char **argv)
 {
     struct request request;
     struct image image;
-    int status;
+    int status, on_pages = argc > 1 && strcmp(argv[1], "--pages") == 0;
     memset(&request, 0, sizeof request);
-    if (argc < 2 || !parse_request(argc - 2, argv + 2, &request)) {
+    if (on_pages ? argc != 3 : argc < 2 || !parse_request(argc - 2, argv + 2, &request)) {
         return usage();
     }
-    status = read_file(argv[1], &image);
+    status = read_file(argv[1 + on_pages], &image);
     if (status == DONE) {
-        status = load(&image, &request);
+        status = on_pages ? print_pages(&image) : load(&image, &request);
     }
     if (fflush(stdout) != 0 || ferror(stdout)) {
         fputs("cannot write\n", stderr);

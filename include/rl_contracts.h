@@ -1,6 +1,6 @@
 /*
  * The functions of librl_abi.a: rule images are read, folded, proved, run and
- * lowered. C99 or later, C++ too.
+ * lowered, and reports printed on pages. C99 or later, C++ too.
  *
  * Pointers, for all functions: a slice is a pointer and then its length in
  * entries, an array of a fixed size a pointer alone. Each is aligned for its type
@@ -21,6 +21,7 @@
  *     rl_lower      384
  *     rl_text        16
  *     rl_message    144
+ *     rl_pages      144
  *
  * Answers, for all functions: the high 32 bits are the refusal's number, 0 where
  * nothing is refused. The low 32 bits are the refusal's place, and else what is
@@ -65,9 +66,11 @@ enum rl_refusal {
     RL_NO_SUCH_CALL = 17,
     RL_REPORTS_TOO_SHORT = 18, /* a slice of under RL_REPORT entries a report */
     /* running; 20 texts too */
-    RL_WRONG_VALUES = 19,     /* not as many as parameters, over RL_VALUES, or no values */
-    RL_NO_SUCH_TEXT = 20,     /* the image has no such text */
-    RL_BUDGET_OVER_LIMIT = 21 /* over RL_BUDGET */
+    RL_WRONG_VALUES = 19,      /* not as many as parameters, over RL_VALUES, or no values */
+    RL_NO_SUCH_TEXT = 20,      /* the image has no such text */
+    RL_BUDGET_OVER_LIMIT = 21, /* over RL_BUDGET */
+    /* pages */
+    RL_PAGES_TOO_SHORT = 22 /* a slice shorter than the pages */
 };
 
 /*
@@ -107,23 +110,26 @@ enum rl_violation {
     RL_REQUIRES = 1
 };
 
-#define RL_IMAGE 65535      /* the most bytes of an image */
-#define RL_WORK 8192        /* the least entries of a work slice */
-#define RL_OUT 65535        /* the least bytes of an output slice */
-#define RL_VALUE 2          /* the words of a value */
-#define RL_VALUES 16        /* the most values of a run */
-#define RL_BUDGET 1000000   /* the largest budget */
-#define RL_OUTCOME 4        /* the words of an outcome */
-#define RL_REPORT 4         /* the entries of a report */
-#define RL_CALL_REPORTS 512 /* the most reports of a call */
-#define RL_MESSAGE 65535    /* the bytes of an array for a message */
+#define RL_IMAGE 65535        /* the most bytes of an image */
+#define RL_WORK 8192          /* the least entries of a work slice */
+#define RL_OUT 65535          /* the least bytes of an output slice */
+#define RL_VALUE 2            /* the words of a value */
+#define RL_VALUES 16          /* the most values of a run */
+#define RL_BUDGET 1000000     /* the largest budget */
+#define RL_OUTCOME 4          /* the words of an outcome */
+#define RL_REPORT 4           /* the entries of a report */
+#define RL_CALL_REPORTS 512   /* the most reports of a call */
+#define RL_ALL_REPORTS 131072 /* the most reports of all calls */
+#define RL_MESSAGE 65535      /* the bytes of an array for a message */
+#define RL_PAGE_LINES 60      /* the lines of a page */
+#define RL_PAGE 14280         /* the most bytes of a page */
 
 /* Of every answer: the refusal's number, 0 for none, and its place. */
 #define RL_NUMBER(answer) ((uint32_t)((answer) >> 32))
 #define RL_PLACE(answer) ((uint32_t)(answer))
 
-/* Where nothing is refused: the number of reports; the length of a lowered image
- * or of a message; where a text starts in the image, and its length. */
+/* Where nothing is refused: the number of reports; the length of a lowered image,
+ * of a message or of pages; where a text starts in the image, and its length. */
 #define RL_REPORTS(answer) ((uint32_t)(answer))
 #define RL_LENGTH(answer) ((uint32_t)(answer))
 #define RL_TEXT_AT(answer) ((uint32_t)((answer) & 0xffff))
@@ -194,6 +200,25 @@ uint64_t rl_text(const uint8_t *image, size_t image_len, uint16_t *work, size_t 
  */
 uint64_t rl_message(const uint8_t *image, size_t image_len, uint16_t *work, size_t work_len,
                     uint32_t call, uint32_t report, uint8_t out[RL_MESSAGE]);
+
+/*
+ * The reports of all calls in order on pages to be printed, one a line, after one
+ * reading. A page is RL_PAGE_LINES lines of 72 columns, each ended by a newline. A
+ * line is the call (4 columns, right), a space, the span (10, right), a space, the
+ * callee (16, left), a space, and the message without its opening (39, left). A
+ * Unicode scalar takes one column. Longer fields are cut after the last scalar
+ * that fits, scalars below 32 are `?`, and short lines and pages are padded with
+ * spaces. Without reports there is no page.
+ *
+ * pages holds the pages, UTF-8, and then zeros to its end; the answer has their
+ * length. A line has at most 238 bytes with its newline, 4 + 1 + 10 + 1 + 16 * 4 +
+ * 1 + 39 * 4 + 1, so RL_PAGE bytes, 60 of them, for each 60 reports, and for what
+ * is left of them, are always enough: 31,201,800 bytes for any image. Refuses by
+ * 22, which does not tell how long the pages are; the number of reports is
+ * rl_prove_all's.
+ */
+uint64_t rl_pages(const uint8_t *image, size_t image_len, uint16_t *work, size_t work_len,
+                  uint8_t *pages, size_t pages_len);
 
 #ifdef __cplusplus
 }

@@ -17,10 +17,10 @@ runs=0
 sed -n '/^enum rl_refusal/,/^};/s/^ *\(RL_[A-Z_]*\) = \([0-9]*\).*/\1 \2/p' include/rl_contracts.h | sort >"$new/header"
 sed -n 's/^ *Cause::\([A-Za-z]*\) => \([0-9]*\),$/\1 \2/p' crates/rl_numbers/src/lib.rt |
     sed 's/[A-Z]/_&/g; s/^/RL/' | tr a-z A-Z | sort >"$new/numbers"
-[ "$(wc -l <"$new/numbers")" -eq 21 ] || fail 'number_of has not 21 causes'
+[ "$(wc -l <"$new/numbers")" -eq 22 ] || fail 'number_of has not 22 causes'
 diff "$new/numbers" "$new/header" >&2 || fail 'the header has other refusals than number_of'
 
-# ---- and its other numbers are those of 01
+# ---- and its other numbers are those of 01, those of pages 02's
 
 warnings='-Wall -Wextra -Wpedantic -Werror'
 {
@@ -37,6 +37,7 @@ RETURNED 1 STOPPED 2 FAULT 3 SPENT 4
 FAULT_FORM 1 FAULT_SORT 2 FAULT_NAME 3 FAULT_VALUE 4 FAULT_BINDINGS 5
 REFINEMENT 0 REQUIRES 1
 IMAGE 65535 WORK 8192 OUT 65535 VALUE 2 VALUES 16 BUDGET 1000000 OUTCOME 4 REPORT 4 CALL_REPORTS 512 MESSAGE 65535
+ALL_REPORTS 256*512 PAGE_LINES 60 PAGE 60*(4+1+10+1+16*4+1+39*4+1)
 END
 } >"$new/numbers.c"
 ${CC:-cc} -std=c99 $warnings -Iinclude -c "$new/numbers.c" -o "$new/numbers.o" || fail 'a number of the header, in C99'
@@ -46,7 +47,7 @@ ${CXX:-c++} -x c++ -std=c++17 $warnings -Iinclude -c "$new/numbers.c" -o "$new/n
 
 sed -n 's/^ \*     \(rl_[a-z_]*\) *\([0-9]*\)$/\1 \2/p' include/rl_contracts.h >"$new/stated"
 sed -n 's/^ *("\(rl_[a-z_]*\)", \([0-9]*\)),$/\1 \2/p' tools/check/src/bin/stack_limits.rs >"$new/measured"
-[ "$(wc -l <"$new/measured")" -eq 8 ] || fail 'stack_limits has not 8 exports'
+[ "$(wc -l <"$new/measured")" -eq 9 ] || fail 'stack_limits has not 9 exports'
 diff "$new/measured" "$new/stated" >&2 || fail 'the header states other bounds than stack_limits has'
 
 # ---- NULL is taken for a slice of length 0
@@ -68,6 +69,7 @@ int main(void)
     wrong |= rl_run(NULL, 0, work, RL_WORK, 0, NULL, 0, 0, outcome) != no_bytes;
     wrong |= rl_lower(NULL, 0, work, RL_WORK, 0, NULL, 0) != no_bytes;
     wrong |= rl_message(NULL, 0, work, RL_WORK, 0, 0, out) != no_bytes;
+    wrong |= rl_pages(NULL, 0, work, RL_WORK, NULL, 0) != no_bytes;
     return wrong;
 }
 END
@@ -109,6 +111,13 @@ run() {
     loaded "$status" "$file" "$@"
 }
 
+# paged FILE <LINES: the pages of an image, these lines and 60 a page, all of 72 columns; rlimg prints the same
+paged() {
+    awk '{ printf "%-72s\n", $0 } END { for (n = NR; n % 60; n++) printf "%72s\n", "" }' >"$new/expected"
+    loaded 0 --pages "$1"
+    "$rlimg" pages "$1" | diff "$new/expected" - >&2 || fail "rlimg pages $1: other lines than expected"
+}
+
 # wrong WORD...: wrong usage, or a file that cannot be read
 wrong() {
     : >"$new/expected"
@@ -143,6 +152,10 @@ run 1 'function 0: run refused 20 at 0' 0 1000 str:3 # lowering has added a text
 run 1 'function 0: run refused 19 at 0' 0 1000
 run 1 'function 0: run refused 21 at 0' 0 1000001 int:17
 run 1 'function 1: run refused 11 at 0' 1 1000 int:17
+paged samples/flow.img <<'END'
+   0          7 open             refinement failed: flow >= 1
+   1          9 open             flow id range
+END
 
 image rate samples/rate.img 0 <<'END'
 1 17 contract violation (proven at compile time): too many tries
@@ -160,6 +173,9 @@ run 0 'returned 8 in 56 steps' 1 1000000 int:3
 run 0 'spent after 55 steps' 1 55 int:3
 run 0 'stopped with "too many tries" after 9 steps' 1 1000000 int:11
 run 1 'function 0: run refused 19 at 0' 0 1000 int:38
+paged samples/rate.img <<'END'
+   1         17 backoff          too many tries
+END
 
 image lease samples/lease.img 0 <<'END'
 0 8 contract violation (proven at compile time): lease of no hours
@@ -172,6 +188,9 @@ run 0 'returned Err("lease too long") in 24 steps' 0 1000 int:100 true
 run 0 'returned Err("modem not known") in 15 steps' 0 1000 int:24 false
 run 0 'fault 2 after 7 steps' 0 1000 int:24 int:1
 run 0 'fault 4 after 5 steps' 0 1000 ok:int:24 true
+paged samples/lease.img <<'END'
+   0          8 lease            lease of no hours
+END
 
 image priority samples/priority.img 0 <<'END'
 1 7 contract violation (proven at compile time): priority above 7
@@ -183,11 +202,16 @@ run 0 'returned 0 in 14 steps' 0 14 int:0
 run 0 'spent after 13 steps' 0 13 int:7
 run 0 'stopped with "priority above 7" after 14 steps' 0 1000 int:9
 run 0 'stopped with "refinement failed: priority >= 0" after 9 steps' 0 1000 int:-1
+paged samples/priority.img <<'END'
+   1          7 mark             priority above 7
+   2          8 mark             refinement failed: priority >= 0
+END
 
 image cut samples/cut.img 1 <<'END'
 refused 3 at 99
 END
 loaded 1 samples/cut.img 0 1000 int:17
+loaded 1 --pages samples/cut.img
 
 # ---- values of each sort, in and out
 
@@ -240,10 +264,45 @@ wrong "$new/echo.img" 0 1e3 null
 wrong "$new/echo.img" 0 4294967296 null
 wrong "$new/echo.img" 0 2 1 2 3 4 5 6 7 8 9 10 11 12 13 14 15 16 17
 wrong "$new/none.img"
+wrong --pages
+wrong --pages "$new/none.img"
+wrong --pages "$new/echo.img" 0
+wrong "$new/echo.img" --pages
 wrong "$new"
 if [ -e /dev/full ]; then
     ! "$new/loader.c99" samples/flow.img >/dev/full 2>&1 || fail 'a full disk is not seen'
 fi
+
+# ---- pages: none without reports, two where there is a report more than lines, cuts, and what prints as `?`
+
+paged "$new/echo.img" </dev/null
+{
+    cat <<'END'
+arena 1
+bytes "a\nb\x7fé€😀 and sixteen columns in all, then twenty-three"
+text 0 0+31
+text 1 0+59
+entry 0 0
+expression 0 span 1 Bool false
+expression 1 span 1 String 1
+clause 0 condition 0 message 1
+function 0 name 0 span 1 parameters 0+0 result false body 0+0 requires 0+1 ensures 0+0
+END
+    i=0
+    while [ $i -lt 61 ]; do echo "call $i callee 0 span $((4294967295 - i)) arguments 0+0"; i=$((i + 1)); done
+} >"$new/pages.txt"
+"$rlimg" build "$new/pages.txt" -o "$new/pages.img"
+i=0
+while [ $i -lt 61 ]; do
+    printf '%4d %10d a?b\177é€😀 and sixt a?b\177é€😀 and sixteen columns in all, the\n' $i $((4294967295 - i))
+    i=$((i + 1))
+done >"$new/expected"
+while [ $i -lt 120 ]; do
+    printf '%72s\n' ''
+    i=$((i + 1))
+done >>"$new/expected"
+loaded 0 --pages "$new/pages.img"
+"$rlimg" pages "$new/pages.img" | cmp "$new/expected" - || fail 'rlimg pages: other lines than expected'
 
 # ---- bytes that are no image
 
@@ -252,6 +311,7 @@ loaded 1 /dev/null
 echo 'refused 1 at 0' >"$new/expected"
 head -c 65536 /dev/zero >"$new/long.img"
 loaded 1 "$new/long.img"
+loaded 1 --pages "$new/long.img"
 head -c 200000 /dev/zero >"$new/long.img"
 loaded 1 "$new/long.img" 0 1000
 

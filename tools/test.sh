@@ -35,8 +35,8 @@ sh tools/definition_edits.sh
 sh tools/shared_condition.sh
 phase definitions
 
-# the library, compared with an independent reader, folder, prover, runner and lowering and, where it is here, with the original;
-# both forms of comparing texts; the stack that it takes; the printer too
+# the library, compared with an independent reader, folder, prover, printing of pages, runner and lowering and, where it is here, with
+# the original; both forms of comparing texts; the stack that it takes; the printer too
 rt staticlib rl_abi >"$new/library" 2>&1 || { cat "$new/library"; exit 1; }
 rt staticlib bench_texts >"$new/library" 2>&1 || { cat "$new/library"; exit 1; }
 (cd tools && cargo test --quiet -p rlimg -p oracle >"$new/tests" 2>&1) || { cat "$new/tests"; exit 1; }
@@ -44,6 +44,7 @@ rt staticlib bench_texts >"$new/library" 2>&1 || { cat "$new/library"; exit 1; }
 tools/target/release/compare_read
 tools/target/release/compare_words
 tools/target/release/compare_prove 100000
+tools/target/release/compare_pages 20000
 tools/target/release/compare_run 200000
 tools/target/release/run_limits
 tools/target/release/compare_lower 100000
@@ -66,6 +67,9 @@ cmp "$new/run/stdout" crates/vectors_run/stdout
 tools/target/release/vectors_lower "$new/lower"
 cmp "$new/lower/stdin" crates/vectors_lower/stdin
 cmp "$new/lower/stdout" crates/vectors_lower/stdout
+tools/target/release/vectors_pages "$new/pages"
+cmp "$new/pages/stdin" crates/vectors_pages/stdin
+cmp "$new/pages/stdout" crates/vectors_pages/stdout
 cmp samples/flow.img crates/rl_printer/stdin
 tools/target/release/vectors_prove "$new/prove"
 cmp "$new/prove/stdin" crates/vectors_prove/stdin

@@ -3,6 +3,7 @@ use rl_boundary::arguments_of;
 use rl_boundary::pack;
 use rl_boundary::pack_lowered;
 use rl_boundary::pack_message;
+use rl_boundary::pack_pages;
 use rl_boundary::pack_proved;
 use rl_boundary::pack_read;
 use rl_boundary::pack_text;
@@ -23,7 +24,8 @@ ghost use Rattle.rl_spec.specs.Prove.{proveOf, reportsOf, proveAllOf, allReport
 ghost use Rattle.rl_spec.specs.Lowerer.{lowerOf, lowerAnswer, lowerNumber, lowerOut};
 ghost use Rattle.rl_spec.specs.Runner.{runOf, runNumber};
 ghost use Rattle.rl_spec.specs.Texts.{textFor, textNumber, messageAnswer, messageOut, messageNumber};
-ghost use Rattle.rl_spec.specs.Boundary.{provePacked, lowerPacked, idOf, foldPacked, foldWords, argumentsOf, runPacked, runWords, textPacked, messagePacked};
+ghost use Rattle.rl_spec.specs.Pages.{pagesAnswer, pagesOut, pagesNumber};
+ghost use Rattle.rl_spec.specs.Boundary.{provePacked, lowerPacked, idOf, foldPacked, foldWords, argumentsOf, runPacked, runWords, textPacked, messagePacked, pagesPacked};
 
 // Reads an image. The high 32 bits are the refusal's number, 0 where the image is accepted, and the low 32 bits its place.
 #[no_mangle]
@@ -148,4 +150,15 @@ pub extern "C" fn rl_message(
     ensures { λ r. ⌜ now (work .exit) ≡ workUnless (messageNumber (messageAnswer (now (image .entry)) (length (now (work .entry))) call report)) (now (image .entry)) (length (now (work .entry))) ⌝ }
 {
     pack_message(rl_lines::message(image, work, call, report, out))
+}
+
+// Reads an image and puts the reports of all its calls on pages, in order and one a line: 60 lines of 72 columns and a newline each. The
+// low 32 bits are how many bytes are written, 0 without reports; 22 where the slice is shorter than the pages.
+#[no_mangle]
+pub extern "C" fn rl_pages(image: &[u8], work: &mut [u16], pages: &mut [u8]) -> u64
+    ensures { λ r. ⌜ r ≡ pagesPacked (pagesAnswer (now (image .entry)) (length (now (work .entry))) (length (now (pages .entry)))) ⌝ }
+    ensures { λ r. ⌜ now (pages .exit) ≡ pagesOut (now (image .entry)) (length (now (work .entry))) (length (now (pages .entry))) ⌝ }
+    ensures { λ r. ⌜ now (work .exit) ≡ workUnless (pagesNumber (pagesAnswer (now (image .entry)) (length (now (work .entry))) (length (now (pages .entry))))) (now (image .entry)) (length (now (work .entry))) ⌝ }
+{
+    pack_pages(rl_pages::pages(image, work, pages))
 }

@@ -9,21 +9,23 @@ use Rattle.rl_spec.specs.declared.Answer.{Answer}
 use Rattle.rl_spec.specs.declared.Answer.the-variants.{Accepted, Refused}
 use Rattle.rl_spec.specs.declared.ArenaNo.{ArenaNo}
 use Rattle.rl_spec.specs.declared.Cause.{Cause}
-use Rattle.rl_spec.specs.declared.Cause.the-variants.{ImageTooLong, WorkTooShort, BytesEnd, WrongKind, CountOverLimit, BadText, BadValue, BadReference, TooHigh, BytesLeft, OtherArena, NoSuchNode, NoSuchCall, ReportsTooShort, NoSuchFunction, HeightOverLimit, OutputTooShort, LimitPassed, WrongValues, NoSuchText, BudgetOverLimit}
+use Rattle.rl_spec.specs.declared.Cause.the-variants.{ImageTooLong, WorkTooShort, BytesEnd, WrongKind, CountOverLimit, BadText, BadValue, BadReference, TooHigh, BytesLeft, OtherArena, NoSuchNode, NoSuchCall, ReportsTooShort, NoSuchFunction, HeightOverLimit, OutputTooShort, LimitPassed, WrongValues, NoSuchText, BudgetOverLimit, PagesTooShort}
 use Rattle.rl_spec.specs.declared.Counts.{Counts}
 use Rattle.rl_spec.specs.declared.LowerAnswer.{LowerAnswer}
 use Rattle.rl_spec.specs.declared.LowerAnswer.the-variants as lower
 use Rattle.rl_spec.specs.declared.MessageAnswer.{MessageAnswer}
 use Rattle.rl_spec.specs.declared.MessageAnswer.the-variants as message
+use Rattle.rl_spec.specs.declared.PagesAnswer.{PagesAnswer}
+use Rattle.rl_spec.specs.declared.PagesAnswer.the-variants as pages
 use Rattle.rl_spec.specs.declared.ProveAnswer.{ProveAnswer}
 use Rattle.rl_spec.specs.declared.ProveAnswer.the-variants as prove
 use Rattle.rl_spec.specs.declared.TextAnswer.{TextAnswer}
 use Rattle.rl_spec.specs.declared.TextAnswer.the-variants as text
 use Rattle.rl_spec.specs.declared.TextPart.{TextPart}
 use Rattle.rl_spec.specs.Read.{numberOf, placeIn, packed}
-use Rattle.rl_spec.specs.Boundary.{above, provePacked, provedPlace, lowerPacked, loweredPlace, textPacked, textPlace, messagePacked, messagePlace}
+use Rattle.rl_spec.specs.Boundary.{above, provePacked, provedPlace, lowerPacked, loweredPlace, textPacked, textPlace, messagePacked, messagePlace, pagesPacked, pagesPlace}
 
-number-small : (q : Cause) → numberOf q ≤ 21
+number-small : (q : Cause) → numberOf q ≤ 22
 number-small ImageTooLong = omega arith
 number-small WorkTooShort = omega arith
 number-small BytesEnd = omega arith
@@ -45,6 +47,7 @@ number-small LimitPassed = omega arith
 number-small WrongValues = omega arith
 number-small NoSuchText = omega arith
 number-small BudgetOverLimit = omega arith
+number-small PagesTooShort = omega arith
 
 module _ (q : Cause) (n : ℕ) (e : n ≡ numberOf q) where
   pub high-fits : Fits w64 (n * 4294967296)
@@ -105,3 +108,12 @@ module _ (a : MessageAnswer) (q : Cause) (p : ℕ) (f : a ≡ message.Refused q 
 
   pub message-packed : (r : ℕ) → r ≡ above (numberOf q) p → r ≡ messagePacked a
   message-packed r g = rw f g
+
+-- ---- pages
+
+module _ (a : PagesAnswer) (q : Cause) (p : ℕ) (f : a ≡ pages.Refused q p) where
+  pub pages-near : pagesPlace a ≤ 65535 → p ≤ 65535
+  pages-near h = rw f at h
+
+  pub pages-packed : (r : ℕ) → r ≡ above (numberOf q) p → r ≡ pagesPacked a
+  pages-packed r g = rw f g

@@ -4,12 +4,13 @@ use rl_spec::Answer;
 use rl_spec::Cause;
 use rl_spec::LowerAnswer;
 use rl_spec::MessageAnswer;
+use rl_spec::PagesAnswer;
 use rl_spec::ProveAnswer;
 use rl_spec::TextAnswer;
 ghost use mathlib.Core.Path.{_≡_};
 ghost use Prim.Native.Nat.{_≤_};
 ghost use Rattle.rl_spec.specs.Read.{numberOf, placeIn, packed};
-ghost use Rattle.rl_spec.specs.Boundary.{above, provePacked, provedPlace, lowerPacked, loweredPlace, textPacked, textPlace, messagePacked, messagePlace};
+ghost use Rattle.rl_spec.specs.Boundary.{above, provePacked, provedPlace, lowerPacked, loweredPlace, textPacked, textPlace, messagePacked, messagePlace, pagesPacked, pagesPlace};
 
 pub fn pack(cause: Cause, place: usize) -> u64
     requires { ⌜ place ≤ 65535 ⌝ }
@@ -70,5 +71,16 @@ pub fn pack_message(answer: MessageAnswer) -> u64
     match answer {
         MessageAnswer::Message(n) => n as u64,
         MessageAnswer::Refused { cause, place } => pack(cause, place),
+    }
+}
+
+// How many bytes of pages are written, or a refusal.
+pub fn pack_pages(answer: PagesAnswer) -> u64
+    requires { ⌜ pagesPlace answer ≤ 65535 ⌝ }
+    ensures { λ r. ⌜ r ≡ pagesPacked answer ⌝ }
+{
+    match answer {
+        PagesAnswer::Written(n) => n as u64,
+        PagesAnswer::Refused { cause, place } => pack(cause, place),
     }
 }

@@ -5,6 +5,7 @@ mod values;
 pub use answers::pack;
 pub use answers::pack_lowered;
 pub use answers::pack_message;
+pub use answers::pack_pages;
 pub use answers::pack_proved;
 pub use answers::pack_read;
 pub use answers::pack_text;

@@ -1,10 +1,10 @@
 -- One law for each way out of `prove` and `prove_all`.
 -- Assumes nothing.
-use Prim.Native.Nat.{ℕ, zero, suc, _+_, _-_, _/_, _≤_, _<_, min}
+use Prim.Native.Nat.{ℕ, _-_, _/_, _≤_, _<_, min}
 use mathlib.Core.Path.{_≡_, refl, sym, ap, subst, _∙_}
-use mathlib.Core.List.{List, [], _∷_, _++_}
+use mathlib.Core.List.{List, []}
 use native.Mathlib.Omega.{arith}
-use lib.ListN.{length, getD, take, replicate, length-replicate}
+use lib.ListN.{length, getD, replicate, length-replicate}
 use mir.Syntax.{w8}
 use mir.Val.{Fits}
 use borrow.Author.Tests.{lt-ltb, le-ltb}
@@ -24,13 +24,13 @@ use Rattle.rl_spec.specs.Image.{Image, imageOf, WellFormed}
 use Rattle.rl_spec.specs.Fold.{workUnless}
 use Rattle.rl_spec.specs.Found.{imageFound}
 use Rattle.rl_spec.specs.Prove.{callEntries, allEntries, fitting, sliceBy, proveOf, reportsOf, proveAllOf, allReportsOf, proveNumber}
-use Rattle.rl_prover.specs.Reports.{Shown}
+use Rattle.rl_prover.specs.Reports.{Shown, keptAt}
 use Rattle.rl_prover.proofs.ShownLaws.{none-shown, all-shown}
 use Rattle.rl_images.specs.Encoding.Accepted.{accepted-well-formed}
 use Rattle.rl_images.specs.Reading.Found.{found-is-image}
 use Rattle.rl_images.specs.Images.Limits.{size-within, texts-within, parameters-within, all-bytes}
 use Rattle.rl_images.specs.Reading.Starts.{section-size, sizes-are-counts}
-use Rattle.rl_checker.specs.Entries.{Limited, ProvesOne, ProvesAll, fittingAt, keptAt}
+use Rattle.rl_checker.specs.Entries.{Limited, ProvesOne, ProvesAll, fittingAt}
 use Rattle.rl_images.specs.Reading.Refusals.{zeros-unless, refused-work}
 
 -- ---- the answer by the place after the entries
@@ -62,17 +62,9 @@ pub fitted-short : (room at : ℕ) → room < at → Refused ReportsTooShort 0 �
 unfolding fittingAt
 fitted-short room at h = rw (lt-ltb room at h) refl
 
-pub kept-none : (room at : ℕ) (l out : List ℕ) → room < at → out ≡ replicate (length l) 0 → out ≡ keptAt room at l
-unfolding keptAt
-kept-none room at l out h e = rw (lt-ltb room at h) e
-
 pub fitted-all : (room at : ℕ) → at ≤ room → Proved (at / 4) ≡ fittingAt room at
 unfolding fittingAt
 fitted-all room at h = rw (le-ltb room at h) refl
-
-pub kept-all : (room at : ℕ) (l : List ℕ) → at ≤ room → l ≡ keptAt room at l
-unfolding keptAt
-kept-all room at l h = rw (le-ltb room at h) refl
 
 -- ---- an accepted image
 

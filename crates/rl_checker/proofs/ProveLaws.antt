@@ -4,7 +4,7 @@ use Prim.Native.Nat.{ℕ, suc, _+_, _-_, _*_, _≤_, _<_, min}
 use mathlib.Core.Path.{_≡_, refl, sym, ap, subst, _∙_}
 use mathlib.Core.List.{List, [], _++_, append-nil, append-assoc}
 use native.Mathlib.Omega.{arith}
-use lib.ListN.{length, take, replicate, length-take, length-replicate}
+use lib.ListN.{length, replicate, length-replicate}
 use Rattle.rl_spec.specs.declared.Counts.{Counts}
 use Rattle.rl_spec.specs.Image.{Image, textOf}
 use Rattle.rl_spec.specs.Records.{functionAt}
@@ -16,10 +16,6 @@ use Rattle.rl_prover.specs.Calls.{Room, ProvesCall}
 use Rattle.rl_checker.specs.Entries.{Limited, ProvesOne, ProvesEach, ProvesAll}
 
 -- ---- one call
-
--- the first n words of a memory of zeros
-pub part-size : (n k : ℕ) → n ≤ k → n ≡ length (take n (replicate {A = ℕ} k 0))
-part-size n k h = let e : length (replicate {A = ℕ} k 0) ≡ k = length-replicate k 0 in sym (length-take n (replicate {A = ℕ} k 0) ∙ omega arith)
 
 module _ (s p : List ℕ) (c : Counts) (cs : List ℕ) where
   -- the classes of a slice of 2,048 words each

@@ -3,7 +3,6 @@ use Prim.Native.Nat.{ℕ, _/_, _≤_, min}
 use mathlib.Core.Bool.{cond}
 use mathlib.Core.List.{List, []}
 use lib.Dec.{ltb}
-use lib.ListN.{length, replicate}
 use Rattle.rl_spec.specs.declared.Cause.the-variants.{ReportsTooShort}
 use Rattle.rl_spec.specs.declared.Counts.{Counts}
 use Rattle.rl_spec.specs.declared.ProveAnswer.{ProveAnswer}
@@ -30,9 +29,6 @@ ProvesEach im c cs w l out r =
 abbrev pub ProvesAll : Image → Counts → List ℕ → List ℕ → ℕ → Type 0
 ProvesAll im c l out r = Limited im c → Shown l [] 0 → Shown out (allEntries im (min (c .calls) 256) 0) r
 
--- for entries up to a place, the answer and what is kept of a slice
+-- for entries up to a place, the answer
 unfoldable pub fittingAt : ℕ → ℕ → ProveAnswer
 fittingAt room at = cond (ltb room at) (Refused ReportsTooShort 0) (Proved (at / 4))
-
-unfoldable pub keptAt : ℕ → ℕ → List ℕ → List ℕ
-keptAt room at l = cond (ltb room at) (replicate (length l) 0) l

@@ -3,6 +3,7 @@ use rl_ast::read_starts;
 use rl_bytes::clear;
 use rl_bytes::clear_entries;
 use rl_classes::text_classes;
+use rl_prover::memory_size;
 use rl_prover::prove_call;
 use rl_spec::Answer;
 use rl_spec::Cause;
@@ -14,15 +15,8 @@ ghost use lib.ListN.{length};
 ghost use Rattle.rl_spec.specs.Fold.{workUnless};
 ghost use Rattle.rl_spec.specs.Found.{imageFound};
 ghost use Rattle.rl_spec.specs.Prove.{proveOf, reportsOf, proveAllOf, allReportsOf, proveNumber};
-ghost use Rattle.rl_checker.specs.Entries.{ProvesOne, ProvesEach, ProvesAll, fittingAt, keptAt};
-
-// Two words an expression are enough to remember what is folded.
-fn memory_size(counts: Counts) -> usize
-    ensures { λ r. ⌜ r ≤ 8192 ⌝ }
-{
-    let size = (counts.expressions as usize) * 2;
-    if size < 8192 { size } else { 8192 }
-}
+ghost use Rattle.rl_prover.specs.Reports.{keptAt};
+ghost use Rattle.rl_checker.specs.Entries.{ProvesOne, ProvesEach, ProvesAll, fittingAt};
 
 // The reports of one call, from the slice's start. Answers the place after them.
 fn prove_one(

@@ -23,8 +23,9 @@ use Rattle.rl_spec.specs.Prove.{reportEntries, callEntries, allEntries, proveOf
 use Rattle.rl_spec.specs.Lowerer.{tooTall, anyOver, lowerOf, lowerAnswer}
 use Rattle.rl_spec.specs.Printed.{lineAt}
 use Rattle.rl_spec.specs.Runner.{allHave, runOf, ranIn, valueOfWords}
+use Rattle.rl_spec.specs.Pages.{pagesAnswer}
 use Rattle.rl_spec.specs.Texts.{textPart, textFor, messageAt, messageAnswer, messageOut}
-use Rattle.rl_spec.specs.Boundary.{provePacked, lowerPacked, idOf, foldPacked, foldWords, isPlain, isValue, areValues, countOfWords, argumentsOf, outcomeWords, runPacked, runWords, textPacked, messagePacked}
+use Rattle.rl_spec.specs.Boundary.{provePacked, lowerPacked, idOf, foldPacked, foldWords, isPlain, isValue, areValues, countOfWords, argumentsOf, outcomeWords, runPacked, runWords, textPacked, messagePacked, pagesPacked}
 use Rattle.rl_examples.specs.MarkedImages.{flow}
 use Rattle.rl_examples.specs.LowerExamples.{lowering, decoding, running}
 use Rattle.rl_examples.specs.NodeRows.{folding, evaluating}
@@ -32,7 +33,7 @@ use Rattle.rl_examples.specs.ContractRows.{proving}
 use Rattle.rl_examples.specs.PrinterExamples.{printing, both-fail}
 
 unfoldable bounding : Unit {0}
-unfolding isPlain isValue areValues countOfWords argumentsOf valueOfWords wordsValue allHave runOf ranIn foldOf textPart textFor messageAt messageAnswer messageOut lineAt plainFunction
+unfolding isPlain isValue areValues countOfWords argumentsOf valueOfWords wordsValue allHave runOf ranIn foldOf textPart textFor messageAt messageAnswer messageOut pagesAnswer lineAt plainFunction
 bounding = tt
 
 unfoldable reporting : Unit {0}
@@ -120,8 +121,8 @@ cut = encode flow ++ 0 ∷ []
 
 pub refused-so : foldPacked (foldOf cut 8192 (idOf 1 1)) ∷ runPacked (runOf cut 8192 0 (argumentsOf (1 ∷ 7 ∷ [])) 9) ∷ provePacked (proveOf cut 8192 0 4)
     ∷ provePacked (proveAllOf cut 8192 8) ∷ lowerPacked (lowerAnswer (lowerOf cut 8192 0 65535)) ∷ textPacked (textFor cut 8192 0)
-    ∷ messagePacked (messageAnswer cut 8192 0 0) ∷ foldWords (foldOf cut 8192 (idOf 1 1)) ++ runWords (runOf cut 8192 0 (argumentsOf (1 ∷ 7 ∷ [])) 9)
-    ≡ replicate 7 42949673173 ++ replicate 6 0
+    ∷ messagePacked (messageAnswer cut 8192 0 0) ∷ pagesPacked (pagesAnswer cut 8192 0) ∷ foldWords (foldOf cut 8192 (idOf 1 1)) ++ runWords (runOf cut 8192 0 (argumentsOf (1 ∷ 7 ∷ [])) 9)
+    ≡ replicate 8 42949673173 ++ replicate 6 0
 unfolding lowering decoding bounding reporting
 refused-so = refl
 

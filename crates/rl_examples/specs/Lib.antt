@@ -33,7 +33,9 @@ pub mod RunnerTable
 pub mod ReadingTable
 -- ---- single instances, which shut out 01's "Worthless versions"
 pub mod DemandExamples
--- ---- what the printer writes
+-- ---- what the printer writes, and printed pages
 pub mod PrinterExamples
+pub mod ColumnExamples
+pub mod PagesExamples
 -- ---- what C and Rust get
 pub mod BoundaryTable

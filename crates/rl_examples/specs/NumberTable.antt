@@ -5,7 +5,7 @@ use mathlib.Core.Bool.{true, false}
 use mathlib.Core.List.{List, [], _∷_, map}
 use lib.IntN.{pos, negsuc}
 use Rattle.rl_spec.specs.declared.Cause.{Cause}
-use Rattle.rl_spec.specs.declared.Cause.the-variants.{ImageTooLong, WorkTooShort, BytesEnd, WrongKind, CountOverLimit, BadText, BadValue, BadReference, TooHigh, BytesLeft, NoSuchFunction, HeightOverLimit, OutputTooShort, LimitPassed, OtherArena, NoSuchNode, NoSuchCall, ReportsTooShort, WrongValues, NoSuchText, BudgetOverLimit}
+use Rattle.rl_spec.specs.declared.Cause.the-variants.{ImageTooLong, WorkTooShort, BytesEnd, WrongKind, CountOverLimit, BadText, BadValue, BadReference, TooHigh, BytesLeft, NoSuchFunction, HeightOverLimit, OutputTooShort, LimitPassed, OtherArena, NoSuchNode, NoSuchCall, ReportsTooShort, WrongValues, NoSuchText, BudgetOverLimit, PagesTooShort}
 use Rattle.rl_spec.specs.declared.Answer.the-variants.{Refused}
 use Rattle.rl_spec.specs.declared.ConstVal.the-variants.{Int, Str, Bool}
 use Rattle.rl_spec.specs.declared.Plain.the-variants.{Null, Const}
@@ -46,10 +46,11 @@ causes =
     -- values not the parameter count, or over 16; text value missing; budget over 1,000,000
     ∷ WrongValues
     ∷ NoSuchText
-    ∷ BudgetOverLimit ∷ []
+    ∷ BudgetOverLimit
+    ∷ PagesTooShort ∷ []
 
 pub numbers-so : map numberOf causes
-    ≡ 1 ∷ 2 ∷ 3 ∷ 4 ∷ 5 ∷ 6 ∷ 7 ∷ 8 ∷ 9 ∷ 10 ∷ 11 ∷ 12 ∷ 13 ∷ 14 ∷ 15 ∷ 16 ∷ 17 ∷ 18 ∷ 19 ∷ 20 ∷ 21 ∷ []
+    ≡ 1 ∷ 2 ∷ 3 ∷ 4 ∷ 5 ∷ 6 ∷ 7 ∷ 8 ∷ 9 ∷ 10 ∷ 11 ∷ 12 ∷ 13 ∷ 14 ∷ 15 ∷ 16 ∷ 17 ∷ 18 ∷ 19 ∷ 20 ∷ 21 ∷ 22 ∷ []
 numbers-so = refl
 
 -- 6 at the place 300: the number above the 32 low bits

@@ -14,18 +14,7 @@ use Rattle.rl_spec.specs.Tree.{ascii}
 use Rattle.rl_spec.specs.Message.{decimal, opening, defaultText, messageWith, messageBy}
 use Rattle.rl_spec.specs.Printed.{refusedLine, lineWith, lineOf}
 use Rattle.rl_text_out.specs.Put.{withText, afterText}
-use Rattle.rl_text_out.proofs.Joined.{after-after, with-with, room-holds}
-
--- ---- a text after another
-
--- the place and the buffer after a text
-abbrev Puts : List ℕ → ℕ → List ℕ → List ℕ → ℕ → Type 0
-Puts out at text w r = (r ≡ afterText out at text) × (w ≡ withText out at text)
-
-module _ (out : List ℕ) (at : ℕ) where
-  puts-then : (a b w v : List ℕ) (e r : ℕ) → Puts out at a w e → Puts w e b v r → Puts out at (a ++ b) v r
-  puts-then a b w v e r f g =
-      (g .0 ∙ rw (f .0, f .1) (after-after out at a b), g .1 ∙ rw (f .0, f .1) (with-with out at a b))
+use Rattle.rl_text_out.proofs.Joined.{Puts, puts-then, room-holds}
 
 -- ---- a refusal
 

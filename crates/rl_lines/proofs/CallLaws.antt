@@ -3,13 +3,13 @@ use Prim.Native.Nat.{ℕ, _*_, _/_, _≤_}
 use mathlib.Core.Path.{_≡_, refl, sym, ap, subst, _∙_}
 use mathlib.Core.List.{List, []}
 use native.Mathlib.Omega.{arith}
-use lib.ListN.{length, replicate, length-replicate}
+use lib.ListN.{length, replicate}
 use Rattle.rl_spec.specs.declared.Call.{Call}
 use Rattle.rl_spec.specs.declared.Counts.{Counts}
 use Rattle.rl_spec.specs.declared.Section.the-variants.{Functions}
 use Rattle.rl_spec.specs.Image.{Image, recordsOf, textOf, imageOf}
 use Rattle.rl_spec.specs.Found.{imageFound}
-use Rattle.rl_spec.specs.Records.{functionAt, callAt}
+use Rattle.rl_spec.specs.Records.{callAt}
 use Rattle.rl_spec.specs.Contracts.{calleeAmong, calleeOf}
 use Rattle.rl_spec.specs.Prove.{callEntries, violationsOf}
 use Rattle.rl_laws.specs.Found.{size-found}
@@ -30,13 +30,13 @@ module _ (s p : List ℕ) (c : Counts) (kn : Known s p c) (cs : List ℕ) (cl : 
   abbrev im : Image
   im = imageOf s
 
-  roomy : Room im (replicate 768 0)
-  roomy f = subst (λ (i : ℕ). functionAt im f .params .count * 3 ≤ i) (sym (length-replicate {A = ℕ} 768 0)) (omega (arith, parameters-within im (kn .whole) f))
+  module _ (w : List ℕ) (long : 768 ≤ length w) (n : ℕ) (l out : List ℕ) (end : ℕ) (z : l ≡ replicate n 0) (proves : ProvesCall (imageFound s p c) cs call w l 0 out end) where
+    roomy : Room im w
+    roomy f = omega (arith, long, parameters-within im (kn .whole) f)
 
-  module _ (n : ℕ) (l out : List ℕ) (end : ℕ) (z : l ≡ replicate n 0) (proves : ProvesCall (imageFound s p c) cs call (replicate 768 0) l 0 out end) where
     shown : Shown out (callEntries im call) end
     unfolding callEntries
-    shown = subst (λ (x : Image). ProvesCall x cs call (replicate 768 0) l 0 out end) (kn .found) proves (omega arith) cl roomy [] (none-shown l n z)
+    shown = subst (λ (x : Image). ProvesCall x cs call w l 0 out end) (kn .found) proves (omega arith) cl roomy [] (none-shown l n z)
 
     entries : length (callEntries im call) ≡ length (violationsOf im call) * 4
     unfolding callEntries
@@ -68,7 +68,7 @@ module _ (s p : List ℕ) (c : Counts) (kn : Known s p c) (cs : List ℕ) (cl : 
 
 -- what is known by the number that the lines have themselves
 module _ (im : Image) (call : ℕ) (lines : Lines) (e : lines ≡ linesFor im call) where
-  same-call : call ≡ lines .call
+  pub same-call : call ≡ lines .call
   unfolding linesFor
   same-call = sym (ap (λ (x : Lines). x .call) e)
 

@@ -1,11 +1,11 @@
 -- The ways out of putting a line or a message. Assumes nothing.
 use Prim.Native.Nat.{ℕ, zero, suc, _+_, _-_, _*_, _%_, _≤_, _<_}
 use mathlib.Core.Path.{_≡_, refl, sym, ap, subst, _∙_}
-use mathlib.Core.List.{List, [], _∷_, _++_}
+use mathlib.Core.List.{List, _++_}
 use mathlib.Core.Option.{some}
 use native.Mathlib.Omega.{arith}
-use lib.ListN.{length, getD, take, drop, replicate, length-replicate}
-use lib.Seq.{paste, take-length}
+use lib.ListN.{length, getD, drop, replicate, length-replicate}
+use lib.Seq.{take-length}
 use mir.Syntax.{w32}
 use mir.Val.{Fits}
 use Rattle.rl_spec.specs.declared.Cause.{Cause}
@@ -28,7 +28,7 @@ use Rattle.rl_lines.specs.Lines.{functionOr, padded, linesFor, entriesFo
 
 -- ---- a text that has room in a buffer of zeros
 
-drop-zeros : (k n : ℕ) → drop k (replicate {A = ℕ} n 0) ≡ replicate (n - k) 0
+pub drop-zeros : (k n : ℕ) → drop k (replicate {A = ℕ} n 0) ≡ replicate (n - k) 0
 drop-zeros zero n = let z : n - zero ≡ n = omega arith in rw z refl
 drop-zeros (suc k) zero = let z : zero - suc k ≡ zero = omega arith in rw z refl
 drop-zeros (suc k) (suc n) = let z : suc n - suc k ≡ n - k = omega arith in drop-zeros k n ∙ rw z refl
@@ -112,26 +112,26 @@ module _ (s p : List ℕ) (c : Counts) (kn : Known s p c) (lines : Lines) (a : l
 
   -- the report of that number
   module _ (h : number < lines .count) (v : Violation) (r : ReportAt reports number v) where
-    there : number < length (violationsOf im (lines .call))
+    pub there : number < length (violationsOf im (lines .call))
     there = omega (arith, count-is)
 
-    abbrev found : Violation
+    abbrev pub found : Violation
     found = getD (violationsOf im (lines .call)) number (Refinement 0)
 
-    found-is : v ≡ found
+    pub found-is : v ≡ found
     unfolding entriesFor callEntries
     found-is =
         r (lines .call) (callAt im (lines .call) .span) (violationsOf im (lines .call)) _ b there
         (omega (arith, numbered im (kn .whole) (lines .call) number there))
 
-    callee : calleeOf im (lines .call) ≡ some (lines .function)
+    pub callee : calleeOf im (lines .call) ≡ some (lines .function)
     unfolding linesFor
     callee =
         let f = callee-there im (lines .call) (omega (arith, there)) in
         let g : lines .function ≡ f .0 = ap (λ (x : Lines). x .function) a ∙ ap functionOr (f .1) in
         f .1 ∙ ap some (sym g)
 
-    span-is : lines .span ≡ callAt im (lines .call) .span
+    pub span-is : lines .span ≡ callAt im (lines .call) .span
     unfolding linesFor
     span-is = ap (λ (x : Lines). x .span) a
 

@@ -7,9 +7,11 @@ mod texts;
 
 pub use lines::Lines;
 pub use lines::lines_of;
+pub use lines::lines_with;
 pub use lines::put_line;
 pub use lines::put_message;
 pub use lines::put_refused;
+pub use lines::violation_at;
 pub use messages::message;
 pub use opened::open;
 pub use texts::text;

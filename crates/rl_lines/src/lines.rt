@@ -12,7 +12,7 @@ use rl_spec::Cause;
 use rl_spec::Counts;
 use rl_spec::Violation;
 ghost use mathlib.Core.Path.{_≡_};
-ghost use Prim.Native.Nat.{_<_};
+ghost use Prim.Native.Nat.{_≤_, _<_};
 ghost use lib.ListN.{length};
 ghost use Rattle.rl_spec.specs.Image.{textOf, imageOf};
 ghost use Rattle.rl_spec.specs.Printed.{refusedLine, lineAt};
@@ -39,7 +39,47 @@ fn function_of(callee: Callee) -> u16
     }
 }
 
-// Proves a call: how many lines it has, and its reports.
+// Proves a call: how many lines it has, and its reports. `names`, with room for all parameters, and `memory` are
+// scratch.
+pub fn lines_with(
+    image: &[u8],
+    starts: &[u16; 6144],
+    counts: Counts,
+    classes: &[u16; 2048],
+    call: u16,
+    names: &mut [u64],
+    memory: &mut [u64],
+    reports: &mut [u32; 2048],
+) -> Lines
+    requires { ⌜ Known (now image) (now starts) counts ⌝ }
+    requires { ⌜ Classes (textOf (imageOf (now image))) (now classes) ⌝ }
+    requires { ⌜ 768 ≤ length (now names) ⌝ }
+    ensures { λ r. ⌜ r ≡ linesFor (imageOf (now (image .entry))) call ⌝ }
+    ensures { λ r. ⌜ now (reports .exit) ≡ entriesFor (imageOf (now (image .entry))) call ⌝ }
+{
+    clear_entries(reports);
+    let end = prove_call(
+        image,
+        starts,
+        counts,
+        classes,
+        call,
+        names,
+        memory,
+        reports,
+        0,
+    );
+    let record = call_at(image, counts, call);
+    let callee = find_callee(image, counts, classes, record.callee);
+    Lines {
+        call,
+        function: function_of(callee),
+        span: record.span,
+        count: (end / 4) as u32,
+    }
+}
+
+// The same, with scratch of its own.
 pub fn lines_of(
     image: &[u8],
     starts: &[u16; 6144],
@@ -55,8 +95,7 @@ pub fn lines_of(
 {
     let mut names = [0u64; 768];
     let mut memory = [0u64; 8192];
-    clear_entries(reports);
-    let end = prove_call(
+    lines_with(
         image,
         starts,
         counts,
@@ -65,20 +104,11 @@ pub fn lines_of(
         &mut names,
         &mut memory,
         reports,
-        0,
-    );
-    let record = call_at(image, counts, call);
-    let callee = find_callee(image, counts, classes, record.callee);
-    Lines {
-        call,
-        function: function_of(callee),
-        span: record.span,
-        count: (end / 4) as u32,
-    }
+    )
 }
 
 // The violation of the report of a number.
-fn violation_at(reports: &[u32; 2048], number: u32) -> Violation
+pub fn violation_at(reports: &[u32; 2048], number: u32) -> Violation
     requires { ⌜ number < 512 ⌝ }
     ensures { λ r. ⌜ ReportAt (now (reports .entry)) number r ⌝ }
 {

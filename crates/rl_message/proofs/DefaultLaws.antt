@@ -32,27 +32,7 @@ use Rattle.rl_spec.specs.Found.{imageFound}
 use Rattle.rl_spec.specs.Mapped.{mapOperand, mapRefinement}
 use Rattle.rl_spec.specs.Message.{decimal, integerText, refineOpStr, boolText, operandStr, refinementText, defaultText}
 use Rattle.rl_text_out.specs.Put.{withText, afterText}
-use Rattle.rl_text_out.proofs.Joined.{after-nothing, with-nothing, after-after, with-with}
-
--- ---- a text, as another account of it has it; and a text after another
-
--- the place and the buffer after a text
-abbrev Puts : List ℕ → ℕ → List ℕ → List ℕ → ℕ → Type 0
-Puts out at text w r = (r ≡ afterText out at text) × (w ≡ withText out at text)
-
-module _ (out : List ℕ) (at : ℕ) where
-  pub after-as : (t u : List ℕ) (r : ℕ) → r ≡ afterText out at t → t ≡ u → r ≡ afterText out at u
-  after-as t u r e f = e ∙ ap (afterText out at) f
-
-  pub with-as : (t u w : List ℕ) → w ≡ withText out at t → t ≡ u → w ≡ withText out at u
-  with-as t u w e f = e ∙ ap (withText out at) f
-
-  puts-as : (t u w : List ℕ) (r : ℕ) → Puts out at t w r → t ≡ u → Puts out at u w r
-  puts-as t u w r h e = rw e at h
-
-  puts-then : (a b w v : List ℕ) (e r : ℕ) → Puts out at a w e → Puts w e b v r → Puts out at (a ++ b) v r
-  puts-then a b w v e r f g =
-      (g .0 ∙ rw (f .0, f .1) (after-after out at a b), g .1 ∙ rw (f .0, f .1) (with-with out at a b))
+use Rattle.rl_text_out.proofs.Joined.{after-nothing, with-nothing, Puts, puts-as, puts-then}
 
 puts-nothing : (out : List ℕ) → Puts out 0 [] out 0
 puts-nothing out = (sym (after-nothing out 0), sym (with-nothing out 0))

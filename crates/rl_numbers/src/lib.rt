@@ -28,5 +28,6 @@ pub fn number_of(cause: Cause) -> u64
         Cause::WrongValues => 19,
         Cause::NoSuchText => 20,
         Cause::BudgetOverLimit => 21,
+        Cause::PagesTooShort => 22,
     }
 }

@@ -13,6 +13,14 @@ ghost use Prim.Native.Nat.{_<_, _≤_, _+_};
 ghost use Rattle.rl_spec.specs.Found.{imageFound};
 ghost use Rattle.rl_prover.specs.Calls.{ProvesCallee, ProvesCall};
 
+// How long the memory has to be for an image: two words an expression are enough to remember what is folded.
+pub fn memory_size(counts: Counts) -> usize
+    ensures { λ r. ⌜ r ≤ 8192 ⌝ }
+{
+    let size = (counts.expressions as usize) * 2;
+    if size < 8192 { size } else { 8192 }
+}
+
 // The reports of a call by its callee f.
 fn prove_callee(
     image: &[u8],

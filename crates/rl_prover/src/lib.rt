@@ -8,4 +8,5 @@ mod violations;
 pub use callee::Callee;
 pub use callee::any_refined;
 pub use callee::find_callee;
+pub use calls::memory_size;
 pub use calls::prove_call;

@@ -15,6 +15,8 @@ use Rattle.rl_spec.specs.declared.MessageAnswer.{MessageAnswer}
 use Rattle.rl_spec.specs.declared.MessageAnswer.the-variants as message
 use Rattle.rl_spec.specs.declared.Outcome.{Outcome}
 use Rattle.rl_spec.specs.declared.Outcome.the-variants as outcome
+use Rattle.rl_spec.specs.declared.PagesAnswer.{PagesAnswer}
+use Rattle.rl_spec.specs.declared.PagesAnswer.the-variants as pages
 use Rattle.rl_spec.specs.declared.ProveAnswer.{ProveAnswer}
 use Rattle.rl_spec.specs.declared.ProveAnswer.the-variants as prove
 use Rattle.rl_spec.specs.declared.RunAnswer.{RunAnswer}
@@ -61,6 +63,11 @@ abbrev pub messagePacked : MessageAnswer → ℕ
 messagePacked (message.Message n) = n
 messagePacked (message.Refused q n) = above (numberOf q) n
 
+-- pages: how many bytes are written
+abbrev pub pagesPacked : PagesAnswer → ℕ
+pagesPacked (pages.Written n) = n
+pagesPacked (pages.Refused q n) = above (numberOf q) n
+
 -- the places of refusals
 abbrev pub provedPlace : ProveAnswer → ℕ
 provedPlace (prove.Proved n) = 0
@@ -77,6 +84,10 @@ textPlace (text.Refused q n) = n
 abbrev pub messagePlace : MessageAnswer → ℕ
 messagePlace (message.Message n) = 0
 messagePlace (message.Refused q n) = n
+
+abbrev pub pagesPlace : PagesAnswer → ℕ
+pagesPlace (pages.Written n) = 0
+pagesPlace (pages.Refused q n) = n
 
 -- ---- the two words of a folded value: its sort and its payload
 

@@ -23,11 +23,12 @@ pub mod Prove
 pub mod Statement
 pub mod Run
 pub mod Reading
--- ---- texts as bytes: messages, what the printer writes, and the functions of an image
+-- ---- texts as bytes: messages, what the printer writes, printed pages, and the functions of an image
 pub mod Mapped
 pub mod Message
 pub mod Printed
 pub mod Texts
+pub mod Pages
 pub mod Functions
 pub mod Runner
 -- ---- lowering

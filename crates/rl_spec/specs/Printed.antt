@@ -58,7 +58,7 @@ unfoldable pub linesOf : List ℕ → List (List ℕ)
 linesOf s = linesFrom s (answerOf s 8192)
 
 -- one after another
-unfoldable pub joined : List (List ℕ) → List ℕ
+unfoldable pub joined : {A : Type 0} → List (List A) → List A
 joined [] = []
 joined (line ∷ lines) = line ++ joined lines
 

@@ -6,7 +6,7 @@ use lib.ListN.{length, getD, set, replicate}
 use lib.Dec.{ltb, eqb}
 use Rattle.rl_spec.specs.declared.Counts.{Counts}
 use Rattle.rl_spec.specs.declared.Cause.{Cause}
-use Rattle.rl_spec.specs.declared.Cause.the-variants.{ImageTooLong, WorkTooShort, BytesEnd, WrongKind, CountOverLimit, BadText, BadValue, BadReference, TooHigh, BytesLeft, OtherArena, NoSuchNode, NoSuchCall, ReportsTooShort, NoSuchFunction, HeightOverLimit, OutputTooShort, LimitPassed, WrongValues, NoSuchText, BudgetOverLimit}
+use Rattle.rl_spec.specs.declared.Cause.the-variants.{ImageTooLong, WorkTooShort, BytesEnd, WrongKind, CountOverLimit, BadText, BadValue, BadReference, TooHigh, BytesLeft, OtherArena, NoSuchNode, NoSuchCall, ReportsTooShort, NoSuchFunction, HeightOverLimit, OutputTooShort, LimitPassed, WrongValues, NoSuchText, BudgetOverLimit, PagesTooShort}
 use Rattle.rl_spec.specs.declared.Answer.{Answer}
 use Rattle.rl_spec.specs.declared.Answer.the-variants.{Accepted, Refused}
 use Rattle.rl_spec.specs.declared.Section.{Section}
@@ -40,6 +40,7 @@ numberOf LimitPassed = 14
 numberOf WrongValues = 19
 numberOf NoSuchText = 20
 numberOf BudgetOverLimit = 21
+numberOf PagesTooShort = 22
 
 -- a step, and then what follows it
 abbrev pub after : {A : Type 0} → Step → (ℕ → ℕ → A) → (Cause → ℕ → A) → A

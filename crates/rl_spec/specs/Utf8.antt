@@ -1,8 +1,8 @@
--- UTF-8 by RFC 3629, twice: by the syntax of section 4 (utf8), and by the encoding of section 3 (encodeText).
-use Prim.Native.Nat.{ℕ, zero, suc, _+_, _-_, _/_, _%_}
+-- UTF-8 by RFC 3629, twice: by the syntax of section 4 (utf8), and by the encoding of section 3 (encodeText), read back by scalarsOf.
+use Prim.Native.Nat.{ℕ, zero, suc, _+_, _-_, _*_, _/_, _%_}
 use mathlib.Core.Bool.{Bool, true, false, cond, _&&_, _||_}
 use mathlib.Core.List.{List, [], _∷_, _++_}
-use lib.ListN.{length, drop}
+use lib.ListN.{length, take, drop}
 use lib.Dec.{leb, eqb}
 
 -- a range with both its ends: %x80-BF is 0x80 to 0xBF
@@ -73,3 +73,23 @@ encodeScalar c =
 unfoldable pub encodeText : List ℕ → List ℕ
 encodeText [] = []
 encodeText (c ∷ cs) = encodeScalar c ++ encodeText cs
+
+-- ---- section 3, read back: the scalars of a text
+
+-- the number of a character's octets: the bits of the first, and six of each other
+unfoldable pub scalarOf : List ℕ → ℕ
+scalarOf [] = 0
+scalarOf (a ∷ []) = a
+scalarOf (a ∷ (b ∷ [])) = (a - 0xC0) * 0x40 + (b - 0x80)
+scalarOf (a ∷ (b ∷ (c ∷ []))) = (a - 0xE0) * 0x1000 + (b - 0x80) * 0x40 + (c - 0x80)
+scalarOf (a ∷ (b ∷ (c ∷ (d ∷ s)))) = (a - 0xF0) * 0x40000 + (b - 0x80) * 0x1000 + (c - 0x80) * 0x40 + (d - 0x80)
+
+-- up to n of them, to the end or to where no character starts
+unfoldable pub scalarsBy : ℕ → List ℕ → List ℕ
+scalarsBy zero s = []
+scalarsBy (suc n) s =
+    cond (eqb (charWidth s 0) 0) [] (scalarOf (take (charWidth s 0) s) ∷ scalarsBy n (drop (charWidth s 0) s))
+
+-- all of them: no text has more scalars than octets
+unfoldable pub scalarsOf : List ℕ → List ℕ
+scalarsOf s = scalarsBy (length s) s

@@ -47,6 +47,7 @@ pub enum Cause {
     WrongValues,
     NoSuchText,
     BudgetOverLimit,
+    PagesTooShort,
 }
 
 // What the reader answers.
@@ -327,5 +328,11 @@ pub enum TextAnswer {
 // What is answered for the message of a report: its length.
 pub enum MessageAnswer {
     Message(u32),
+    Refused { cause: Cause, place: usize },
+}
+
+// What is answered for the pages: how many bytes are written.
+pub enum PagesAnswer {
+    Written(u32),
     Refused { cause: Cause, place: usize },
 }

@@ -1,11 +1,11 @@
 -- Putting a text and then another is putting both; what has no room is left out.
 -- Assumes nothing.
-use Prim.Native.Nat.{ℕ, _+_, _≤_, _<_}
+use Prim.Native.Nat.{ℕ, _+_, _≤_, _<_, min}
 use mathlib.Core.Path.{_≡_, refl, sym, ap, _∙_}
 use mathlib.Core.List.{List, [], _++_, append-assoc, append-nil}
 use native.Mathlib.Omega.{arith}
 use lib.ListN.{length, take, drop, length-append}
-use lib.Seq.{paste, paste-zero, length-paste, take-paste, drop-paste, drop-drop, take-append-add, take-append-le, take-length}
+use lib.Seq.{paste, paste-zero, length-paste, take-paste, drop-paste, drop-drop, take-append-add, take-append-le, take-length, take-all}
 use Rattle.rl_laws.specs.Tests.{by-ltb}
 use Rattle.rl_text_out.specs.Put.{fitting, withText, afterText}
 
@@ -106,10 +106,41 @@ module _ (out : List ℕ) (at : ℕ) (a b : List ℕ) where
           let h : length out ≤ at = omega arith in
           rw (with-past out at a h, after-past out at a h) (with-past out at b h ∙ sym (with-past out at (a ++ b) h))
 
--- a text that has room stands at the start
-pub room-holds : (room t w : List ℕ) (n : ℕ) → length t ≤ length room → n ≡ afterText room 0 t → w ≡ withText room 0 t → take n (drop 0 w) ≡ t
-unfolding withText afterText fitting
-room-holds room t w n h e f =
-    let g : fitting room 0 t ≡ length t = omega arith in
-    let k : n ≡ 0 + length t = omega arith in
-    rw (f, k, g) (take-paste room 0 t (length t) (omega arith) (omega arith) ∙ take-length t)
+-- the place and the buffer after a text
+abbrev pub Puts : List ℕ → ℕ → List ℕ → List ℕ → ℕ → Type 0
+Puts out at text w r = (r ≡ afterText out at text) × (w ≡ withText out at text)
+
+-- a text, as another account of it has it; and a text after another
+module _ (out : List ℕ) (at : ℕ) where
+  pub after-as : (t u : List ℕ) (r : ℕ) → r ≡ afterText out at t → t ≡ u → r ≡ afterText out at u
+  after-as t u r e f = e ∙ ap (afterText out at) f
+
+  pub with-as : (t u w : List ℕ) → w ≡ withText out at t → t ≡ u → w ≡ withText out at u
+  with-as t u w e f = e ∙ ap (withText out at) f
+
+  pub puts-as : (t u w : List ℕ) (r : ℕ) → Puts out at t w r → t ≡ u → Puts out at u w r
+  puts-as t u w r h e = rw e at h
+
+  pub puts-then : (a b w v : List ℕ) (e r : ℕ) → Puts out at a w e → Puts w e b v r → Puts out at (a ++ b) v r
+  puts-then a b w v e r f g =
+      (g .0 ∙ rw (f .0, f .1) (after-after out at a b), g .1 ∙ rw (f .0, f .1) (with-with out at a b))
+
+-- ---- from the start
+
+pub take-least : (n : ℕ) (t : List ℕ) → take (min (length t) n) t ≡ take n t
+take-least n t =
+    by-ltb (length t) n
+    (λ l. let z : min (length t) n ≡ length t = omega arith in rw z (take-length t ∙ sym (take-all n t (omega arith))))
+    (λ l. let z : min (length t) n ≡ n = omega arith in rw z refl)
+
+-- a text stands there as far as there is room, and whole where there is room for it
+module _ (room t w : List ℕ) (n : ℕ) where
+  pub room-begins : n ≡ afterText room 0 t → w ≡ withText room 0 t → take n (drop 0 w) ≡ take (length room) t
+  unfolding withText afterText fitting
+  room-begins e f =
+      let g : fitting room 0 t ≡ min (length t) (length room) = omega arith in
+      let k : n ≡ 0 + min (length t) (length room) = omega arith in
+      rw (f, k, g) (take-paste room 0 t (min (length t) (length room)) (omega arith) (omega arith) ∙ take-least (length room) t)
+
+  pub room-holds : length t ≤ length room → n ≡ afterText room 0 t → w ≡ withText room 0 t → take n (drop 0 w) ≡ t
+  room-holds h e f = room-begins e f ∙ take-all (length room) t h

@@ -11,5 +11,5 @@ pub mod Standards
 pub mod AlikeRuns
 -- ---- proved on the way
 pub mod OnTheWay
--- ---- what change requests keep of what was there before them
+-- ---- what change requests keep of what was there before them, and what they bring
 pub mod Changes

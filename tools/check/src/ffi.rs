@@ -64,6 +64,14 @@ extern "C" {
         report: u32,
         out: *mut [u8; MESSAGE],
     ) -> u64;
+    fn rl_pages(
+        image: *const u8,
+        image_len: usize,
+        work: *mut u16,
+        work_len: usize,
+        pages: *mut u8,
+        pages_len: usize,
+    ) -> u64;
 }
 
 /// The bytes that are lent for a message.
@@ -71,8 +79,8 @@ pub const MESSAGE: usize = 65_535;
 
 /// A refusal's number, 0 without one, and the low half of the answer: the
 /// refusal's place or, after proving, how many reports there are or, after
-/// lowering and for a message, how many bytes or, for a text, where its bytes
-/// start and, above 16 bits, how many they are.
+/// lowering, for a message and for pages, how many bytes or, for a text, where
+/// its bytes start and, above 16 bits, how many they are.
 #[derive(Debug, Clone, Copy, PartialEq, Eq)]
 pub struct Answer {
     pub number: u32,
@@ -184,5 +192,20 @@ pub fn message(
 ) -> Answer {
     Answer::of(unsafe {
         rl_message(image.as_ptr(), image.len(), work.as_mut_ptr(), work.len(), call, report, out)
+    })
+}
+
+/// Writes the pages of all calls' reports; `work` and `pages` are overwritten
+/// whole.
+pub fn pages(image: &[u8], work: &mut [u16], pages: &mut [u8]) -> Answer {
+    Answer::of(unsafe {
+        rl_pages(
+            image.as_ptr(),
+            image.len(),
+            work.as_mut_ptr(),
+            work.len(),
+            pages.as_mut_ptr(),
+            pages.len(),
+        )
     })
 }

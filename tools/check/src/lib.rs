@@ -8,6 +8,7 @@ pub mod slices;
 pub mod stack;
 pub mod texts;
 pub mod timing;
+pub mod tried;
 
 use ffi::Answer;
 use oracle::Report;

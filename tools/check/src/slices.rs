@@ -9,7 +9,7 @@ pub const GARBAGE_BYTE: u8 = 0xab;
 pub const GARBAGE: (u16, u32, u64) = (0xabcd, 0xabcd_ef01, 0xabcd_ef01_2345_6789);
 
 /// A slice with what stands behind it, its length, and what it was filled with.
-pub type Lent<'a, T> = (&'a Vec<T>, usize, T);
+pub type Lent<'a, T> = (&'a [T], usize, T);
 
 /// Fills a slice of that length, and what stands behind it.
 pub fn lend<T: Copy>(slice: &mut Vec<T>, length: usize, garbage: T) {
@@ -39,4 +39,12 @@ pub fn check_slice<T: Copy + PartialEq + Default + Debug>(
         return Err(format!("{name}: written behind its end"));
     }
     Ok(())
+}
+
+/// What stands in front of a slice, and must stay as it is.
+pub fn check_front<T: Copy + PartialEq>(name: &str, front: &[T], garbage: T) -> Result<(), String> {
+    match front.iter().all(|entry| *entry == garbage) {
+        true => Ok(()),
+        false => Err(format!("{name}: written in front of it")),
+    }
 }

@@ -26,7 +26,7 @@ pub struct Function {
 }
 
 /// Builds an image; nothing is checked, so refused ones can be built too.
-#[derive(Debug, Default)]
+#[derive(Debug, Clone, Default)]
 pub struct Builder {
     pub image: Image,
     interned: Option<HashMap<String, u16>>,

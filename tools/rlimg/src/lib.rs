@@ -1,6 +1,7 @@
 //! The image format: records, bytes, text form, an independent reader, folder,
-//! prover, runner and lowering, and generators of accepted and damaged images,
-//! of contracts and of functions to be run and to be lowered.
+//! prover, pages, runner and lowering, and generators of accepted and damaged
+//! images, of contracts, of reports on pages and of functions to be run and to be
+//! lowered.
 
 pub mod builder;
 pub mod code;
@@ -14,6 +15,7 @@ pub mod hostile;
 pub mod image;
 pub mod lower;
 pub mod lowerings;
+pub mod pages;
 pub mod prove;
 pub mod random;
 pub mod reader;

@@ -1,11 +1,12 @@
 //! `rlimg`: looks at images, and makes them from their text form.
 
 use rlimg::image::WORK;
-use rlimg::{decode, encode, reader, text};
+use rlimg::{decode, encode, pages, reader, text};
 use std::io::Write;
 use std::process::ExitCode;
 
-const USAGE: &str = "usage: rlimg dump IMAGE | rlimg build TEXT [-o OUT] | rlimg read IMAGE";
+const USAGE: &str =
+    "usage: rlimg dump IMAGE | rlimg build TEXT [-o OUT] | rlimg read IMAGE | rlimg pages IMAGE";
 
 fn main() -> ExitCode {
     let arguments: Vec<String> = std::env::args().skip(1).collect();
@@ -15,6 +16,7 @@ fn main() -> ExitCode {
         ["build", file] => build(file, None),
         ["build", file, "-o", out] | ["build", "-o", out, file] => build(file, Some(out)),
         ["read", file] => read(file),
+        ["pages", file] => print_pages(file),
         _ => Err(USAGE.to_string()),
     };
     match done {
@@ -64,6 +66,14 @@ fn read(file: &str) -> Result<(), String> {
         heights(&accepted.statement_heights)
     );
     print(lines.as_bytes())
+}
+
+/// The pages, by the independent prover.
+fn print_pages(file: &str) -> Result<(), String> {
+    match pages::pages(&bytes_of(file)?) {
+        Ok(pages) => print(&pages),
+        Err(refusal) => print(format!("{}\n", refused(refusal)).as_bytes()),
+    }
 }
 
 fn print(bytes: &[u8]) -> Result<(), String> {

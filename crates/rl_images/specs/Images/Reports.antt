@@ -41,14 +41,14 @@ digits-by (suc k) n =
     (λ l. rw (lt-ltb n 10 l) (omega arith))
     (λ l. rw (le-ltb n 10 l, length-append (decimalBy k (n / 10)) ((48 + n % 10) ∷ [])) (omega (arith, digits-by k (n / 10))))
 
-digits : (n : ℕ) → length (decimal n) ≤ 20
+pub digits-most : (n : ℕ) → length (decimal n) ≤ 20
 unfolding decimal
-digits n = digits-by 20 n
+digits-most n = digits-by 20 n
 
 integer-short : (x : ℤ) → length (integerText x) ≤ 21
 unfolding ascii
-integer-short (pos n) = omega (arith, digits n)
-integer-short (negsuc n) = simp length-append (omega (arith, digits (suc n)))
+integer-short (pos n) = omega (arith, digits-most n)
+integer-short (negsuc n) = simp length-append (omega (arith, digits-most (suc n)))
 
 operator-short : (o : RefineOp) → length (refineOpStr o) ≤ 2
 unfolding ascii
@@ -109,12 +109,12 @@ module _ (im : Image) (wf : WellFormed im) where
 
     pub line-short : (call span : ℕ) (v : Violation) → length (lineOf im f call span v) ≤ 65536
     unfolding lineOf lineWith opening ascii
-    line-short call span v = simp length-append (omega (arith, digits call, digits span, by-short v))
+    line-short call span v = simp length-append (omega (arith, digits-most call, digits-most span, by-short v))
 
 -- THEOREM: and the line of a refusal
 pub refused-short : (q : Cause) (place : ℕ) → length (refusedLine q place) ≤ 65536
 unfolding refusedLine ascii
-refused-short q place = simp length-append (omega (arith, digits (numberOf q), digits place))
+refused-short q place = simp length-append (omega (arith, digits-most (numberOf q), digits-most place))
 
 -- ---- the entries of a report: a call, a span, a kind and a number
 
@@ -173,7 +173,7 @@ module _ (call span : ℕ) where
 
 -- ---- a line for each report
 
-map-at : (line : Violation → List ℕ) (vs : List Violation) (i : ℕ) → i < length vs → getD (map line vs) i [] ≡ line (getD vs i (Refinement 0))
+pub map-at : (line : Violation → List ℕ) (vs : List Violation) (i : ℕ) → i < length vs → getD (map line vs) i [] ≡ line (getD vs i (Refinement 0))
 map-at line [] i l = absurd (omega arith)
 map-at line (v ∷ vs) zero l = refl
 map-at line (v ∷ vs) (suc i) l = map-at line vs i (omega arith)

@@ -9,7 +9,7 @@ use borrow.Author.Tests.{ne-eqb}
 use Rattle.rl_spec.specs.declared.Answer.{Answer}
 use Rattle.rl_spec.specs.declared.Answer.the-variants.{Accepted, Refused}
 use Rattle.rl_spec.specs.declared.Cause.{Cause}
-use Rattle.rl_spec.specs.declared.Cause.the-variants.{ImageTooLong, WorkTooShort, BytesEnd, WrongKind, CountOverLimit, BadText, BadValue, BadReference, TooHigh, BytesLeft, OtherArena, NoSuchNode, NoSuchCall, ReportsTooShort, NoSuchFunction, HeightOverLimit, OutputTooShort, LimitPassed, WrongValues, NoSuchText, BudgetOverLimit}
+use Rattle.rl_spec.specs.declared.Cause.the-variants.{ImageTooLong, WorkTooShort, BytesEnd, WrongKind, CountOverLimit, BadText, BadValue, BadReference, TooHigh, BytesLeft, OtherArena, NoSuchNode, NoSuchCall, ReportsTooShort, NoSuchFunction, HeightOverLimit, OutputTooShort, LimitPassed, WrongValues, NoSuchText, BudgetOverLimit, PagesTooShort}
 use Rattle.rl_spec.specs.Read.{Out, good, bad, numberOf, answerBy, workBy, readOf, answerOf, workOf}
 use Rattle.rl_spec.specs.Fold.{workUnless}
 
@@ -35,6 +35,7 @@ not-zero LimitPassed e = omega arith
 not-zero WrongValues e = omega arith
 not-zero NoSuchText e = omega arith
 not-zero BudgetOverLimit e = omega arith
+not-zero PagesTooShort e = omega arith
 
 -- what is refused leaves zeros
 pub zeros-unless : (q : Cause) (s : List ℕ) (k : ℕ) → replicate k 0 ≡ workUnless (numberOf q) s k

@@ -7,7 +7,7 @@ use mathlib.Core.List.{List, [], _∷_, _++_, append-assoc}
 use native.Mathlib.Omega.{arith}
 use lib.ListN.{length, take, drop}
 use lib.Dec.{T, ltb, leb}
-use borrow.Author.Tests.{ltb-true, leb-true, le-leb, lt-leb}
+use borrow.Author.Tests.{ltb-true, leb-true, le-leb, lt-leb, ne-eqb}
 use Rattle.rl_laws.specs.Tests.{by-ltb}
 use Rattle.rl_laws.specs.Within.{within-yes, within-high}
 use Rattle.rl_spec.specs.Utf8.{Range, _to_, within, utf8Tail, utf8Char, begins, widthBy, charWidth, octets, utf8, isScalar, encodeScalar, encodeText}
@@ -119,13 +119,13 @@ module _ (k l h : ℕ) (v : T (below l (take k utf8Char))) where
       ap (λ (fs : List (List Range)). widthBy fs (b ∷ t)) e ∙ row l h rs (drop (suc k) utf8Char) b t p q x (take k utf8Char) v
 
   module _ (c : ℕ) (t : List ℕ) where
-    text-one : At k (l to h ∷ []) → c ≤ 0x7F → l ≤ c → c ≤ h → utf8 (encodeScalar c ++ t) ≡ utf8 t
-    unfolding utf8 octets begins
-    text-one e a p q = rw (encode-one c a, width-row [] e c t p q refl) refl
+    width-one : At k (l to h ∷ []) → c ≤ 0x7F → l ≤ c → c ≤ h → charWidth (encodeScalar c ++ t) 0 ≡ length (encodeScalar c)
+    unfolding begins
+    width-one e a p q = rw (encode-one c a, width-row [] e c t p q refl) refl
 
-    text-two : At k (l to h ∷ utf8Tail ∷ []) → 0x80 ≤ c → c ≤ 0x7FF → l ≤ 0xC0 + c / 0x40 → 0xC0 + c / 0x40 ≤ h → utf8 (encodeScalar c ++ t) ≡ utf8 t
-    unfolding utf8 octets begins
-    text-two e a b p q =
+    width-two : At k (l to h ∷ utf8Tail ∷ []) → 0x80 ≤ c → c ≤ 0x7FF → l ≤ 0xC0 + c / 0x40 → 0xC0 + c / 0x40 ≤ h → charWidth (encodeScalar c ++ t) 0 ≡ length (encodeScalar c)
+    unfolding begins
+    width-two e a b p q =
         let y : c % 0x40 < 0x40 = omega arith in
         let u : List ℕ = (0x80 + c % 0x40) ∷ t in
         let x : begins (utf8Tail ∷ []) u ≡ true = rw (tail-in (c % 0x40) y) refl in
@@ -135,9 +135,9 @@ module _ (k l h : ℕ) (v : T (below l (take k utf8Char))) where
         ) refl
 
     module _ (m n : ℕ) where
-      text-three : At k (l to h ∷ m to n ∷ utf8Tail ∷ []) → 0x800 ≤ c → c ≤ 0xFFFF → l ≤ 0xE0 + c / 0x1000 → 0xE0 + c / 0x1000 ≤ h → m ≤ 0x80 + c / 0x40 % 0x40 → 0x80 + c / 0x40 % 0x40 ≤ n → utf8 (encodeScalar c ++ t) ≡ utf8 t
-      unfolding utf8 octets begins
-      text-three e a b p q i j =
+      width-three : At k (l to h ∷ m to n ∷ utf8Tail ∷ []) → 0x800 ≤ c → c ≤ 0xFFFF → l ≤ 0xE0 + c / 0x1000 → 0xE0 + c / 0x1000 ≤ h → m ≤ 0x80 + c / 0x40 % 0x40 → 0x80 + c / 0x40 % 0x40 ≤ n → charWidth (encodeScalar c ++ t) 0 ≡ length (encodeScalar c)
+      unfolding begins
+      width-three e a b p q i j =
           let y : c / 0x40 % 0x40 < 0x40 = omega arith in
           let z : c % 0x40 < 0x40 = omega arith in
           let u : List ℕ = (0x80 + c / 0x40 % 0x40) ∷ (0x80 + c % 0x40) ∷ t in
@@ -147,9 +147,9 @@ module _ (k l h : ℕ) (v : T (below l (take k utf8Char))) where
             width-row (m to n ∷ utf8Tail ∷ []) e (0xE0 + c / 0x1000) u p q x,
           ) refl
 
-      text-four : At k (l to h ∷ m to n ∷ utf8Tail ∷ utf8Tail ∷ []) → 0x10000 ≤ c → l ≤ 0xF0 + c / 0x40000 → 0xF0 + c / 0x40000 ≤ h → m ≤ 0x80 + c / 0x1000 % 0x40 → 0x80 + c / 0x1000 % 0x40 ≤ n → utf8 (encodeScalar c ++ t) ≡ utf8 t
-      unfolding utf8 octets begins
-      text-four e a p q i j =
+      width-four : At k (l to h ∷ m to n ∷ utf8Tail ∷ utf8Tail ∷ []) → 0x10000 ≤ c → l ≤ 0xF0 + c / 0x40000 → 0xF0 + c / 0x40000 ≤ h → m ≤ 0x80 + c / 0x1000 % 0x40 → 0x80 + c / 0x1000 % 0x40 ≤ n → charWidth (encodeScalar c ++ t) 0 ≡ length (encodeScalar c)
+      unfolding begins
+      width-four e a p q i j =
           let y : c / 0x1000 % 0x40 < 0x40 = omega arith in
           let z : c / 0x40 % 0x40 < 0x40 = omega arith in
           let w : c % 0x40 < 0x40 = omega arith in
@@ -160,22 +160,47 @@ module _ (k l h : ℕ) (v : T (below l (take k utf8Char))) where
             width-row (m to n ∷ utf8Tail ∷ utf8Tail ∷ []) e (0xF0 + c / 0x40000) u p q x,
           ) refl
 
--- a text goes on after a scalar's octets
-pub utf8-scalar : (c : ℕ) (t : List ℕ) → isScalar c ≡ true → utf8 (encodeScalar c ++ t) ≡ utf8 t
+-- a scalar's octets are a character
+pub width-scalar : (c : ℕ) (t : List ℕ) → isScalar c ≡ true → charWidth (encodeScalar c ++ t) 0 ≡ length (encodeScalar c)
 unfolding utf8Char
-utf8-scalar c t s =
+width-scalar c t s =
     scalar-cases c s
     (λ p.
-    by-ltb c 0x80 (λ x. text-one 0 0 0x7F tt c t refl (omega arith) (omega arith) (omega arith)) λ a.
-    by-ltb c 0x800 (λ x. text-two 1 0xC2 0xDF tt c t refl a (omega arith) (omega arith) (omega arith)) λ b.
-    by-ltb c 0x1000 (λ x. text-three 2 0xE0 0xE0 tt c t 0xA0 0xBF refl b (omega arith) (omega arith) (omega arith) (omega arith) (omega arith)) λ d.
-    by-ltb c 0xD000 (λ x. text-three 3 0xE1 0xEC tt c t 0x80 0xBF refl b (omega arith) (omega arith) (omega arith) (omega arith) (omega arith)) λ f.
-    text-three 4 0xED 0xED tt c t 0x80 0x9F refl b (omega arith) (omega arith) (omega arith) (omega arith) (omega arith))
+    by-ltb c 0x80 (λ x. width-one 0 0 0x7F tt c t refl (omega arith) (omega arith) (omega arith)) λ a.
+    by-ltb c 0x800 (λ x. width-two 1 0xC2 0xDF tt c t refl a (omega arith) (omega arith) (omega arith)) λ b.
+    by-ltb c 0x1000 (λ x. width-three 2 0xE0 0xE0 tt c t 0xA0 0xBF refl b (omega arith) (omega arith) (omega arith) (omega arith) (omega arith)) λ d.
+    by-ltb c 0xD000 (λ x. width-three 3 0xE1 0xEC tt c t 0x80 0xBF refl b (omega arith) (omega arith) (omega arith) (omega arith) (omega arith)) λ f.
+    width-three 4 0xED 0xED tt c t 0x80 0x9F refl b (omega arith) (omega arith) (omega arith) (omega arith) (omega arith))
     (λ p q.
-    by-ltb c 0x10000 (λ x. text-three 5 0xEE 0xEF tt c t 0x80 0xBF refl (omega arith) (omega arith) (omega arith) (omega arith) (omega arith) (omega arith)) λ a.
-    by-ltb c 0x40000 (λ x. text-four 6 0xF0 0xF0 tt c t 0x90 0xBF refl a (omega arith) (omega arith) (omega arith) (omega arith)) λ b.
-    by-ltb c 0x100000 (λ x. text-four 7 0xF1 0xF3 tt c t 0x80 0xBF refl a (omega arith) (omega arith) (omega arith) (omega arith)) λ d.
-    text-four 8 0xF4 0xF4 tt c t 0x80 0x8F refl a (omega arith) (omega arith) (omega arith) (omega arith))
+    by-ltb c 0x10000 (λ x. width-three 5 0xEE 0xEF tt c t 0x80 0xBF refl (omega arith) (omega arith) (omega arith) (omega arith) (omega arith) (omega arith)) λ a.
+    by-ltb c 0x40000 (λ x. width-four 6 0xF0 0xF0 tt c t 0x90 0xBF refl a (omega arith) (omega arith) (omega arith) (omega arith)) λ b.
+    by-ltb c 0x100000 (λ x. width-four 7 0xF1 0xF3 tt c t 0x80 0xBF refl a (omega arith) (omega arith) (omega arith) (omega arith)) λ d.
+    width-four 8 0xF4 0xF4 tt c t 0x80 0x8F refl a (omega arith) (omega arith) (omega arith) (omega arith))
+
+-- a text goes on after the octets of a character
+octets-after : (r t : List ℕ) → octets (length r) (r ++ t) ≡ octets 0 t
+unfolding octets
+octets-after [] t = refl
+octets-after (b ∷ r) t = octets-after r t
+
+character-after : (o t : List ℕ) → charWidth (o ++ t) 0 ≡ length o → (length o ≡ 0 → ⊥) → utf8 (o ++ t) ≡ utf8 t
+unfolding utf8 octets
+character-after [] t w h = absurd (h refl)
+character-after (b ∷ r) t w h =
+    let z : suc (length r) - 1 ≡ length r = omega arith in
+    rw (w, ne-eqb (suc (length r)) 0 (λ e. h e), z) (octets-after r t)
+
+pub some-octets : (c : ℕ) → 0 < length (encodeScalar c)
+unfolding encodeScalar
+some-octets c =
+    by-ltb c 0x80 (λ x. rw (le-leb c 0x7F (omega arith)) (omega arith)) λ x.
+    by-ltb c 0x800 (λ y. rw (lt-leb c 0x7F x, le-leb c 0x7FF (omega arith)) (omega arith)) λ y.
+    by-ltb c 0x10000
+    (λ z. rw (lt-leb c 0x7F x, lt-leb c 0x7FF y, le-leb c 0xFFFF (omega arith)) (omega arith))
+    (λ z. rw (lt-leb c 0x7F x, lt-leb c 0x7FF y, lt-leb c 0xFFFF z) (omega arith))
+
+pub utf8-scalar : (c : ℕ) (t : List ℕ) → isScalar c ≡ true → utf8 (encodeScalar c ++ t) ≡ utf8 t
+utf8-scalar c t s = character-after (encodeScalar c) t (width-scalar c t s) (λ e. omega (arith, some-octets c))
 
 -- and after the octets of scalars
 pub utf8-text : (cs : List ℕ) (t : List ℕ) → All isScalar cs → utf8 (encodeText cs ++ t) ≡ utf8 t
@@ -216,7 +241,7 @@ octet base l h rs (b ∷ t) a e f =
     f (b - base) t (ap (λ (n : ℕ). n ∷ t) w) (omega arith) (omega arith) q
 
 -- a scalar's octets stand at the front
-Starts : List ℕ → Type 0
+unfoldable pub Starts : List ℕ → Type 0
 Starts s = (c : ℕ) × (t : List ℕ) × (isScalar c ≡ true) × (encodeScalar c ++ t ≡ s) × (length t < length s)
 
 abbrev Between : ℕ → ℕ → ℕ → Type 0
@@ -276,7 +301,7 @@ module _ (s : List ℕ) where
           rw (d, g, o, o′) (omega arith),
         )
 
-  starts : (charWidth s 0 ≡ 0 → ⊥) → Starts s
+  pub starts : (charWidth s 0 ≡ 0 → ⊥) → Starts s
   unfolding charWidth utf8Char
   starts h =
       found s utf8Char h (

@@ -28,7 +28,7 @@ call-length : (im : Image) (call : ℕ) → length (callEntries im call) ≡ 4 *
 unfolding callEntries
 call-length im call = omega (arith, entries-length call (callAt im call .span) (violationsOf im call))
 
-all-length : (im : Image) (n i : ℕ) → length (allEntries im n i) ≡ 4 * reportsFrom im n i
+pub all-length : (im : Image) (n i : ℕ) → length (allEntries im n i) ≡ 4 * reportsFrom im n i
 unfolding allEntries reportsFrom
 all-length im zero i = refl
 all-length im (suc n) i =

@@ -11,7 +11,9 @@ use Rattle.rl_spec.specs.declared.Folded.{Folded}
 use Rattle.rl_spec.specs.declared.FoldAnswer.the-variants as fold
 use Rattle.rl_spec.specs.declared.LowerAnswer.the-variants as lower
 use Rattle.rl_spec.specs.declared.MessageAnswer.the-variants as message
+use Rattle.rl_spec.specs.declared.PagesAnswer.the-variants as pages
 use Rattle.rl_spec.specs.declared.ProveAnswer.the-variants as prove
+use Rattle.rl_spec.specs.declared.Section.the-variants.{Calls}
 use Rattle.rl_spec.specs.declared.Arguments.{Arguments}
 use Rattle.rl_spec.specs.declared.Outcome.{Outcome}
 use Rattle.rl_spec.specs.declared.RunAnswer.the-variants as run
@@ -22,12 +24,15 @@ use Rattle.rl_spec.specs.Image.{Image, encode, imageOf}
 use Rattle.rl_spec.specs.Fold.{foldOf, foldNumber, workUnless}
 use Rattle.rl_spec.specs.Prove.{callEntries, allEntries, proveOf, reportsOf, proveAllOf, allReportsOf, proveNumber}
 use Rattle.rl_spec.specs.Texts.{textFor, textNumber, messageAt, messageAnswer, messageBytes, messageOut, messageNumber}
+use Rattle.rl_spec.specs.Pages.{pagesOf, pagesAnswer, pagesSlice, pagesOut, pagesNumber}
 use Rattle.rl_spec.specs.Lowerer.{made, refused, lowerOf, lowerNumber, lowerOut}
 use Rattle.rl_spec.specs.Runner.{runOf, runNumber}
 use Rattle.rl_spec.specs.Words.{sortWordOf, payloadWordOf}
-use Rattle.rl_spec.specs.Boundary.{provePacked, lowerPacked, foldPacked, foldWords, outcomeWords, runPacked, runWords, textPacked, messagePacked}
+use Rattle.rl_spec.specs.Boundary.{provePacked, lowerPacked, foldPacked, foldWords, outcomeWords, runPacked, runWords, textPacked, messagePacked, pagesPacked}
 use Rattle.rl_images.specs.Reading.Refusals.{zeros-unless}
+use Rattle.rl_images.specs.Reading.Starts.{section-size}
 use Rattle.rl_theorems.specs.Answers.OfTexts.{message-accepts}
+use Rattle.rl_theorems.specs.Answers.OfPages.{pages-accepts}
 
 module _ (s : List ℕ) (k : ℕ) where
   -- folding: the work slice and the value's two words
@@ -92,6 +97,25 @@ module _ (s : List ℕ) (k : ℕ) where
     unfolding messageOut
     message-leaves l e = (rw e refl, ap (messageBytes s call n) (e ∙ ap message.Message (sym (bytes-of l e))))
 
+  -- pages: the work slice and the page slice
+  module _ (room : ℕ) where
+    pub pages-zero : (q : Cause) (p : ℕ) → pagesAnswer s k room ≡ pages.Refused q p →
+        (workUnless (pagesNumber (pagesAnswer s k room)) s k ≡ replicate k 0) × (pagesOut s k room ≡ replicate room 0)
+    unfolding pagesOut
+    pages-zero q p e = (rw e (sym (zeros-unless q s k)), ap (pagesSlice s room) e)
+
+    abbrev bytes : List ℕ
+    bytes = pagesOf (imageOf s) (countsOf s .calls)
+
+    written : (n : ℕ) → pagesAnswer s k room ≡ pages.Written n → length bytes ≡ n
+    written n e = rw (← section-size s Calls) (pages-accepts s k room n .0 e .1)
+
+    pub pages-leaves : (n : ℕ) → pagesAnswer s k room ≡ pages.Written n →
+        (workUnless (pagesNumber (pagesAnswer s k room)) s k ≡ workOf s k)
+        × (pagesOut s k room ≡ bytes ++ replicate (room - length bytes) 0)
+    unfolding pagesOut
+    pages-leaves n e = (rw e refl, ap (pagesSlice s room) (e ∙ ap pages.Written (sym (written n e))))
+
   -- lowering: the work slice and the output slice
   module _ (f room : ℕ) where
     pub lower-zero : (q : Cause) (p : ℕ) → lowerOf s k f room ≡ refused q p →
@@ -122,9 +146,10 @@ module _ (q : Cause) (p : ℕ) where
       × (lowerPacked (lower.Refused q p) ≡ packed (read.Refused q p))
       × (textPacked (text.Refused q p) ≡ packed (read.Refused q p))
       × (messagePacked (message.Refused q p) ≡ packed (read.Refused q p))
-  refusals-packed = (refl, refl, refl, refl, refl, refl)
+      × (pagesPacked (pages.Refused q p) ≡ packed (read.Refused q p))
+  refusals-packed = (refl, refl, refl, refl, refl, refl, refl)
 
 pub answers-packed : (v : Folded) (o : Outcome) (n : ℕ) (part : TextPart) → (foldPacked (fold.Found v) ≡ 0) × (runPacked (run.Ran o n) ≡ 0)
     × (provePacked (prove.Proved n) ≡ n) × (lowerPacked (lower.Lowered n) ≡ n) × (messagePacked (message.Message n) ≡ n)
-    × (textPacked (text.Found part) ≡ part .start + part .length * 2 ^ 16)
-answers-packed v o n part = (refl, refl, refl, refl, refl, refl)
+    × (pagesPacked (pages.Written n) ≡ n) × (textPacked (text.Found part) ≡ part .start + part .length * 2 ^ 16)
+answers-packed v o n part = (refl, refl, refl, refl, refl, refl, refl)

@@ -1,5 +1,5 @@
--- THE TABLES of lowering, folding, proving, texts, messages and running, in order; each cause with its place, which is 0, and what it says of
--- the image that the bytes stand for.
+-- THE TABLES of lowering, folding, proving, texts, messages, pages and running, in order; each cause with its place, which is 0, and what
+-- it says of the image that the bytes stand for.
 use Prim.Native.Nat.{ℕ, zero, suc, _+_, _*_, _≤_, _<_}
 use mathlib.Core.Path.{_≡_}
 use mathlib.Core.List.{List, [], _∷_, _++_}
@@ -7,7 +7,7 @@ use mathlib.Core.Logic.{_⊎_, _≢_}
 use mathlib.Core.Option.{some}
 use lib.ListN.{length, getD}
 use Rattle.rl_spec.specs.declared.Id.{Id}
-use Rattle.rl_spec.specs.declared.Cause.the-variants.{NoSuchFunction, HeightOverLimit, OutputTooShort, LimitPassed, OtherArena, NoSuchNode, NoSuchCall, ReportsTooShort, WrongValues, NoSuchText, BudgetOverLimit}
+use Rattle.rl_spec.specs.declared.Cause.the-variants.{NoSuchFunction, HeightOverLimit, OutputTooShort, LimitPassed, OtherArena, NoSuchNode, NoSuchCall, ReportsTooShort, WrongValues, NoSuchText, BudgetOverLimit, PagesTooShort}
 use Rattle.rl_spec.specs.declared.Section.{Section}
 use Rattle.rl_spec.specs.declared.Section.the-variants.{Texts, Expressions, Statements, Functions, Calls}
 use Rattle.rl_spec.specs.declared.ConstVal.the-variants.{Str}
@@ -18,6 +18,7 @@ use Rattle.rl_spec.specs.declared.Arguments.{Arguments}
 use Rattle.rl_spec.specs.Image.{Image, sizeOf, heights, encode}
 use Rattle.rl_spec.specs.Records.{functionAt}
 use Rattle.rl_spec.specs.Prove.{violationsOf}
+use Rattle.rl_spec.specs.Pages.{pagesOf}
 use Rattle.rl_spec.specs.Make.{most, mostBytes}
 use Rattle.rl_spec.specs.Lower.{unlimited}
 use Rattle.rl_spec.specs.Runner.{given, contentOf}
@@ -73,6 +74,11 @@ textRows im t = row NoSuchText 0 (sizeOf im Texts ≤ t) ∷ []
 
 abbrev pub messageRows : Image → ℕ → List Row
 messageRows im call = row NoSuchCall 0 (sizeOf im Calls ≤ call) ∷ []
+
+-- ---- pages of the reports of all calls, into a slice of so many bytes: 22
+
+abbrev pub pagesRows : Image → ℕ → List Row
+pagesRows im room = row PagesTooShort 0 (room < length (pagesOf im (sizeOf im Calls))) ∷ []
 
 -- ---- running the function f on values, with a budget
 

@@ -26,6 +26,7 @@ use Rattle.rl_spec.specs.declared.LowerAnswer.the-variants as lower
 use Rattle.rl_spec.specs.declared.MessageAnswer.the-variants as message
 use Rattle.rl_spec.specs.declared.Outcome.the-variants.{Returned, Stopped, Fault, Spent}
 use Rattle.rl_spec.specs.declared.Outcome.{Outcome}
+use Rattle.rl_spec.specs.declared.PagesAnswer.the-variants as pages
 use Rattle.rl_spec.specs.declared.Plain.the-variants.{Const}
 use Rattle.rl_spec.specs.declared.ProveAnswer.the-variants as prove
 use Rattle.rl_spec.specs.declared.ProveAnswer.the-variants.{Proved}
@@ -50,11 +51,12 @@ use Rattle.rl_spec.specs.Fold.{constEval, foldOf, foldNumber, workUnless}
 use Rattle.rl_spec.specs.Prove.{callEntries, allEntries, proveOf, reportsOf, proveAllOf, allReportsOf, proveNumber, violationsOf}
 use Rattle.rl_spec.specs.Printed.{lineAt}
 use Rattle.rl_spec.specs.Texts.{textPart, textFor, textNumber, messageAt, messageAnswer, messageOut, messageNumber}
+use Rattle.rl_spec.specs.Pages.{pagesOf, pagesAnswer, pagesOut, pagesNumber}
 use Rattle.rl_spec.specs.Lower.{lowered, unlimited}
 use Rattle.rl_spec.specs.Lowerer.{made, refused, lowerOf, lowerAnswer, lowerNumber, lowerOut}
 use Rattle.rl_spec.specs.Runner.{given, ranIn, runOf, runNumber}
 use Rattle.rl_spec.specs.Words.{sortWordOf, payloadWordOf}
-use Rattle.rl_spec.specs.Boundary.{provePacked, lowerPacked, idOf, foldPacked, foldWords, areValues, countOfWords, argumentsOf, outcomeWords, runPacked, runWords, textPacked, messagePacked}
+use Rattle.rl_spec.specs.Boundary.{provePacked, lowerPacked, idOf, foldPacked, foldWords, areValues, countOfWords, argumentsOf, outcomeWords, runPacked, runWords, textPacked, messagePacked, pagesPacked}
 use Rattle.rl_laws.specs.Heights.{exprHeight}
 use Rattle.rl_images.specs.Encoding.Accepted as Well
 use Rattle.rl_images.specs.Encoding.Encoded as Encoded
@@ -73,12 +75,13 @@ use Rattle.rl_examples.specs.NumberTable as NumberTable
 use Rattle.rl_examples.specs.PrinterExamples as PrinterExamples
 use Rattle.rl_theorems.specs.Answers.OfFolding as OfFolding
 use Rattle.rl_theorems.specs.Answers.OfLimits as OfLimits
+use Rattle.rl_theorems.specs.Answers.OfPages as OfPages
 use Rattle.rl_theorems.specs.Answers.OfProving as OfProving
 use Rattle.rl_theorems.specs.Answers.OfRunning as OfRunning
 use Rattle.rl_theorems.specs.Answers.OfTexts as OfTexts
 use Rattle.rl_theorems.specs.Answers.OfWords as OfWords
 use Rattle.rl_theorems.specs.Answers.Outputs as Outputs
-use Rattle.rl_theorems.specs.Answers.Tables.{lowerRows, foldRows, proveRows, reportsFrom, proveAllRows, textRows, messageRows, runRows}
+use Rattle.rl_theorems.specs.Answers.Tables.{lowerRows, foldRows, proveRows, reportsFrom, proveAllRows, textRows, messageRows, pagesRows, runRows}
 use Rattle.rl_theorems.specs.Images.FunctionReady.{Under}
 use Rattle.rl_theorems.specs.Lowering.LimitPassed as LimitPassed
 use Rattle.rl_theorems.specs.Reading.EncodedBytes as EncodedBytes
@@ -87,7 +90,7 @@ use Rattle.rl_theorems.specs.Reading.Numbers as Numbers
 -- ---- CHECKS RUN IN THE TABLE'S ORDER. A table is a list of rows: a cause, its place, and what it says (Table). `First t q p`: the first
 -- row of t that holds is the cause q at p. `Unmet t`: none holds. The reader's table is in Rows, the others in Tables; each stands behind
 -- the reader's. Every refusal is for the first cause that holds, and every other answer is given where none does (ReadOutcome, OfLimits,
--- OfFolding, OfProving, OfTexts, OfRunning)
+-- OfFolding, OfProving, OfTexts, OfPages, OfRunning)
 
 module _ (s : List ℕ) (k : ℕ) where
   -- 1 to 10
@@ -144,6 +147,13 @@ module _ (s : List ℕ) (k : ℕ) where
   pub message-accepts : (call n l : ℕ) → (messageAnswer s k call n ≡ message.Message l) ↔ (Unmet (readRows s k ++ messageRows (imageOf s) call) × (length (messageAt (imageOf s) call n) ≡ l))
   message-accepts = OfTexts.message-accepts s k
 
+  -- pages of the reports of all calls: 22
+  pub pages-refuses : (room : ℕ) (q : Cause) (p : ℕ) → (pagesAnswer s k room ≡ pages.Refused q p) ↔ First (readRows s k ++ pagesRows (imageOf s) room) q p
+  pages-refuses = OfPages.pages-refuses s k
+
+  pub pages-accepts : (room n : ℕ) → (pagesAnswer s k room ≡ pages.Written n) ↔ (Unmet (readRows s k ++ pagesRows (imageOf s) room) × (length (pagesOf (imageOf s) (sizeOf (imageOf s) Calls)) ≡ n))
+  pages-accepts = OfPages.pages-accepts s k
+
   -- 11, 19, 20, 21
   pub run-refuses : (f : ℕ) (args : Arguments) (budget : ℕ) (q : Cause) (p : ℕ) → (runOf s k f args budget ≡ run.Refused q p) ↔ First (readRows s k ++ runRows (imageOf s) f args budget) q p
   run-refuses = OfRunning.run-refuses s k
@@ -199,6 +209,12 @@ module _ (s : List ℕ) (k : ℕ) where
   pub message-leaves : (call n l : ℕ) → messageAnswer s k call n ≡ message.Message l → (workUnless (messageNumber (messageAnswer s k call n)) s k ≡ workOf s k) × (messageOut s k call n ≡ messageAt (imageOf s) call n ++ replicate (65535 - length (messageAt (imageOf s) call n)) 0)
   message-leaves = Outputs.message-leaves s k
 
+  pub pages-zero : (room : ℕ) (q : Cause) (p : ℕ) → pagesAnswer s k room ≡ pages.Refused q p → (workUnless (pagesNumber (pagesAnswer s k room)) s k ≡ replicate k 0) × (pagesOut s k room ≡ replicate room 0)
+  pages-zero = Outputs.pages-zero s k
+
+  pub pages-leaves : (room n : ℕ) → pagesAnswer s k room ≡ pages.Written n → (workUnless (pagesNumber (pagesAnswer s k room)) s k ≡ workOf s k) × (pagesOut s k room ≡ pagesOf (imageOf s) (countsOf s .calls) ++ replicate (room - length (pagesOf (imageOf s) (countsOf s .calls))) 0)
+  pages-leaves = Outputs.pages-leaves s k
+
   pub lower-zero : (f room : ℕ) (q : Cause) (p : ℕ) → lowerOf s k f room ≡ refused q p → (workUnless (lowerNumber (lowerOf s k f room)) s k ≡ replicate k 0) × (lowerOut room (lowerOf s k f room) ≡ replicate room 0)
   lower-zero = Outputs.lower-zero s k
 
@@ -212,17 +228,17 @@ module _ (s : List ℕ) (k : ℕ) where
   run-leaves = Outputs.run-leaves s k
 
 -- the numbers of the causes are those of 01's table; in one word the number stands above the place's 32 bits (NumberTable)
-pub numbers-so : map numberOf NumberTable.causes ≡ 1 ∷ 2 ∷ 3 ∷ 4 ∷ 5 ∷ 6 ∷ 7 ∷ 8 ∷ 9 ∷ 10 ∷ 11 ∷ 12 ∷ 13 ∷ 14 ∷ 15 ∷ 16 ∷ 17 ∷ 18 ∷ 19 ∷ 20 ∷ 21 ∷ []
+pub numbers-so : map numberOf NumberTable.causes ≡ 1 ∷ 2 ∷ 3 ∷ 4 ∷ 5 ∷ 6 ∷ 7 ∷ 8 ∷ 9 ∷ 10 ∷ 11 ∷ 12 ∷ 13 ∷ 14 ∷ 15 ∷ 16 ∷ 17 ∷ 18 ∷ 19 ∷ 20 ∷ 21 ∷ 22 ∷ []
 numbers-so = NumberTable.numbers-so
 
 pub packed-so : packed (Refused BadText 300) ≡ 25769804076
 packed-so = NumberTable.packed-so
 
 -- in one word: a refusal's is the same of all entry points, and any other is what is answered (Outputs)
-pub refusals-packed : (q : Cause) (p : ℕ) → (foldPacked (fold.Refused q p) ≡ packed (Refused q p)) × (runPacked (run.Refused q p) ≡ packed (Refused q p)) × (provePacked (prove.Refused q p) ≡ packed (Refused q p)) × (lowerPacked (lower.Refused q p) ≡ packed (Refused q p)) × (textPacked (text.Refused q p) ≡ packed (Refused q p)) × (messagePacked (message.Refused q p) ≡ packed (Refused q p))
+pub refusals-packed : (q : Cause) (p : ℕ) → (foldPacked (fold.Refused q p) ≡ packed (Refused q p)) × (runPacked (run.Refused q p) ≡ packed (Refused q p)) × (provePacked (prove.Refused q p) ≡ packed (Refused q p)) × (lowerPacked (lower.Refused q p) ≡ packed (Refused q p)) × (textPacked (text.Refused q p) ≡ packed (Refused q p)) × (messagePacked (message.Refused q p) ≡ packed (Refused q p)) × (pagesPacked (pages.Refused q p) ≡ packed (Refused q p))
 refusals-packed = Outputs.refusals-packed
 
-pub answers-packed : (v : Folded) (o : Outcome) (n : ℕ) (part : TextPart) → (foldPacked (fold.Found v) ≡ 0) × (runPacked (run.Ran o n) ≡ 0) × (provePacked (prove.Proved n) ≡ n) × (lowerPacked (lower.Lowered n) ≡ n) × (messagePacked (message.Message n) ≡ n) × (textPacked (text.Found part) ≡ part .start + part .length * 2 ^ 16)
+pub answers-packed : (v : Folded) (o : Outcome) (n : ℕ) (part : TextPart) → (foldPacked (fold.Found v) ≡ 0) × (runPacked (run.Ran o n) ≡ 0) × (provePacked (prove.Proved n) ≡ n) × (lowerPacked (lower.Lowered n) ≡ n) × (messagePacked (message.Message n) ≡ n) × (pagesPacked (pages.Written n) ≡ n) × (textPacked (text.Found part) ≡ part .start + part .length * 2 ^ 16)
 answers-packed = Outputs.answers-packed
 
 -- ---- what C and Rust get, closed: words taken for values, and words that are none; runs, folds, texts, messages and lines by number (BoundaryTable)
@@ -260,8 +276,8 @@ folds-so = BoundaryTable.folds-so
 
 pub refused-so : foldPacked (foldOf BoundaryTable.cut 8192 (idOf 1 1)) ∷ runPacked (runOf BoundaryTable.cut 8192 0 (argumentsOf (1 ∷ 7 ∷ [])) 9) ∷ provePacked (proveOf BoundaryTable.cut 8192 0 4)
     ∷ provePacked (proveAllOf BoundaryTable.cut 8192 8) ∷ lowerPacked (lowerAnswer (lowerOf BoundaryTable.cut 8192 0 65535)) ∷ textPacked (textFor BoundaryTable.cut 8192 0)
-    ∷ messagePacked (messageAnswer BoundaryTable.cut 8192 0 0) ∷ foldWords (foldOf BoundaryTable.cut 8192 (idOf 1 1)) ++ runWords (runOf BoundaryTable.cut 8192 0 (argumentsOf (1 ∷ 7 ∷ [])) 9)
-    ≡ replicate 7 42949673173 ++ replicate 6 0
+    ∷ messagePacked (messageAnswer BoundaryTable.cut 8192 0 0) ∷ pagesPacked (pagesAnswer BoundaryTable.cut 8192 0) ∷ foldWords (foldOf BoundaryTable.cut 8192 (idOf 1 1)) ++ runWords (runOf BoundaryTable.cut 8192 0 (argumentsOf (1 ∷ 7 ∷ [])) 9)
+    ≡ replicate 8 42949673173 ++ replicate 6 0
 refused-so = BoundaryTable.refused-so
 
 pub answered-so : provePacked (proveOf (encode MarkedImages.flow) 8192 1 4) ∷ provePacked (proveAllOf (encode MarkedImages.flow) 8192 8) ∷ provePacked (proveAllOf (encode MarkedImages.flow) 8192 7)

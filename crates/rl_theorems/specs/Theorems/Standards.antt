@@ -18,7 +18,7 @@ use Rattle.rl_spec.specs.declared.Answer.the-variants.{Accepted, Refused}
 use Rattle.rl_spec.specs.declared.ArenaNo.{ArenaNo}
 use Rattle.rl_spec.specs.declared.Cause.{Cause}
 use Rattle.rl_spec.specs.declared.Counts.{Counts}
-use Rattle.rl_spec.specs.Utf8.{utf8, isScalar, encodeText}
+use Rattle.rl_spec.specs.Utf8.{utf8, isScalar, encodeText, scalarsOf}
 use Rattle.rl_spec.specs.Read.{answerOf}
 use Rattle.rl_spec.specs.Image.{Image, textOf, pair, encode, imageOf, WellFormed}
 use Rattle.rl_spec.specs.Tree.{ascii}
@@ -35,8 +35,10 @@ use Rattle.rl_spec.specs.Functions.{plainFunction, contractFunction}
 use Rattle.rl_spec.specs.Runner.{valueSort, valuePayload}
 use Rattle.rl_spec.specs.Values.{int}
 use Rattle.rl_images.specs.Images.Reports as Reports
+use Rattle.rl_images.specs.Reading.Scalars as Scalars
 use Rattle.rl_images.specs.Reading.Utf8 as Utf8
 use Rattle.rl_examples.specs.CallTable as CallTable
+use Rattle.rl_examples.specs.ColumnExamples as ColumnExamples
 use Rattle.rl_examples.specs.ContractRows as ContractRows
 use Rattle.rl_examples.specs.CopyExamples as CopyExamples
 use Rattle.rl_examples.specs.DemandExamples as DemandExamples
@@ -66,6 +68,13 @@ encoded-is-utf8 = Utf8.encoded-is-utf8
 pub utf8-is-encoded : (s : List ℕ) → utf8 s ≡ true → (cs : List ℕ) × (Utf8.All isScalar cs × (encodeText cs ≡ s))
 utf8-is-encoded = Utf8.utf8-is-encoded
 
+-- reading scalars back undoes encoding them, and encoding the scalars of UTF-8 undoes reading them (Scalars)
+pub scalars-encoded : (cs : List ℕ) → Utf8.All isScalar cs → scalarsOf (encodeText cs) ≡ cs
+scalars-encoded = Scalars.scalars-encoded
+
+pub encoded-scalars : (s : List ℕ) → utf8 s ≡ true → encodeText (scalarsOf s) ≡ s
+encoded-scalars = Scalars.encoded-scalars
+
 -- ---- a whole number of 64 bits beside a float becomes a binary64 value, and none is nearer (Nearest). apart i x / den x is the distance
 -- between i and x
 
@@ -91,6 +100,13 @@ judged-so = Utf8Examples.judged-so
 
 pub scalars-so : map isScalar (0 ∷ 0xD7FF ∷ 0xD800 ∷ 0xDFFF ∷ 0xE000 ∷ 0x10FFFF ∷ 0x110000 ∷ []) ≡ true ∷ true ∷ false ∷ false ∷ true ∷ true ∷ false ∷ []
 scalars-so = Utf8Examples.scalars-so
+
+-- the scalars of octets, from both ends of each line of UTF8-char, and up to where no character starts (ColumnExamples)
+pub read-back-so : map (λ (r : List ℕ × List ℕ). scalarsOf (r .0)) ColumnExamples.scalars ≡ map (λ (r : List ℕ × List ℕ). r .1) ColumnExamples.scalars
+read-back-so = ColumnExamples.read-back-so
+
+pub encodings-back : map (λ (r : List ℕ × List ℕ). scalarsOf (r .1)) Utf8Examples.encodings ≡ map (λ (r : List ℕ × List ℕ). r .0) Utf8Examples.encodings
+encodings-back = ColumnExamples.encodings-back
 
 -- ---- floats and operators, closed (NodeRows says what a row is: nodes, what the last one folds to, and what its run comes to)
 

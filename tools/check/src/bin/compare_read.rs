@@ -2,13 +2,12 @@
 //! independent reader, on answers and on every entry of the work slice.
 
 use check::ffi::{self, Answer};
-use rlimg::damage::{damage, edge_values, overwrite, work_length, NOT_UTF8};
-use rlimg::encode::{encode, places};
-use rlimg::image::{Image, LIMITS, WORK};
-use rlimg::random::{self, Shape};
+use check::tried;
+use rlimg::builder::Builder;
+use rlimg::damage::{damage, work_length, NOT_UTF8};
+use rlimg::encode::encode;
+use rlimg::image::WORK;
 use rlimg::rng::Rng;
-use rlimg::schema::ROWS;
-use rlimg::{builder::Builder, edges};
 use std::ops::RangeInclusive;
 use std::process::ExitCode;
 
@@ -71,19 +70,7 @@ impl Comparison {
 
     /// Images at the limits, and one past them.
     fn limits(&mut self) -> Result<(), Differs> {
-        let mut images: Vec<Vec<u8>> = Vec::new();
-        for (position, limit) in LIMITS.into_iter().enumerate() {
-            images.extend([0, 1].map(|over| encode(&edges::with_count(position, limit + over))));
-        }
-        images.extend((67..76).map(|height| encode(&edges::expression_chain(height))));
-        images.extend((35..44).map(|height| encode(&edges::statement_chain(height))));
-        let largest = encode(&edges::largest());
-        images.push(largest[..65_534].to_vec());
-        images.push([&largest[..], &[0]].concat());
-        images.push(largest);
-        images.extend([vec![0; 65_535], vec![]]);
-        images.extend((65_536..65_544).map(|length| vec![1; length]));
-        for image in images {
+        for image in tried::limits() {
             for work in [0, 1, WORK - 1, WORK, WORK + 1, 9_000, 70_000] {
                 self.compare(&image, work)?;
             }
@@ -91,42 +78,10 @@ impl Comparison {
         Ok(())
     }
 
-    /// Each kind of record, with each edge value at each place and cut
-    /// after each byte.
-    fn kinds(&mut self) -> Result<(), Differs> {
-        for row in &ROWS {
-            let image = random::image_with(&mut Rng::new(self.seed ^ u64::from(row.kind)), row);
-            let bytes = encode(&image);
-            for length in 0..=bytes.len() {
-                self.compare(&bytes[..length], WORK)?;
-            }
-            for (at, what) in places(&image) {
-                for value in edge_values(&image, at, what) {
-                    let mut changed = bytes.clone();
-                    overwrite(&mut changed, at, &value);
-                    self.compare(&changed, WORK)?;
-                }
-            }
-        }
-        Ok(())
-    }
-
-    /// Each bad sequence alone, and at each distance from the text's ends.
-    fn texts(&mut self) -> Result<(), Differs> {
-        for bad in NOT_UTF8 {
-            for (before, after) in
-                (0..20).flat_map(|before| [(before, 0), (before, 1), (before, 17)])
-            {
-                let mut builder = Builder::new(1);
-                let around = |length: usize| "a\u{e9}".repeat(length).into_bytes();
-                builder.image.text = [&around(before)[..], bad, &around(after)].concat();
-                builder.image.texts.push((0, builder.image.text.len() as u16));
-                self.compare(&encode(&builder.image), WORK)?;
-                builder.image.texts = vec![(0, 3 * before as u16)];
-                self.compare(&encode(&builder.image), WORK)?;
-            }
-        }
-        Ok(())
+    /// Each kind of record, damaged, and bad texts.
+    fn damaged(&mut self) -> Result<(), Differs> {
+        let mut images = tried::kinds(self.seed).chain(tried::bad_texts());
+        images.try_for_each(|image| self.compare(&image, WORK))
     }
 
     /// Long texts of ASCII, each also with a bad or a good sequence at each
@@ -158,7 +113,7 @@ impl Comparison {
     fn generated(&mut self, rng: &mut Rng, cases: usize) -> Result<(), Differs> {
         let until = self.cases + cases;
         while self.cases < until {
-            let image = any_image(rng);
+            let image = tried::to_read(rng);
             let bytes = encode(&image);
             self.compare(&bytes, WORK)?;
             self.compare(&bytes, work_length(rng))?;
@@ -176,18 +131,6 @@ impl Comparison {
     }
 }
 
-fn any_image(rng: &mut Rng) -> Image {
-    let mut shape = Shape::of(rng.pick(&[1, 3, 3, 6, 6, 12, 12, 25, 40]), rng.one_in(4));
-    if rng.one_in(40) {
-        shape = Shape::of(rng.pick(&[200, 400, 900]), rng.one_in(2));
-    }
-    if shape.deep && rng.one_in(3) {
-        shape.size = 150;
-        shape.heights = [70, 38];
-    }
-    random::image(rng, shape)
-}
-
 fn main() -> ExitCode {
     let mut arguments = std::env::args().skip(1).map(|word| word.parse::<u64>().expect("a number"));
     let cases = arguments.next().unwrap_or(300_000) as usize;
@@ -196,8 +139,7 @@ fn main() -> ExitCode {
     let mut comparison = Comparison { seed, cases: 0, answers: [0; 11], ours, theirs };
     let done = comparison
         .limits()
-        .and_then(|_| comparison.kinds())
-        .and_then(|_| comparison.texts())
+        .and_then(|_| comparison.damaged())
         .and_then(|_| comparison.long_texts())
         .and_then(|_| comparison.generated(&mut Rng::new(seed), cases));
     if done.is_err() {

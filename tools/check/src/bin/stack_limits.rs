@@ -10,6 +10,7 @@ use rlimg::encode::encode;
 use rlimg::image::{Image, EXPRESSION_HEIGHT, STATEMENT_HEIGHT, WORK};
 use rlimg::lower::ROOM;
 use rlimg::lowerings::limits;
+use rlimg::pages::{self, LINES, PAGE_BYTES};
 use rlimg::rng::Rng;
 use rlimg::run::VALUES;
 use rlimg::schema::Section;
@@ -27,8 +28,9 @@ const BOUNDS: [(&str, usize); EXPORTS] = [
     ("rl_lower", 384),
     ("rl_text", 16),
     ("rl_message", 144),
+    ("rl_pages", 144),
 ];
-const EXPORTS: usize = 8;
+const EXPORTS: usize = 9;
 /// Generated images beside the listed ones.
 const GENERATED: usize = 300;
 /// The deepest functions take fewer steps.
@@ -48,6 +50,7 @@ fn listed() -> Vec<Vec<u8>> {
     all.extend([hostile::doubled(EXPRESSION_HEIGHT.into()), hostile::deep_tree()]);
     all.extend([hostile::worst_call(), hostile::long_names(1_024), hostile::long_texts(1_024)]);
     all.extend([deep::long_names(), deep::long_texts(), hostile::longest_output()]);
+    all.push(pages::images::widest());
     all.extend([check::images::full(), edges::largest()]);
     all.extend([edges::expression_chain(EXPRESSION_HEIGHT.into())]);
     all.extend([edges::statement_chain(STATEMENT_HEIGHT.into())]);
@@ -73,6 +76,8 @@ struct Lent {
     reports: Vec<u32>,
     out: Vec<u8>,
     message: Box<[u8; MESSAGE]>,
+    /// Long enough for the pages of the image.
+    pages: Vec<u8>,
 }
 
 /// The first and the last of so many, and one that is not there.
@@ -83,8 +88,11 @@ fn ends(count: usize) -> [u32; 3] {
 impl Lent {
     fn new(bytes: Vec<u8>) -> Lent {
         let message = vec![0; MESSAGE].into_boxed_slice().try_into().expect("its length");
-        let (work, reports, out) = (vec![0; WORK], vec![0; REPORTS], vec![0; ROOM]);
-        Lent { case: Case::new(bytes), work, reports, out, message }
+        let (mut work, mut reports, out) = (vec![0; WORK], vec![0; REPORTS], vec![0; ROOM]);
+        let proved = ffi::prove_all(&bytes, &mut work, &mut reports);
+        let count = if proved.number == 0 { proved.place as usize } else { 0 };
+        let pages = vec![0; PAGE_BYTES * count.div_ceil(LINES)];
+        Lent { case: Case::new(bytes), work, reports, out, message, pages }
     }
 
     fn count(&self, section: Section) -> usize {
@@ -152,6 +160,12 @@ impl Lent {
         }
     }
 
+    /// In full, and with a slice that is too short.
+    fn pages(&mut self) {
+        ffi::pages(&self.case.bytes, &mut self.work, &mut self.pages);
+        ffi::pages(&self.case.bytes, &mut self.work, &mut []);
+    }
+
     /// The bytes of stack that each export takes.
     fn measured(&mut self) -> [usize; EXPORTS] {
         [
@@ -163,6 +177,7 @@ impl Lent {
             bytes_of(|| self.lower()),
             bytes_of(|| self.text()),
             bytes_of(|| self.message()),
+            bytes_of(|| self.pages()),
         ]
     }
 }

@@ -1,7 +1,8 @@
 use borrow.Author.Needs.{needs}
 use Rattle.rl_checker.proofs.proving.fitted.Statement.{statement}
 use Rattle.rl_checker.proofs.proving.fitted.Tie as tie
-use Rattle.rl_checker.proofs.AnswerLaws.{fitted-short, kept-none, fitted-all, kept-all}
+use Rattle.rl_prover.proofs.ShownLaws.{kept-none, kept-all}
+use Rattle.rl_checker.proofs.AnswerLaws.{fitted-short, fitted-all}
 
 ruleset laws = (fitted-short, kept-none, fitted-all, kept-all)
 

@@ -1,7 +1,8 @@
 use borrow.Author.Needs.{needs}
 use Rattle.rl_checker.proofs.proving.prove_each.Statement.{statement}
 use Rattle.rl_checker.proofs.proving.prove_each.Tie as tie
-use Rattle.rl_checker.proofs.ProveLaws.{part-size, all-prove}
+use Rattle.rl_prover.proofs.ShownLaws.{part-size}
+use Rattle.rl_checker.proofs.ProveLaws.{all-prove}
 
 ruleset laws = (all-prove)
 

@@ -1,7 +1,8 @@
 use borrow.Author.Needs.{needs}
 use Rattle.rl_checker.proofs.proving.prove_one.Statement.{statement}
 use Rattle.rl_checker.proofs.proving.prove_one.Tie as tie
-use Rattle.rl_checker.proofs.ProveLaws.{part-size, one-proves}
+use Rattle.rl_prover.proofs.ShownLaws.{part-size}
+use Rattle.rl_checker.proofs.ProveLaws.{one-proves}
 
 ruleset laws = (one-proves)
 

@@ -2,7 +2,8 @@ use borrow.Author.Needs.{needs}
 use Rattle.rl_spec.specs.Tree.{ascii}
 use Rattle.rl_message.proofs.defaults.put_bool.Statement.{statement}
 use Rattle.rl_message.proofs.defaults.put_bool.Tie as tie
-use Rattle.rl_message.proofs.DefaultLaws.{after-as, with-as, text-true, text-false}
+use Rattle.rl_text_out.proofs.Joined.{after-as, with-as}
+use Rattle.rl_message.proofs.DefaultLaws.{text-true, text-false}
 
 ruleset laws = (after-as, with-as, text-true, text-false)
 

@@ -2,7 +2,8 @@ use borrow.Author.Needs.{needs}
 use Rattle.rl_spec.specs.Tree.{ascii}
 use Rattle.rl_message.proofs.defaults.put_integer.Statement.{statement}
 use Rattle.rl_message.proofs.defaults.put_integer.Tie as tie
-use Rattle.rl_message.proofs.DefaultLaws.{after-as, with-as, puts-minus, text-plain}
+use Rattle.rl_text_out.proofs.Joined.{after-as, with-as}
+use Rattle.rl_message.proofs.DefaultLaws.{puts-minus, text-plain}
 
 ruleset laws = (after-as, with-as, text-plain)
 

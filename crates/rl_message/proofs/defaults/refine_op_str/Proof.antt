@@ -2,7 +2,8 @@ use borrow.Author.Needs.{needs}
 use Rattle.rl_spec.specs.Tree.{ascii}
 use Rattle.rl_message.proofs.defaults.refine_op_str.Statement.{statement}
 use Rattle.rl_message.proofs.defaults.refine_op_str.Tie as tie
-use Rattle.rl_message.proofs.DefaultLaws.{after-as, with-as, op-gt, op-ge, op-lt, op-le, op-eq, op-ne}
+use Rattle.rl_text_out.proofs.Joined.{after-as, with-as}
+use Rattle.rl_message.proofs.DefaultLaws.{op-gt, op-ge, op-lt, op-le, op-eq, op-ne}
 
 ruleset laws = (after-as, with-as, op-gt, op-ge, op-lt, op-le, op-eq, op-ne)
 

@@ -10,15 +10,11 @@ mod tally;
 mod texts;
 
 use case::Case;
+use check::tried;
 use compare::{Comparison, Differs};
-use oracle::{marked, pairs, picked, tables};
 use rlimg::damage::damage;
 use rlimg::encode::encode;
-use rlimg::image::{Image, EXPRESSION_HEIGHT};
-use rlimg::random::{self, Shape};
 use rlimg::rng::Rng;
-use rlimg::schema::Section;
-use rlimg::{edges, hostile, rules, runs};
 use std::process::ExitCode;
 use std::time::{Duration, Instant};
 
@@ -37,25 +33,15 @@ fn compare(comparison: &mut Comparison, bytes: Vec<u8>) -> Result<(), Shown> {
 
 /// The lists of small images, some that are too tall, and one too long.
 fn listed(comparison: &mut Comparison) -> Result<(), Shown> {
-    let marked = marked::cases().into_iter().map(|case| case.image);
-    let images = marked.chain(tables::images()).chain(picked::images()).chain(pairs::images());
-    let images = images.chain(runs::texts::images());
-    let tall = (67..76).map(edges::expression_chain).chain((35..44).map(edges::statement_chain));
-    for image in images.chain(tall) {
+    for image in tried::proved() {
         compare(comparison, encode(&image))?;
     }
     compare(comparison, vec![1; 65_536])
 }
 
-/// Shared sums, ever taller, a deep one, a call that asks for much work, and
-/// one with as many and as long messages as can be.
+/// Images that ask for much work.
 fn hostile(comparison: &mut Comparison) -> Result<(), Shown> {
-    let heights = (4..=usize::from(EXPRESSION_HEIGHT)).step_by(4);
-    let mut images: Vec<Image> = heights.map(hostile::doubled).collect();
-    images.extend([hostile::deep_tree(), hostile::worst_call(), hostile::longest_output()]);
-    let longest = images.last_mut().expect("the longest output");
-    longest.of_mut(Section::Call).truncate(1);
-    for image in images {
+    for image in tried::slow() {
         let (bytes, start) = (encode(&image), Instant::now());
         compare(comparison, bytes.clone())?;
         if start.elapsed() > LONG {
@@ -70,22 +56,13 @@ fn hostile(comparison: &mut Comparison) -> Result<(), Shown> {
 fn generated(comparison: &mut Comparison, seed: u64, until: usize) -> Result<(), Shown> {
     let mut rng = Rng::new(seed);
     while comparison.tally.images < until {
-        let image = any_image(&mut rng);
+        let image = tried::to_prove(&mut rng);
         compare(comparison, encode(&image))?;
         if rng.one_in(8) {
             compare(comparison, damage(&mut rng, &image))?;
         }
     }
     Ok(())
-}
-
-fn any_image(rng: &mut Rng) -> Image {
-    if rng.one_in(12) {
-        let shape = Shape::of(rng.pick(&[3, 6, 12, 40]), rng.one_in(2));
-        return random::image(rng, shape);
-    }
-    let size = rng.pick(&[1, 1, 1, 2, 2, 2, 4, 4, 12]);
-    rules::image(rng, size)
 }
 
 fn main() -> ExitCode {

@@ -58,7 +58,7 @@ impl Comparison {
         lend(&mut self.work, work, GARBAGE.0);
         let answer = ffi::text(&case.bytes, &mut self.work[..work], text);
         let expected: Expected<u8> = case.text(work, text);
-        let nothing = (&Vec::new(), 0, GARBAGE_BYTE);
+        let nothing = (&[][..], 0, GARBAGE_BYTE);
         check_output(&expected, answer, nothing)
             .and_then(|_| self.check_work(case, answer, work))
             .map_err(|fault| {

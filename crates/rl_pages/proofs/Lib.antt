@@ -1,0 +1,4 @@
+pub mod AddedLaws
+pub mod ReportLaws
+pub mod AnswerLaws
+pub mod LinesLaws
