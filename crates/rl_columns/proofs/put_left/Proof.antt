@@ -38,7 +38,6 @@ loop-again : tie.Need-loop-again Inv-loop μ-loop
 loop-again c =
     let put = c .before .before .put-column .ensures in
     let width = c .before .before .before .before .char-width .ensures in
-    let more = c .before .before .before .before .before .loop-test in
     let loop = c .before .before .before .before .before .before .loop in (
       search (laws, needs),
       search (laws, needs),

@@ -52,8 +52,7 @@ returns-2 c =
     let e = opened .«open» .ensures in
     let f = told .answer2 .given .1 in
     let z = cleared .clear-bytes .ensures in
-    let g = put .put-pages .ensures .0 in
-    let n = put .put-pages .kept in (
+    let g = put .put-pages .ensures .0 in (
       put-answer _ _ _ _ (e .0) _ _ f _ z _ _ g (search needs) _ (answered .0),
       (
         put-out _ _ _ _ (e .0) _ _ f _ z _ _ g (search needs) _ (answered .1 .0),
