@@ -14,32 +14,32 @@ use Rattle.rl_spec.specs.declared.LowerAnswer.{LowerAnswer}
 use Rattle.rl_spec.specs.Read.{answer_of}
 use Rattle.rl_spec.specs.Image.{Image, image_of}
 use Rattle.rl_spec.specs.Lower.{lowered}
-use Rattle.rl_spec.specs.Lowerer.{refused, tooTall, orLimit, lowerBy, lowerOf, lowerAnswer}
-use Rattle.rl_images.specs.Reading.Places.{place-small}
-use Rattle.rl_spec.specs.Boundary.{lowerPacked, loweredPlace}
+use Rattle.rl_spec.specs.Lowerer.{refused, too_tall, or_limit, lower_by, lower_of, lower_answer}
+use Rattle.rl_images.specs.Reading.Places.{place_small}
+use Rattle.rl_spec.specs.Boundary.{lower_packed, lowered_place}
 
-lower-place : (s : List ℕ) (k f room : ℕ) → loweredPlace (lowerAnswer (lowerOf s k f room)) ≤ 65535
-unfolding lowerOf
-lower-place s k f room = go (answer_of s k) refl
+lower_place : (s : List ℕ) (k f room : ℕ) → lowered_place (lower_answer (lower_of s k f room)) ≤ 65535
+unfolding lower_of
+lower_place s k f room = go (answer_of s k) refl
   where
-    limit : (o : Option Image) → loweredPlace (lowerAnswer (orLimit o)) ≤ 65535
+    limit : (o : Option Image) → lowered_place (lower_answer (or_limit o)) ≤ 65535
     limit none = omega arith
     limit (some im) = omega arith
 
     chosen : (x y z : Bool) (o : Option Image) →
-        loweredPlace (lowerAnswer (cond (not x) (refused NoSuchFunction 0) (cond y (refused HeightOverLimit 0) (cond z (refused OutputTooShort 0) (orLimit o))))) ≤ 65535
+        lowered_place (lower_answer (cond (not x) (refused NoSuchFunction 0) (cond y (refused HeightOverLimit 0) (cond z (refused OutputTooShort 0) (or_limit o))))) ≤ 65535
     chosen false y z o = omega arith
     chosen true true z o = omega arith
     chosen true false true o = omega arith
     chosen true false false o = limit o
 
-    go : (a : Answer) → answer_of s k ≡ a → loweredPlace (lowerAnswer (lowerBy s f room a)) ≤ 65535
-    go (Refused c n) e = place-small s k c n e
-    go (Accepted m c) e = chosen (ltb f c.functions) (tooTall (image_of s)) (ltb room 65535) (lowered (image_of s) f)
+    go : (a : Answer) → answer_of s k ≡ a → lowered_place (lower_answer (lower_by s f room a)) ≤ 65535
+    go (Refused c n) e = place_small s k c n e
+    go (Accepted m c) e = chosen (ltb f c.functions) (too_tall (image_of s)) (ltb room 65535) (lowered (image_of s) f)
 
-module _ (s : List ℕ) (k f room : ℕ) (a : LowerAnswer) (e : a ≡ lowerAnswer (lowerOf s k f room)) where
-  pub lower-near : loweredPlace a ≤ 65535
-  lower-near = subst (λ (x : LowerAnswer). loweredPlace x ≤ 65535) (sym e) (lower-place s k f room)
+module _ (s : List ℕ) (k f room : ℕ) (a : LowerAnswer) (e : a ≡ lower_answer (lower_of s k f room)) where
+  pub lower_near : lowered_place a ≤ 65535
+  lower_near = subst (λ (x : LowerAnswer). lowered_place x ≤ 65535) (sym e) (lower_place s k f room)
 
-  pub lower-packed : (r : ℕ) → r ≡ lowerPacked a → r ≡ lowerPacked (lowerAnswer (lowerOf s k f room))
-  lower-packed r g = g ∙ ap lowerPacked e
+  pub lower_packed_lem : (r : ℕ) → r ≡ lower_packed a → r ≡ lower_packed (lower_answer (lower_of s k f room))
+  lower_packed_lem r g = g ∙ ap lower_packed e

@@ -19,70 +19,70 @@ use Rattle.rl_spec.specs.declared.TextAnswer.TheVariants as text
 use Rattle.rl_spec.specs.declared.TextPart.{TextPart}
 use Rattle.rl_spec.specs.Read.{answer_of}
 use Rattle.rl_spec.specs.Image.{image_of}
-use Rattle.rl_spec.specs.Texts.{textPart, textBy, textFor, messageAt, messageFrom, messageAnswer}
-use Rattle.rl_spec.specs.Pages.{pagesOf, pagesFrom, pagesAnswer}
-use Rattle.rl_spec.specs.Boundary.{textPacked, textPlace, messagePacked, messagePlace, pagesPacked, pagesPlace}
-use Rattle.rl_images.specs.Reading.Places.{place-small}
+use Rattle.rl_spec.specs.Texts.{text_part, text_by, text_for, message_at, message_from, message_answer}
+use Rattle.rl_spec.specs.Pages.{pages_of, pages_from, pages_answer}
+use Rattle.rl_spec.specs.Boundary.{text_packed, text_place, message_packed, message_place, pages_packed, pages_place}
+use Rattle.rl_images.specs.Reading.Places.{place_small}
 
 -- ---- texts
 
-text-place : (s : List ℕ) (k t : ℕ) → textPlace (textFor s k t) ≤ 65535
-unfolding textFor
-text-place s k t = go (answer_of s k) refl
+text_place_lem : (s : List ℕ) (k t : ℕ) → text_place (text_for s k t) ≤ 65535
+unfolding text_for
+text_place_lem s k t = go (answer_of s k) refl
   where
-    chosen : (x : Bool) (part : TextPart) → textPlace (cond x (text.Found part) (text.Refused NoSuchText 0)) ≤ 65535
+    chosen : (x : Bool) (part : TextPart) → text_place (cond x (text.Found part) (text.Refused NoSuchText 0)) ≤ 65535
     chosen true part = omega arith
     chosen false part = omega arith
 
-    go : (a : Answer) → answer_of s k ≡ a → textPlace (textBy s t a) ≤ 65535
-    go (Refused c n) e = place-small s k c n e
-    go (Accepted m c) e = chosen (ltb t c.texts) (textPart (image_of s) t)
+    go : (a : Answer) → answer_of s k ≡ a → text_place (text_by s t a) ≤ 65535
+    go (Refused c n) e = place_small s k c n e
+    go (Accepted m c) e = chosen (ltb t c.texts) (text_part (image_of s) t)
 
-module _ (s : List ℕ) (k t : ℕ) (a : TextAnswer) (e : a ≡ textFor s k t) where
-  pub text-near : textPlace a ≤ 65535
-  text-near = subst (λ (x : TextAnswer). textPlace x ≤ 65535) (sym e) (text-place s k t)
+module _ (s : List ℕ) (k t : ℕ) (a : TextAnswer) (e : a ≡ text_for s k t) where
+  pub text_near : text_place a ≤ 65535
+  text_near = subst (λ (x : TextAnswer). text_place x ≤ 65535) (sym e) (text_place_lem s k t)
 
-  pub text-packed : (r : ℕ) → r ≡ textPacked a → r ≡ textPacked (textFor s k t)
-  text-packed r g = g ∙ ap textPacked e
+  pub text_packed_lem : (r : ℕ) → r ≡ text_packed a → r ≡ text_packed (text_for s k t)
+  text_packed_lem r g = g ∙ ap text_packed e
 
 -- ---- messages
 
-message-place : (s : List ℕ) (k call number : ℕ) → messagePlace (messageAnswer s k call number) ≤ 65535
-unfolding messageAnswer
-message-place s k call number = go (answer_of s k) refl
+message_place_lem : (s : List ℕ) (k call number : ℕ) → message_place (message_answer s k call number) ≤ 65535
+unfolding message_answer
+message_place_lem s k call number = go (answer_of s k) refl
   where
-    chosen : (x : Bool) (n : ℕ) → messagePlace (cond x (message.Message n) (message.Refused NoSuchCall 0)) ≤ 65535
+    chosen : (x : Bool) (n : ℕ) → message_place (cond x (message.Message n) (message.Refused NoSuchCall 0)) ≤ 65535
     chosen true n = omega arith
     chosen false n = omega arith
 
-    go : (a : Answer) → answer_of s k ≡ a → messagePlace (messageFrom s call number a) ≤ 65535
-    go (Refused c n) e = place-small s k c n e
-    go (Accepted m c) e = chosen (ltb call c.calls) (length (messageAt (image_of s) call number))
+    go : (a : Answer) → answer_of s k ≡ a → message_place (message_from s call number a) ≤ 65535
+    go (Refused c n) e = place_small s k c n e
+    go (Accepted m c) e = chosen (ltb call c.calls) (length (message_at (image_of s) call number))
 
-module _ (s : List ℕ) (k call number : ℕ) (a : MessageAnswer) (e : a ≡ messageAnswer s k call number) where
-  pub message-near : messagePlace a ≤ 65535
-  message-near = subst (λ (x : MessageAnswer). messagePlace x ≤ 65535) (sym e) (message-place s k call number)
+module _ (s : List ℕ) (k call number : ℕ) (a : MessageAnswer) (e : a ≡ message_answer s k call number) where
+  pub message_near : message_place a ≤ 65535
+  message_near = subst (λ (x : MessageAnswer). message_place x ≤ 65535) (sym e) (message_place_lem s k call number)
 
-  pub message-packed : (r : ℕ) → r ≡ messagePacked a → r ≡ messagePacked (messageAnswer s k call number)
-  message-packed r g = g ∙ ap messagePacked e
+  pub message_packed_lem : (r : ℕ) → r ≡ message_packed a → r ≡ message_packed (message_answer s k call number)
+  message_packed_lem r g = g ∙ ap message_packed e
 
 -- ---- pages
 
-pages-place : (s : List ℕ) (k room : ℕ) → pagesPlace (pagesAnswer s k room) ≤ 65535
-unfolding pagesAnswer
-pages-place s k room = go (answer_of s k) refl
+pages_place_lem : (s : List ℕ) (k room : ℕ) → pages_place (pages_answer s k room) ≤ 65535
+unfolding pages_answer
+pages_place_lem s k room = go (answer_of s k) refl
   where
-    chosen : (x : Bool) (n : ℕ) → pagesPlace (cond x (pages.Refused PagesTooShort 0) (pages.Written n)) ≤ 65535
+    chosen : (x : Bool) (n : ℕ) → pages_place (cond x (pages.Refused PagesTooShort 0) (pages.Written n)) ≤ 65535
     chosen true n = omega arith
     chosen false n = omega arith
 
-    go : (a : Answer) → answer_of s k ≡ a → pagesPlace (pagesFrom s room a) ≤ 65535
-    go (Refused c n) e = place-small s k c n e
-    go (Accepted m c) e = chosen (ltb room (length (pagesOf (image_of s) c.calls))) (length (pagesOf (image_of s) c.calls))
+    go : (a : Answer) → answer_of s k ≡ a → pages_place (pages_from s room a) ≤ 65535
+    go (Refused c n) e = place_small s k c n e
+    go (Accepted m c) e = chosen (ltb room (length (pages_of (image_of s) c.calls))) (length (pages_of (image_of s) c.calls))
 
-module _ (s : List ℕ) (k room : ℕ) (a : PagesAnswer) (e : a ≡ pagesAnswer s k room) where
-  pub pages-near : pagesPlace a ≤ 65535
-  pages-near = subst (λ (x : PagesAnswer). pagesPlace x ≤ 65535) (sym e) (pages-place s k room)
+module _ (s : List ℕ) (k room : ℕ) (a : PagesAnswer) (e : a ≡ pages_answer s k room) where
+  pub pages_near : pages_place a ≤ 65535
+  pages_near = subst (λ (x : PagesAnswer). pages_place x ≤ 65535) (sym e) (pages_place_lem s k room)
 
-  pub pages-packed : (r : ℕ) → r ≡ pagesPacked a → r ≡ pagesPacked (pagesAnswer s k room)
-  pages-packed r g = g ∙ ap pagesPacked e
+  pub pages_packed_lem : (r : ℕ) → r ≡ pages_packed a → r ≡ pages_packed (pages_answer s k room)
+  pages_packed_lem r g = g ∙ ap pages_packed e

@@ -1,13 +1,13 @@
 // The functions that C and Rust call. include/rl_contracts.h declares them for C.
 ghost use Rattle.std.specs.Prelude.{◌≡◌, length};
-ghost use Rattle.rl_spec.specs.Read.{packed, answer_of, workOf};
-ghost use Rattle.rl_spec.specs.Fold.{fold_of, foldNumber, workUnless};
-ghost use Rattle.rl_spec.specs.Prove.{proveOf, reportsOf, proveAllOf, allReportsOf, proveNumber};
-ghost use Rattle.rl_spec.specs.Lowerer.{lowerOf, lowerAnswer, lowerNumber, lowerOut};
-ghost use Rattle.rl_spec.specs.Runner.{run_of, runNumber};
-ghost use Rattle.rl_spec.specs.Texts.{textFor, textNumber, messageAnswer, messageOut, messageNumber};
-ghost use Rattle.rl_spec.specs.Pages.{pagesAnswer, pagesOut, pagesNumber};
-ghost use Rattle.rl_spec.specs.Boundary.{provePacked, lowerPacked, id_of, foldPacked, fold_words, argumentsOf, runPacked, runWords, textPacked, messagePacked, pagesPacked};
+ghost use Rattle.rl_spec.specs.Read.{packed, answer_of, work_of};
+ghost use Rattle.rl_spec.specs.Fold.{fold_of, fold_number, work_unless};
+ghost use Rattle.rl_spec.specs.Prove.{prove_of, reports_of, prove_all_of, all_reports_of, prove_number};
+ghost use Rattle.rl_spec.specs.Lowerer.{lower_of, lower_answer, lower_number, lower_out};
+ghost use Rattle.rl_spec.specs.Runner.{run_of, run_number};
+ghost use Rattle.rl_spec.specs.Texts.{text_for, text_number, message_answer, message_out, message_number};
+ghost use Rattle.rl_spec.specs.Pages.{pages_answer, pages_out, pages_number};
+ghost use Rattle.rl_spec.specs.Boundary.{prove_packed, lower_packed, id_of, fold_packed, fold_words, arguments_of, run_packed, run_words, text_packed, message_packed, pages_packed};
 
 use rl_boundary::{
     arguments_of, pack, pack_lowered, pack_message, pack_pages, pack_proved, pack_read, pack_text,
@@ -19,7 +19,7 @@ use rl_spec::{ArenaNo, FoldAnswer, Folded, Id, NodeNo, RunAnswer};
 #[unsafe(no_mangle)]
 pub extern "C" fn rl_read(image: &[u8], work: &mut [u16]) -> u64
     ensures value { result ≡ packed (answer_of image.now (length work.old)) }
-    ensures work_after { work.new ≡ workOf image.now (length work.old) }
+    ensures work_after { work.new ≡ work_of image.now (length work.old) }
 {
     pack_read(rl_ast::read(image, work))
 }
@@ -34,9 +34,9 @@ pub extern "C" fn rl_fold(
     node: u32,
     value: &mut [u64; 2],
 ) -> u64
-    ensures value { result ≡ foldPacked (fold_of image.now (length work.old) (id_of arena node)) }
+    ensures value { result ≡ fold_packed (fold_of image.now (length work.old) (id_of arena node)) }
     ensures value_after { value.new ≡ fold_words (fold_of image.now (length work.old) (id_of arena node)) }
-    ensures work_after { work.new ≡ workUnless (foldNumber (fold_of image.now (length work.old) (id_of arena node))) image.now (length work.old) }
+    ensures work_after { work.new ≡ work_unless (fold_number (fold_of image.now (length work.old) (id_of arena node))) image.now (length work.old) }
 {
     let id = Id {
         arena: ArenaNo(arena),
@@ -59,9 +59,9 @@ pub extern "C" fn rl_fold(
 // requires, the parameter's or clause's number in the callee's list.
 #[unsafe(no_mangle)]
 pub extern "C" fn rl_prove(image: &[u8], work: &mut [u16], call: u32, reports: &mut [u32]) -> u64
-    ensures value { result ≡ provePacked (proveOf image.now (length work.old) call (length reports.old)) }
-    ensures reports_after { reports.new ≡ reportsOf image.now (length work.old) call (length reports.old) }
-    ensures work_after { work.new ≡ workUnless (proveNumber (proveOf image.now (length work.old) call (length reports.old))) image.now (length work.old) }
+    ensures value { result ≡ prove_packed (prove_of image.now (length work.old) call (length reports.old)) }
+    ensures reports_after { reports.new ≡ reports_of image.now (length work.old) call (length reports.old) }
+    ensures work_after { work.new ≡ work_unless (prove_number (prove_of image.now (length work.old) call (length reports.old))) image.now (length work.old) }
 {
     pack_proved(rl_checker::prove(image, work, call, reports))
 }
@@ -69,9 +69,9 @@ pub extern "C" fn rl_prove(image: &[u8], work: &mut [u16], call: u32, reports: &
 // The same for all calls in order; the image is read once.
 #[unsafe(no_mangle)]
 pub extern "C" fn rl_prove_all(image: &[u8], work: &mut [u16], reports: &mut [u32]) -> u64
-    ensures value { result ≡ provePacked (proveAllOf image.now (length work.old) (length reports.old)) }
-    ensures reports_after { reports.new ≡ allReportsOf image.now (length work.old) (length reports.old) }
-    ensures work_after { work.new ≡ workUnless (proveNumber (proveAllOf image.now (length work.old) (length reports.old))) image.now (length work.old) }
+    ensures value { result ≡ prove_packed (prove_all_of image.now (length work.old) (length reports.old)) }
+    ensures reports_after { reports.new ≡ all_reports_of image.now (length work.old) (length reports.old) }
+    ensures work_after { work.new ≡ work_unless (prove_number (prove_all_of image.now (length work.old) (length reports.old))) image.now (length work.old) }
 {
     pack_proved(rl_checker::prove_all(image, work, reports))
 }
@@ -87,9 +87,9 @@ pub extern "C" fn rl_run(
     budget: u32,
     outcome: &mut [u64; 4],
 ) -> u64
-    ensures value { result ≡ runPacked (run_of image.now (length work.old) function (argumentsOf values.now) budget) }
-    ensures outcome_after { outcome.new ≡ runWords (run_of image.now (length work.old) function (argumentsOf values.now) budget) }
-    ensures work_after { work.new ≡ workUnless (runNumber (run_of image.now (length work.old) function (argumentsOf values.now) budget)) image.now (length work.old) }
+    ensures value { result ≡ run_packed (run_of image.now (length work.old) function (arguments_of values.now) budget) }
+    ensures outcome_after { outcome.new ≡ run_words (run_of image.now (length work.old) function (arguments_of values.now) budget) }
+    ensures work_after { work.new ≡ work_unless (run_number (run_of image.now (length work.old) function (arguments_of values.now) budget)) image.now (length work.old) }
 {
     let answer = rl_runner::run(image, work, function, arguments_of(values), budget);
     match answer {
@@ -107,9 +107,9 @@ pub extern "C" fn rl_run(
 // Reads an image and lowers the contracts of a function into plain guards. The low 32 bits are the length of the image written.
 #[unsafe(no_mangle)]
 pub extern "C" fn rl_lower(image: &[u8], work: &mut [u16], function: u32, out: &mut [u8]) -> u64
-    ensures value { result ≡ lowerPacked (lowerAnswer (lowerOf image.now (length work.old) function (length out.old))) }
-    ensures out_after { out.new ≡ lowerOut (length out.old) (lowerOf image.now (length work.old) function (length out.old)) }
-    ensures work_after { work.new ≡ workUnless (lowerNumber (lowerOf image.now (length work.old) function (length out.old))) image.now (length work.old) }
+    ensures value { result ≡ lower_packed (lower_answer (lower_of image.now (length work.old) function (length out.old))) }
+    ensures out_after { out.new ≡ lower_out (length out.old) (lower_of image.now (length work.old) function (length out.old)) }
+    ensures work_after { work.new ≡ work_unless (lower_number (lower_of image.now (length work.old) function (length out.old))) image.now (length work.old) }
 {
     pack_lowered(rl_resolver::lower(image, work, function, out))
 }
@@ -117,8 +117,8 @@ pub extern "C" fn rl_lower(image: &[u8], work: &mut [u16], function: u32, out: &
 // Reads an image and finds a text. The low 32 bits: where its bytes start in the image, and above 16 of them how many they are.
 #[unsafe(no_mangle)]
 pub extern "C" fn rl_text(image: &[u8], work: &mut [u16], text: u32) -> u64
-    ensures value { result ≡ textPacked (textFor image.now (length work.old) text) }
-    ensures work_after { work.new ≡ workUnless (textNumber (textFor image.now (length work.old) text)) image.now (length work.old) }
+    ensures value { result ≡ text_packed (text_for image.now (length work.old) text) }
+    ensures work_after { work.new ≡ work_unless (text_number (text_for image.now (length work.old) text)) image.now (length work.old) }
 {
     pack_text(rl_lines::text(image, work, text))
 }
@@ -133,9 +133,9 @@ pub extern "C" fn rl_message(
     report: u32,
     out: &mut [u8; 65535],
 ) -> u64
-    ensures value { result ≡ messagePacked (messageAnswer image.now (length work.old) call report) }
-    ensures out_after { out.new ≡ messageOut image.now (length work.old) call report }
-    ensures work_after { work.new ≡ workUnless (messageNumber (messageAnswer image.now (length work.old) call report)) image.now (length work.old) }
+    ensures value { result ≡ message_packed (message_answer image.now (length work.old) call report) }
+    ensures out_after { out.new ≡ message_out image.now (length work.old) call report }
+    ensures work_after { work.new ≡ work_unless (message_number (message_answer image.now (length work.old) call report)) image.now (length work.old) }
 {
     pack_message(rl_lines::message(image, work, call, report, out))
 }
@@ -144,9 +144,9 @@ pub extern "C" fn rl_message(
 // low 32 bits are how many bytes are written, 0 without reports; 22 where the slice is shorter than the pages.
 #[unsafe(no_mangle)]
 pub extern "C" fn rl_pages(image: &[u8], work: &mut [u16], pages: &mut [u8]) -> u64
-    ensures value { result ≡ pagesPacked (pagesAnswer image.now (length work.old) (length pages.old)) }
-    ensures pages_after { pages.new ≡ pagesOut image.now (length work.old) (length pages.old) }
-    ensures work_after { work.new ≡ workUnless (pagesNumber (pagesAnswer image.now (length work.old) (length pages.old))) image.now (length work.old) }
+    ensures value { result ≡ pages_packed (pages_answer image.now (length work.old) (length pages.old)) }
+    ensures pages_after { pages.new ≡ pages_out image.now (length work.old) (length pages.old) }
+    ensures work_after { work.new ≡ work_unless (pages_number (pages_answer image.now (length work.old) (length pages.old))) image.now (length work.old) }
 {
     pack_pages(rl_pages::pages(image, work, pages))
 }

@@ -2,19 +2,19 @@
 use Rattle.std.specs.Prelude.{ℕ, Bool, not, cond, ◌||◌, List, ltb, take, drop}
 use Rattle.rl_spec.specs.declared.Cause.TheVariants.{NoSuchFunction, HeightOverLimit, OutputTooShort}
 use Rattle.rl_spec.specs.declared.Counts.{Counts}
-use Rattle.rl_spec.specs.Lowerer.{Lowering, anyOver, refused}
+use Rattle.rl_spec.specs.Lowerer.{Lowering, any_over, refused}
 use Rattle.rl_admission.specs.declared.Admission.{Admission}
 use Rattle.rl_admission.specs.declared.Admission.TheVariants.{Admitted, Refused}
 
 -- the work slice has a height over its limit: those of the expressions come first, then those of the statements
-unfoldable pub tallIn : List ℕ → Counts → Bool
-tallIn w c = anyOver 64 (take c.expressions (drop 0 w)) || anyOver 32 (take c.statements (drop c.expressions w))
+unfoldable pub tall_in : List ℕ → Counts → Bool
+tall_in w c = any_over 64 (take c.expressions (drop 0 w)) || any_over 32 (take c.statements (drop c.expressions w))
 
-unfoldable pub loweringAdmission : List ℕ → Counts → ℕ → ℕ → Admission
-loweringAdmission w c f room =
+unfoldable pub lowering_admission : List ℕ → Counts → ℕ → ℕ → Admission
+lowering_admission w c f room =
     cond (not (ltb f c.functions)) (Refused NoSuchFunction)
-    (cond (tallIn w c) (Refused HeightOverLimit) (cond (ltb room 65535) (Refused OutputTooShort) Admitted))
+    (cond (tall_in w c) (Refused HeightOverLimit) (cond (ltb room 65535) (Refused OutputTooShort) Admitted))
 
-abbrev pub loweringOr : Admission → Lowering → Lowering
-loweringOr Admitted r = r
-loweringOr (Refused cause) r = refused cause 0
+abbrev pub lowering_or : Admission → Lowering → Lowering
+lowering_or Admitted r = r
+lowering_or (Refused cause) r = refused cause 0

@@ -6,18 +6,18 @@ use Rattle.rl_spec.specs.declared.Counts.{Counts}
 use Rattle.rl_spec.specs.declared.RunAnswer.{RunAnswer}
 use Rattle.rl_spec.specs.declared.RunAnswer.TheVariants as run
 use Rattle.rl_spec.specs.Image.{Image}
-use Rattle.rl_spec.specs.Records.{functionAt}
-use Rattle.rl_spec.specs.Runner.{isFor, allHave, given}
+use Rattle.rl_spec.specs.Records.{function_at}
+use Rattle.rl_spec.specs.Runner.{is_for, all_have_lem, given}
 use Rattle.rl_admission.specs.declared.Admission.{Admission}
 use Rattle.rl_admission.specs.declared.Admission.TheVariants.{Admitted, Refused}
 
-unfoldable pub runAdmission : Image → Counts → ℕ → Arguments → ℕ → Admission
-runAdmission im c f args budget =
+unfoldable pub run_admission : Image → Counts → ℕ → Arguments → ℕ → Admission
+run_admission im c f args budget =
     cond (not (ltb f c.functions)) (Refused NoSuchFunction)
-    (cond (not (isFor args.count (functionAt im f).params.count)) (Refused WrongValues)
-    (cond (not (allHave c (given args))) (Refused NoSuchText)
+    (cond (not (is_for args.count (function_at im f).params.count)) (Refused WrongValues)
+    (cond (not (all_have_lem c (given args))) (Refused NoSuchText)
     (cond (ltb 1000000 budget) (Refused BudgetOverLimit) Admitted)))
 
-abbrev pub runOr : Admission → RunAnswer → RunAnswer
-runOr Admitted r = r
-runOr (Refused cause) r = run.Refused cause 0
+abbrev pub run_or : Admission → RunAnswer → RunAnswer
+run_or Admitted r = r
+run_or (Refused cause) r = run.Refused cause 0

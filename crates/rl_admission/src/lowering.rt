@@ -1,7 +1,7 @@
 // Whether an accepted image is lowered.
 ghost use Rattle.std.specs.Prelude.{◌≡◌, take, drop};
-ghost use Rattle.rl_spec.specs.Lowerer.{anyOver};
-ghost use Rattle.rl_admission.specs.Lowering.{tallIn, loweringAdmission};
+ghost use Rattle.rl_spec.specs.Lowerer.{any_over};
+ghost use Rattle.rl_admission.specs.Lowering.{tall_in, lowering_admission};
 
 use crate::Admission;
 use rl_bytes::word_at;
@@ -9,7 +9,7 @@ use rl_spec::{Cause, Counts};
 
 // Whether one of n heights from a place on is over a limit.
 fn any_over(work: &[u16], from: u16, n: u16, most: u16) -> bool
-    ensures { result ≡ anyOver most (take n (drop from work.now)) }
+    ensures { result ≡ any_over most (take n (drop from work.now)) }
 {
     let first = from as usize;
     let count = n as usize;
@@ -24,7 +24,7 @@ fn any_over(work: &[u16], from: u16, n: u16, most: u16) -> bool
 }
 
 fn too_tall(work: &[u16], counts: Counts) -> bool
-    ensures { result ≡ tallIn work.now counts }
+    ensures { result ≡ tall_in work.now counts }
 {
     let expressions = counts.expressions;
     let statements = counts.statements;
@@ -36,7 +36,7 @@ fn too_tall(work: &[u16], counts: Counts) -> bool
 
 // The checks in the table's order, of the heights in the work slice and of the room for the image.
 pub fn admit_lowering(work: &[u16], counts: Counts, function: u32, room: usize) -> Admission
-    ensures { result ≡ loweringAdmission work.now counts function room }
+    ensures { result ≡ lowering_admission work.now counts function room }
 {
     let functions = counts.functions as u32;
     if functions <= function {

@@ -1,15 +1,15 @@
 // Whether a function of an accepted image runs on these values and this budget.
 ghost use Rattle.std.specs.Prelude.{◌≡◌, List, ℕ};
-ghost use Rattle.rl_spec.specs.Found.{imageFound};
-ghost use Rattle.rl_spec.specs.Runner.{plainHas, valueHas, given, allHave};
-ghost use Rattle.rl_admission.specs.Running.{runAdmission};
+ghost use Rattle.rl_spec.specs.Found.{image_found};
+ghost use Rattle.rl_spec.specs.Runner.{plain_has, value_has, given, all_have};
+ghost use Rattle.rl_admission.specs.Running.{run_admission};
 
 use crate::Admission;
 use rl_records::function_at;
 use rl_spec::{Arguments, Cause, ConstVal, Counts, Plain, Value};
 
 fn plain_has(counts: Counts, p: Plain) -> bool
-    ensures { result ≡ plainHas counts p }
+    ensures { result ≡ plain_has counts p }
 {
     match p {
         Plain::Null => true,
@@ -24,7 +24,7 @@ fn plain_has(counts: Counts, p: Plain) -> bool
 
 // Whether the text of a value is one of the image's.
 fn value_has(counts: Counts, v: Value) -> bool
-    ensures { result ≡ valueHas counts v }
+    ensures { result ≡ value_has counts v }
 {
     match v {
         Value::Plain(p) => plain_has(counts, p),
@@ -35,7 +35,7 @@ fn value_has(counts: Counts, v: Value) -> bool
 
 // The same of all values that are given.
 fn all_have(counts: Counts, arguments: Arguments) -> bool
-    ensures { result ≡ allHave counts (given arguments) }
+    ensures { result ≡ all_have counts (given arguments) }
 {
     let mut i: usize = 0;
     while i < 16 {
@@ -60,7 +60,7 @@ pub fn admit_run(
     arguments: Arguments,
     budget: u32,
 ) -> Admission
-    ensures { (p : List ℕ) → result ≡ runAdmission (imageFound image.now p counts) counts function arguments budget }
+    ensures { (p : List ℕ) → result ≡ run_admission (image_found image.now p counts) counts function arguments budget }
 {
     let functions = counts.functions as u32;
     if functions <= function {

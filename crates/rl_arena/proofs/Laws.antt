@@ -14,71 +14,71 @@ use Rattle.rl_spec.specs.declared.ArenaNo.{ArenaNo}
 use Rattle.rl_spec.specs.declared.Counts.{Counts}
 use Rattle.rl_spec.specs.declared.Id.{Id}
 use Rattle.rl_spec.specs.declared.Sort.{Sort}
-use Rattle.rl_spec.specs.Bytes.{num_at, u16At, u32_at}
-use Rattle.rl_spec.specs.Schema.{sortOf, width_of}
-use Rattle.rl_spec.specs.Image.{Field, no_field, first, second, isPair, fieldIn, fields_at, recordIn}
+use Rattle.rl_spec.specs.Bytes.{num_at, u16_at, u32_at}
+use Rattle.rl_spec.specs.Schema.{sort_of, width_of}
+use Rattle.rl_spec.specs.Image.{Field, no_field, first, second, is_pair, field_in_lem, fields_at, record_in}
 use Rattle.rl_bytes.proofs.Laws.{one, two, four}
 use Rattle.rl_schema.specs.Codes.{codes}
-use Rattle.rl_schema.proofs.Rows.{codes-none, codes-more}
+use Rattle.rl_schema.proofs.Rows.{codes_none, codes_more}
 use Rattle.rl_arena.specs.declared.Spot.{Spot}
 use Rattle.rl_arena.specs.declared.Spot.TheVariants as spot
 use Rattle.rl_arena.specs.declared.Lookup.TheVariants.{Node, OtherArena, NoSuchNode}
-use Rattle.rl_arena.specs.Find.{isWidth, number_in, spot_of, lookup}
+use Rattle.rl_arena.specs.Find.{is_width, number_in, spot_of, lookup}
 
 -- ---- a kind, an id
 
-pub kind-is : (s : List ℕ) (at r : ℕ) → r ≡ get_or s at 0 → r ≡ (recordIn s at).kind
-unfolding recordIn
-kind-is s at r e = e
+pub kind_is : (s : List ℕ) (at r : ℕ) → r ≡ get_or s at 0 → r ≡ (record_in s at).kind
+unfolding record_in
+kind_is s at r e = e
 
 module _ (arena : ArenaNo) (c : Counts) (id : Id) where
-  pub id-foreign : (id.arena.0 ≡ arena.0 → ⊥) → OtherArena ≡ lookup arena c id
+  pub id_foreign : (id.arena.0 ≡ arena.0 → ⊥) → OtherArena ≡ lookup arena c id
   unfolding lookup
-  id-foreign h = rw (ne_eqb id.arena.0 arena.0 h) refl
+  id_foreign h = rw (ne_eqb id.arena.0 arena.0 h) refl
 
   module _ (e : id.arena.0 ≡ arena.0) where
-    pub id-found : id.node.0 < c.expressions → Node id.node.0 ≡ lookup arena c id
+    pub id_found : id.node.0 < c.expressions → Node id.node.0 ≡ lookup arena c id
     unfolding lookup
-    id-found h = rw (eq-eqb id.arena.0 arena.0 e, lt-ltb id.node.0 c.expressions h) refl
+    id_found h = rw (eq-eqb id.arena.0 arena.0 e, lt-ltb id.node.0 c.expressions h) refl
 
-    pub id-missing : c.expressions ≤ id.node.0 → NoSuchNode ≡ lookup arena c id
+    pub id_missing : c.expressions ≤ id.node.0 → NoSuchNode ≡ lookup arena c id
     unfolding lookup
-    id-missing h = rw (eq-eqb id.arena.0 arena.0 e, le-ltb id.node.0 c.expressions h) refl
+    id_missing h = rw (eq-eqb id.arena.0 arena.0 e, le-ltb id.node.0 c.expressions h) refl
 
 -- ---- numbers
 
 module _ (s : List ℕ) (at n r : ℕ) where
-  pub number-one : n ≡ 1 → r ≡ get_or s at 0 → r ≡ number_in s at n
+  pub number_one : n ≡ 1 → r ≡ get_or s at 0 → r ≡ number_in s at n
   unfolding number_in
-  number-one e f = rw e (f ∙ one s at)
+  number_one e f = rw e (f ∙ one s at)
 
-  pub number-two : n ≡ 2 → r ≡ u16At s at → r ≡ number_in s at n
+  pub number_two : n ≡ 2 → r ≡ u16_at s at → r ≡ number_in s at n
   unfolding number_in
-  number-two e f = rw e (f ∙ two s at)
+  number_two e f = rw e (f ∙ two s at)
 
-  pub number-four : n ≡ 4 → r ≡ u32_at s at → r ≡ number_in s at n
+  pub number_four : n ≡ 4 → r ≡ u32_at s at → r ≡ number_in s at n
   unfolding number_in
-  number-four e f = rw e (f ∙ four s at)
+  number_four e f = rw e (f ∙ four s at)
 
-  pub number-eight : n ≡ 8 → r ≡ num_at s at 8 → r ≡ number_in s at n
+  pub number_eight : n ≡ 8 → r ≡ num_at s at 8 → r ≡ number_in s at n
   unfolding number_in
-  number-eight e f = rw e f
+  number_eight e f = rw e f
 
-pub number-none : (s : List ℕ) (at n : ℕ) → (n ≡ 1 → ⊥) → (n ≡ 2 → ⊥) → (n ≡ 4 → ⊥) → (n ≡ 8 → ⊥) → 0 ≡ number_in s at n
+pub number_none : (s : List ℕ) (at n : ℕ) → (n ≡ 1 → ⊥) → (n ≡ 2 → ⊥) → (n ≡ 4 → ⊥) → (n ≡ 8 → ⊥) → 0 ≡ number_in s at n
 unfolding number_in
-number-none s at n a b c d = rw (ne_eqb n 1 a, ne_eqb n 2 b, ne_eqb n 4 c, ne_eqb n 8 d) refl
+number_none s at n a b c d = rw (ne_eqb n 1 a, ne_eqb n 2 b, ne_eqb n 4 c, ne_eqb n 8 d) refl
 
 -- ---- the widths of fields
 
 abbrev Narrow : Sort → Type 0
-Narrow o = (isWidth (width_of o) ≡ true) × (leb (width_of o) 8 ≡ true)
+Narrow o = (is_width (width_of o) ≡ true) × (leb (width_of o) 8 ≡ true)
 
 or : (b : Bool) (x y : Sort) → Narrow x → Narrow y → Narrow (cond b x y)
 or true x y p q = p
 or false x y p q = q
 
-narrow : (c : ℕ) → Narrow (sortOf c)
-unfolding sortOf
+narrow : (c : ℕ) → Narrow (sort_of c)
+unfolding sort_of
 narrow c =
     or (eqb c 1) _ _ (refl, refl)
     (or (eqb c 2) _ _ (refl, refl)
@@ -104,82 +104,82 @@ narrow c =
     (or (eqb c 22) _ _ (refl, refl)
     (or (eqb c 23) _ _ (refl, refl) (or (eqb c 24) _ _ (refl, refl) (refl, refl))))))))))))))))))))))))
 
-pub width_small : (c : ℕ) (o : Sort) → o ≡ sortOf c → (m : ℕ) → m ≡ width_of o → m ≤ 8
-width_small c o e m f = rw (f, e) (leb-true (width_of (sortOf c)) 8 (narrow c).1)
+pub width_small : (c : ℕ) (o : Sort) → o ≡ sort_of c → (m : ℕ) → m ≡ width_of o → m ≤ 8
+width_small c o e m f = rw (f, e) (leb-true (width_of (sort_of c)) 8 (narrow c).1)
 
-pub width_fits : (c : ℕ) (o : Sort) → o ≡ sortOf c → (m : ℕ) → m ≡ width_of o → Fits w8 m
+pub width_fits : (c : ℕ) (o : Sort) → o ≡ sort_of c → (m : ℕ) → m ≡ width_of o → Fits w8 m
 width_fits c o e m f = omega (arith, width_small c o e m f)
 
 -- ---- the value of a field
 
-module _ (s : List ℕ) (c at : ℕ) (o : Sort) (e : o ≡ sortOf c) (b : Bool) (f : b ≡ isPair o) where
+module _ (s : List ℕ) (c at : ℕ) (o : Sort) (e : o ≡ sort_of c) (b : Bool) (f : b ≡ is_pair o) where
   module _ (t : b ≡ true) (r : ℕ) where
-    pub first-pair : r ≡ u16At s at → r ≡ first (fieldIn s (sortOf c) at)
-    first-pair g = rw (← e, ← f, t) g
+    pub first_pair : r ≡ u16_at s at → r ≡ first (field_in_lem s (sort_of c) at)
+    first_pair g = rw (← e, ← f, t) g
 
-    pub second-pair : r ≡ u16At s (at + 2) → r ≡ second (fieldIn s (sortOf c) at)
-    second-pair g = rw (← e, ← f, t) g
+    pub second_pair : r ≡ u16_at s (at + 2) → r ≡ second (field_in_lem s (sort_of c) at)
+    second_pair g = rw (← e, ← f, t) g
 
   module _ (t : b ≡ false) where
-    pub first-number : (m : ℕ) → m ≡ width_of o → (r : ℕ) → r ≡ number_in s at m → r ≡ first (fieldIn s (sortOf c) at)
+    pub first_number : (m : ℕ) → m ≡ width_of o → (r : ℕ) → r ≡ number_in s at m → r ≡ first (field_in_lem s (sort_of c) at)
     unfolding number_in
-    first-number m g r h =
-        let w : isWidth m ≡ true = rw (g, e) (narrow c).0 in
+    first_number m g r h =
+        let w : is_width m ≡ true = rw (g, e) (narrow c).0 in
         rw (← e, ← f, t, ← g) (rw w at h)
 
-    pub second-number : 0 ≡ second (fieldIn s (sortOf c) at)
-    second-number = rw (← e, ← f, t) refl
+    pub second_number : 0 ≡ second (field_in_lem s (sort_of c) at)
+    second_number = rw (← e, ← f, t) refl
 
 -- ---- the fields: `whole` is what the loop has to answer, and v its invariant
 
 module _ (rest place left : ℕ) (whole : Spot) (v : whole ≡ spot_of (codes rest) place left) where
-  pub spot-end : rest ≡ 0 → spot.Nothing ≡ whole
+  pub spot_end : rest ≡ 0 → spot.Nothing ≡ whole
   unfolding spot_of
-  spot-end q = rw (v, codes-none rest q) refl
+  spot_end q = rw (v, codes_none rest q) refl
 
   module _ (q : rest ≡ 0 → ⊥) (l : rest < 2 ^ 64) where
-    pub spot-here : left ≡ 0 → spot.Field (rest % 256) place ≡ whole
+    pub spot_here : left ≡ 0 → spot.Field (rest % 256) place ≡ whole
     unfolding spot_of
-    spot-here z = rw (v, codes-more rest l q, z) refl
+    spot_here z = rw (v, codes_more rest l q, z) refl
 
-    pub spot-more : (left ≡ 0 → ⊥) → (o : Sort) → o ≡ sortOf (rest % 256) → (m : ℕ) → m ≡ width_of o → whole ≡ spot_of (codes (rest / 256)) (place + m) (left - 1)
+    pub spot_more : (left ≡ 0 → ⊥) → (o : Sort) → o ≡ sort_of (rest % 256) → (m : ℕ) → m ≡ width_of o → whole ≡ spot_of (codes (rest / 256)) (place + m) (left - 1)
     unfolding spot_of
-    spot-more z o e m f =
+    spot_more z o e m f =
         let n : left ≡ suc (left - 1) = omega arith in
-        v ∙ rw (codes-more rest l q, f, e) (ap (spot_of (rest % 256 ∷ codes (rest / 256)) place) n)
+        v ∙ rw (codes_more rest l q, f, e) (ap (spot_of (rest % 256 ∷ codes (rest / 256)) place) n)
 
-module _ (c : ℕ) (o : Sort) (e : o ≡ sortOf c) (m : ℕ) (f : m ≡ width_of o) (place left j : ℕ) (z : left ≡ 0 → ⊥) (b : place + 8 * left ≤ 65536 + 8 * j) where
-  pub spot-near : place + m + 8 * (left - 1) ≤ 65536 + 8 * j
-  spot-near = omega (arith, width_small c o e m f)
+module _ (c : ℕ) (o : Sort) (e : o ≡ sort_of c) (m : ℕ) (f : m ≡ width_of o) (place left j : ℕ) (z : left ≡ 0 → ⊥) (b : place + 8 * left ≤ 65536 + 8 * j) where
+  pub spot_near : place + m + 8 * (left - 1) ≤ 65536 + 8 * j
+  spot_near = omega (arith, width_small c o e m f)
 
-  pub spot-fits : j < 256 → Fits w64 (place + m)
-  spot-fits h = omega (arith, width_small c o e m f)
+  pub spot_fits : j < 256 → Fits w64 (place + m)
+  spot_fits h = omega (arith, width_small c o e m f)
 
 -- the field that stands at a spot
-abbrev fieldBy : List ℕ → Spot → Field
-fieldBy s (spot.Field c at) = fieldIn s (sortOf c) at
-fieldBy s spot.Nothing = no_field
+abbrev field_by : List ℕ → Spot → Field
+field_by s (spot.Field c at) = field_in_lem s (sort_of c) at
+field_by s spot.Nothing = no_field
 
-spot-field : (s cs : List ℕ) (at j : ℕ) → fieldBy s (spot_of cs at j) ≡ get_or (fields_at s cs at) j no_field
+spot_field : (s cs : List ℕ) (at j : ℕ) → field_by s (spot_of cs at j) ≡ get_or (fields_at s cs at) j no_field
 unfolding spot_of fields_at
-spot-field s [] at j = refl
-spot-field s (c ∷ cs) at zero = refl
-spot-field s (c ∷ cs) at (suc j) = spot-field s cs (at + width_of (sortOf c)) j
+spot_field s [] at j = refl
+spot_field s (c ∷ cs) at zero = refl
+spot_field s (c ∷ cs) at (suc j) = spot_field s cs (at + width_of (sort_of c)) j
 
 module _ (s : List ℕ) (row at j : ℕ) (x : Spot) (e : x ≡ spot_of (codes row) (at + 1) j) where
-  found : (f : Field) → fieldBy s x ≡ f → get_or (fields_at s (codes row) (at + 1)) j no_field ≡ f
-  found f g = sym (spot-field s (codes row) (at + 1) j) ∙ ap (fieldBy s) (sym e) ∙ g
+  found : (f : Field) → field_by s x ≡ f → get_or (fields_at s (codes row) (at + 1)) j no_field ≡ f
+  found f g = sym (spot_field s (codes row) (at + 1) j) ∙ ap (field_by s) (sym e) ∙ g
 
   module _ (g : x ≡ spot.Nothing) where
-    pub first-none : 0 ≡ first (get_or (fields_at s (codes row) (at + 1)) j no_field)
-    first-none = rw (found no_field (ap (fieldBy s) g)) refl
+    pub first_none : 0 ≡ first (get_or (fields_at s (codes row) (at + 1)) j no_field)
+    first_none = rw (found no_field (ap (field_by s) g)) refl
 
-    pub second-nothing : 0 ≡ second (get_or (fields_at s (codes row) (at + 1)) j no_field)
-    second-nothing = rw (found no_field (ap (fieldBy s) g)) refl
+    pub second_nothing : 0 ≡ second (get_or (fields_at s (codes row) (at + 1)) j no_field)
+    second_nothing = rw (found no_field (ap (field_by s) g)) refl
 
   module _ (c q : ℕ) (g : x ≡ spot.Field c q) (r : ℕ) where
-    pub first_found : r ≡ first (fieldIn s (sortOf c) q) → r ≡ first (get_or (fields_at s (codes row) (at + 1)) j no_field)
-    first_found h = rw (found (fieldIn s (sortOf c) q) (ap (fieldBy s) g)) h
+    pub first_found : r ≡ first (field_in_lem s (sort_of c) q) → r ≡ first (get_or (fields_at s (codes row) (at + 1)) j no_field)
+    first_found h = rw (found (field_in_lem s (sort_of c) q) (ap (field_by s) g)) h
 
-    pub second-found : r ≡ second (fieldIn s (sortOf c) q) → r ≡ second (get_or (fields_at s (codes row) (at + 1)) j no_field)
-    second-found h = rw (found (fieldIn s (sortOf c) q) (ap (fieldBy s) g)) h
+    pub second_found : r ≡ second (field_in_lem s (sort_of c) q) → r ≡ second (get_or (fields_at s (codes row) (at + 1)) j no_field)
+    second_found h = rw (found (field_in_lem s (sort_of c) q) (ap (field_by s) g)) h

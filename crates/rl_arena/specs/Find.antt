@@ -4,25 +4,25 @@ use Rattle.rl_spec.specs.declared.ArenaNo.{ArenaNo}
 use Rattle.rl_spec.specs.declared.Counts.{Counts}
 use Rattle.rl_spec.specs.declared.Id.{Id}
 use Rattle.rl_spec.specs.Bytes.{num_at}
-use Rattle.rl_spec.specs.Schema.{sortOf, width_of}
+use Rattle.rl_spec.specs.Schema.{sort_of, width_of}
 use Rattle.rl_arena.specs.declared.Spot.{Spot}
 use Rattle.rl_arena.specs.declared.Spot.TheVariants.{Field, Nothing}
 use Rattle.rl_arena.specs.declared.Lookup.{Lookup}
 use Rattle.rl_arena.specs.declared.Lookup.TheVariants.{Node, OtherArena, NoSuchNode}
 
 -- the widths that fields have
-abbrev pub isWidth : ℕ → Bool
-isWidth n = cond (eqb n 1) true (cond (eqb n 2) true (cond (eqb n 4) true (eqb n 8)))
+abbrev pub is_width : ℕ → Bool
+is_width n = cond (eqb n 1) true (cond (eqb n 2) true (cond (eqb n 4) true (eqb n 8)))
 
 -- the number in 1, 2, 4 or 8 bytes; 0 for any other width
 unfoldable pub number_in : List ℕ → ℕ → ℕ → ℕ
-number_in s at n = cond (isWidth n) (num_at s at n) 0
+number_in s at n = cond (is_width n) (num_at s at n) 0
 
 -- the j-th of the fields with these codes, the first of which stands at a place
 unfoldable pub spot_of : List ℕ → ℕ → ℕ → Spot
 spot_of [] at j = Nothing
 spot_of (c ∷ cs) at zero = Field c at
-spot_of (c ∷ cs) at (suc j) = spot_of cs (at + width_of (sortOf c)) j
+spot_of (c ∷ cs) at (suc j) = spot_of cs (at + width_of (sort_of c)) j
 
 -- a foreign id is told before a missing node
 unfoldable pub lookup : ArenaNo → Counts → Id → Lookup

@@ -1,8 +1,8 @@
 // Looks into an image that the reader has accepted. Every function answers for every argument: what is not there reads as 0.
 ghost use Rattle.std.specs.Prelude.{◌≡◌, ◌+◌, get_or};
 ghost use Rattle.rl_spec.specs.Bytes.{u32_at};
-ghost use Rattle.rl_spec.specs.Schema.{sortOf};
-ghost use Rattle.rl_spec.specs.Image.{no_field, first, second, isPair, fieldIn, fields_at, recordIn};
+ghost use Rattle.rl_spec.specs.Schema.{sort_of};
+ghost use Rattle.rl_spec.specs.Image.{no_field, first, second, is_pair, field_in, fields_at, record_in};
 ghost use Rattle.rl_schema.specs.Codes.{codes};
 ghost use Rattle.rl_arena.specs.Find.{number_in, spot_of, lookup};
 
@@ -30,7 +30,7 @@ pub fn statement_start(starts: &[u16], counts: Counts, n: u16) -> u16
 // ---- what stands in a record
 
 pub fn kind_at(image: &[u8], at: u16) -> u8
-    ensures { result ≡ (recordIn image.now at).kind }
+    ensures { result ≡ (record_in image.now at).kind }
 {
     byte_at(image, at as usize)
 }
@@ -82,7 +82,7 @@ fn field_spot(row: u64, at: u16, j: u8) -> Spot
 }
 
 pub fn is_pair(sort: Sort) -> bool
-    ensures { result ≡ isPair sort }
+    ensures { result ≡ is_pair sort }
 {
     match sort {
         Sort::Raw { width: _ } => false,
@@ -103,7 +103,7 @@ pub fn is_pair(sort: Sort) -> bool
 }
 
 fn first_at(image: &[u8], code: u8, at: usize) -> u64
-    ensures { result ≡ first (fieldIn image.now (sortOf code) at) }
+    ensures { result ≡ first (field_in image.now (sort_of code) at) }
 {
     let sort = sort_of(code);
     if is_pair(sort) {
@@ -113,7 +113,7 @@ fn first_at(image: &[u8], code: u8, at: usize) -> u64
 }
 
 fn second_at(image: &[u8], code: u8, at: usize) -> u16
-    ensures { result ≡ second (fieldIn image.now (sortOf code) at) }
+    ensures { result ≡ second (field_in image.now (sort_of code) at) }
 {
     if is_pair(sort_of(code)) {
         return second_u16(image, at);

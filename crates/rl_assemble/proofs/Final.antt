@@ -10,29 +10,29 @@ use borrow.Author.Tests.{eq-eqb, ne_eqb}
 use Rattle.rl_spec.specs.declared.Counts.{Counts}
 use Rattle.rl_spec.specs.declared.Interval.{Interval}
 use Rattle.rl_spec.specs.declared.Section.TheVariants.{Texts, Lists, Expressions, Statements, Parameters, Clauses, Functions, Calls}
-use Rattle.rl_spec.specs.Image.{pair, Rec, Image, recordsOf, size_of, recordOf, bytes_of, encodeRecords, encode, WellFormed}
-use Rattle.rl_spec.specs.Found.{parametersAt}
-use Rattle.rl_spec.specs.Lower.{bodied, withBody}
+use Rattle.rl_spec.specs.Image.{pair, Rec, Image, records_of, size_of, record_of_lem, bytes_of, encode_records, encode, WellFormed}
+use Rattle.rl_spec.specs.Found.{parameters_at}
+use Rattle.rl_spec.specs.Lower.{bodied, with_body}
 use Rattle.rl_laws.specs.Tests.{by_eqb}
-use Rattle.rl_images.specs.Encoding.BytesAt.{BytesAt, length-bytes}
+use Rattle.rl_images.specs.Encoding.BytesAt.{BytesAt, length_bytes}
 use Rattle.rl_images.specs.Encoding.ReaderKnows.{counts}
 use Rattle.rl_images.specs.Encoding.Sections.{place_of}
 use Rattle.rl_context.specs.declared.Ctx.{Ctx}
-use Rattle.rl_context.specs.Additions.{New, grown, textsFrom, listsFrom, expressionsFrom, statementsFrom, Held, Counted, Kept}
-use Rattle.rl_assemble.specs.Pieces.{both, expressionsAt, statementsAt, newCounts, newHeader, newText, newTexts, newLists, newTrees, newBytes, newLength}
-use Rattle.rl_assemble.proofs.Laid.{Sections, layoutLength, fiveCounts, fourCounts, rest_of, laid, four-length, laid-length, append-records}
-use Rattle.rl_assemble.proofs.Parts.{part-is, ofImage, texts-length, lists_length, whole_length, statements-place, parameters-place, front-stands, counts-stand, bytes-stand, texts-stand, lists-stand, expressions-stand, statements-stand}
-use Rattle.rl_assemble.proofs.Rest.{rest-is, rest-same}
+use Rattle.rl_context.specs.Additions.{New, grown, texts_from, lists_from, expressions_from, statements_from, Held, Counted, Kept}
+use Rattle.rl_assemble.specs.Pieces.{both, expressions_at, statements_at, new_counts, new_header, new_text, new_texts, new_lists, new_trees, new_bytes, new_length}
+use Rattle.rl_assemble.proofs.Laid.{Sections, layout_length, five_counts, four_counts, rest_of, laid, four_length, laid_length, append_records}
+use Rattle.rl_assemble.proofs.Parts.{part_is, of_image, texts_length, lists_length, whole_length, statements_place, parameters_place, front_stands, counts_stand, bytes_stand, texts_stand, lists_stand, expressions_stand, statements_stand}
+use Rattle.rl_assemble.proofs.Rest.{rest_is, rest_same}
 
 -- a section with its new records
-both-are : {s : List ℕ} {from : ℕ} (rs : List Rec) → BytesAt s from (encodeRecords rs) → (n : ℕ) → n ≡ length (encodeRecords rs) →
-    (z : List ℕ) (place m : ℕ) (qs : List Rec) → m ≡ length (encodeRecords qs) → Held place (encodeRecords qs) z →
-    both s from n z place m ≡ encodeRecords (rs ++ qs)
-both-are {from = from} rs st n e z place m qs f h =
-    ap₂ (λ x y. x ++ y) (part-is st from n refl e) (ap (λ k. take k (drop place z)) f ∙ h) ∙ sym (append-records rs qs)
+both_are : {s : List ℕ} {from : ℕ} (rs : List Rec) → BytesAt s from (encode_records rs) → (n : ℕ) → n ≡ length (encode_records rs) →
+    (z : List ℕ) (place m : ℕ) (qs : List Rec) → m ≡ length (encode_records qs) → Held place (encode_records qs) z →
+    both s from n z place m ≡ encode_records (rs ++ qs)
+both_are {from = from} rs st n e z place m qs f h =
+    ap₂ (λ x y. x ++ y) (part_is st from n refl e) (ap (λ k. take k (drop place z)) f ∙ h) ∙ sym (append_records rs qs)
 
-empty : (rs : List Rec) → length rs ≡ 0 → length (encodeRecords rs) ≡ 0
-unfolding encodeRecords
+empty : (rs : List Rec) → length rs ≡ 0 → length (encode_records rs) ≡ 0
+unfolding encode_records
 empty [] e = refl
 empty (r ∷ rs) e = absurd (omega arith)
 
@@ -45,141 +45,141 @@ module _ (im : Image) (wf : WellFormed im) (new : New) (ctx : Ctx) (z : List ℕ
 
   -- ---- the sections
 
-  text-is : newText s c ctx z ≡ im.bytes ++ new.bytes
-  unfolding newText
-  text-is =
-      ap₂ (λ x y. x ++ y) (part-is (bytes-stand im wf) 23 (length im.bytes) refl refl)
+  text_is : new_text s c ctx z ≡ im.bytes ++ new.bytes
+  unfolding new_text
+  text_is =
+      ap₂ (λ x y. x ++ y) (part_is (bytes_stand im wf) 23 (length im.bytes) refl refl)
       (ap (λ k. take k (drop (length im.bytes) z)) size ∙ kept.bytes)
     where
       size : ctx.bytes - length im.bytes ≡ length new.bytes
       size = omega (arith, counted.bytes)
 
-  texts-are : newTexts s c ctx z ≡ encodeRecords (recordsOf im Texts ++ new.texts)
-  unfolding newTexts
-  texts-are =
-      both-are (recordsOf im Texts) (texts-stand im wf) (c.texts * 5) (sym (texts-length im wf)) z (textsFrom + c.texts * 5) ((ctx.texts - c.texts) * 5)
-      new.texts (omega (arith, counted.texts, counted.text-bytes)) kept.texts
+  texts_are : new_texts s c ctx z ≡ encode_records (records_of im Texts ++ new.texts)
+  unfolding new_texts
+  texts_are =
+      both_are (records_of im Texts) (texts_stand im wf) (c.texts * 5) (sym (texts_length im wf)) z (texts_from + c.texts * 5) ((ctx.texts - c.texts) * 5)
+      new.texts (omega (arith, counted.texts, counted.text_bytes_lem)) kept.texts
 
-  lists-are : newLists s c ctx z ≡ encodeRecords (recordsOf im Lists ++ new.lists)
-  unfolding newLists
-  lists-are =
-      both-are (recordsOf im Lists) (lists-stand im wf) (c.lists * 3) (sym (lists_length im wf)) z (listsFrom + c.lists * 3) ((ctx.lists - c.lists) * 3)
-      new.lists (omega (arith, counted.lists, counted.list-bytes)) kept.lists
+  lists_are : new_lists s c ctx z ≡ encode_records (records_of im Lists ++ new.lists)
+  unfolding new_lists
+  lists_are =
+      both_are (records_of im Lists) (lists_stand im wf) (c.lists * 3) (sym (lists_length im wf)) z (lists_from + c.lists * 3) ((ctx.lists - c.lists) * 3)
+      new.lists (omega (arith, counted.lists, counted.list_bytes)) kept.lists
 
-  abbrev expressionsNow : List ℕ
-  expressionsNow = encodeRecords (recordsOf im Expressions ++ new.expressions)
+  abbrev expressions_now : List ℕ
+  expressions_now = encode_records (records_of im Expressions ++ new.expressions)
 
-  abbrev statementsNow : List ℕ
-  statementsNow = encodeRecords (recordsOf im Statements ++ new.statements)
+  abbrev statements_now : List ℕ
+  statements_now = encode_records (records_of im Statements ++ new.statements)
 
-  trees-are : newTrees s (expressionsAt c) (place_of im Statements) (parametersAt s c) ctx z ≡ expressionsNow ++ statementsNow
-  unfolding newTrees
-  trees-are =
+  trees_are : new_trees s (expressions_at c) (place_of im Statements) (parameters_at s c) ctx z ≡ expressions_now ++ statements_now
+  unfolding new_trees
+  trees_are =
       ap₂ (λ x y. x ++ y)
-      (both-are (recordsOf im Expressions) (expressions-stand im wf) (place_of im Statements - expressionsAt c) (omega (arith, statements-place im wf)) z expressionsFrom
-      ctx.expression_bytes new.expressions counted.expression-bytes kept.expressions)
-      (both-are (recordsOf im Statements) (statements-stand im wf) (parametersAt s c - place_of im Statements)
-      (omega (arith, statements-place im wf, parameters-place im wf)) z statementsFrom ctx.statement_bytes new.statements
-      counted.statement-bytes kept.statements)
+      (both_are (records_of im Expressions) (expressions_stand im wf) (place_of im Statements - expressions_at c) (omega (arith, statements_place im wf)) z expressions_from
+      ctx.expression_bytes new.expressions counted.expression_bytes_lem kept.expressions)
+      (both_are (records_of im Statements) (statements_stand im wf) (parameters_at s c - place_of im Statements)
+      (omega (arith, statements_place im wf, parameters_place im wf)) z statements_from ctx.statement_bytes new.statements
+      counted.statement_bytes_lem kept.statements)
 
   -- ---- where the statements start
 
-  statements-are : (p : List ℕ) → (0 < size_of im Statements → get_or p (size_of im Expressions) 0 ≡ place_of im Statements) →
-      statementsAt s p c ≡ place_of im Statements
-  statements-are p h = by_eqb (size_of im Statements) 0 none some
+  statements_are : (p : List ℕ) → (0 < size_of im Statements → get_or p (size_of im Expressions) 0 ≡ place_of im Statements) →
+      statements_at s p c ≡ place_of im Statements
+  statements_are p h = by_eqb (size_of im Statements) 0 none some
     where
-      none : size_of im Statements ≡ 0 → statementsAt s p c ≡ place_of im Statements
+      none : size_of im Statements ≡ 0 → statements_at s p c ≡ place_of im Statements
       none e =
-          ap (λ b. cond b (parametersAt s c) (get_or p (size_of im Expressions) 0)) (eq-eqb (size_of im Statements) 0 e)
-          ∙ parameters-place im wf
-          ∙ omega (arith, statements-place im wf, empty (recordsOf im Statements) e)
+          ap (λ b. cond b (parameters_at s c) (get_or p (size_of im Expressions) 0)) (eq-eqb (size_of im Statements) 0 e)
+          ∙ parameters_place im wf
+          ∙ omega (arith, statements_place im wf, empty (records_of im Statements) e)
 
-      some : (size_of im Statements ≡ 0 → ⊥) → statementsAt s p c ≡ place_of im Statements
-      some q = ap (λ b. cond b (parametersAt s c) (get_or p (size_of im Expressions) 0)) (ne_eqb (size_of im Statements) 0 q) ∙ h (omega arith)
+      some : (size_of im Statements ≡ 0 → ⊥) → statements_at s p c ≡ place_of im Statements
+      some q = ap (λ b. cond b (parameters_at s c) (get_or p (size_of im Expressions) 0)) (ne_eqb (size_of im Statements) 0 q) ∙ h (omega arith)
 
   module _ (f : ℕ) (l : f < size_of im Functions) (list : Interval) where
     abbrev pub final : Image
-    final = withBody (grown im new) f (pair list.first list.count)
+    final = with_body (grown im new) f (pair list.first list.count)
 
     abbrev after : Sections
     after =
         record {
-          texts = recordsOf im Texts ++ new.texts;
-          lists = recordsOf im Lists ++ new.lists;
-          expressions = recordsOf im Expressions ++ new.expressions;
-          statements = recordsOf im Statements ++ new.statements;
-          parameters = recordsOf im Parameters;
-          clauses = recordsOf im Clauses;
-          functions = set (recordsOf im Functions) f (bodied (recordOf im Functions f) (pair list.first list.count));
-          calls = recordsOf im Calls;
+          texts = records_of im Texts ++ new.texts;
+          lists = records_of im Lists ++ new.lists;
+          expressions = records_of im Expressions ++ new.expressions;
+          statements = records_of im Statements ++ new.statements;
+          parameters = records_of im Parameters;
+          clauses = records_of im Clauses;
+          functions = set (records_of im Functions) f (bodied (record_of_lem im Functions f) (pair list.first list.count));
+          calls = records_of im Calls;
         }
 
-    counts-are : newCounts ctx ≡ fiveCounts (im.bytes ++ new.bytes) after
-    unfolding newCounts
-    counts-are =
+    counts_are : new_counts ctx ≡ five_counts (im.bytes ++ new.bytes) after
+    unfolding new_counts
+    counts_are =
         λ i.
         bytes_of 2 ((counted.bytes ∙ sym (length-append im.bytes new.bytes)) i)
-        ++ bytes_of 2 ((counted.texts ∙ sym (length-append (recordsOf im Texts) new.texts)) i)
-        ++ bytes_of 2 ((counted.lists ∙ sym (length-append (recordsOf im Lists) new.lists)) i)
-        ++ bytes_of 2 ((counted.expressions ∙ sym (length-append (recordsOf im Expressions) new.expressions)) i)
-        ++ bytes_of 2 ((counted.statements ∙ sym (length-append (recordsOf im Statements) new.statements)) i)
+        ++ bytes_of 2 ((counted.texts ∙ sym (length-append (records_of im Texts) new.texts)) i)
+        ++ bytes_of 2 ((counted.lists ∙ sym (length-append (records_of im Lists) new.lists)) i)
+        ++ bytes_of 2 ((counted.expressions ∙ sym (length-append (records_of im Expressions) new.expressions)) i)
+        ++ bytes_of 2 ((counted.statements ∙ sym (length-append (records_of im Statements) new.statements)) i)
 
-    four_are : fourCounts (ofImage im) ≡ fourCounts after
+    four_are : four_counts (of_image im) ≡ four_counts after
     four_are =
         ap (λ n. bytes_of 2 (size_of im Parameters) ++ bytes_of 2 (size_of im Clauses) ++ bytes_of 2 n ++ bytes_of 2 (size_of im Calls))
-        (sym (length-set (recordsOf im Functions) f _))
+        (sym (length-set (records_of im Functions) f _))
 
-    header_is : newHeader s ctx ≡ (1 ∷ bytes_of 4 im.arena) ++ fiveCounts (im.bytes ++ new.bytes) after ++ fourCounts after
-    unfolding newHeader
+    header_is : new_header s ctx ≡ (1 ∷ bytes_of 4 im.arena) ++ five_counts (im.bytes ++ new.bytes) after ++ four_counts after
+    unfolding new_header
     header_is =
         λ i.
-        part-is (front-stands im wf) 0 5 refl (ap suc (sym (length-bytes 4 im.arena))) i ++ counts-are i
-        ++ (part-is (counts-stand im wf) 15 8 refl (sym (four-length (ofImage im))) ∙ four_are) i
+        part_is (front_stands im wf) 0 5 refl (ap suc (sym (length_bytes 4 im.arena))) i ++ counts_are i
+        ++ (part_is (counts_stand im wf) 15 8 refl (sym (four_length (of_image im))) ∙ four_are) i
 
     regroup : (h n m b t l e s r : List ℕ) → h ++ n ++ m ++ b ++ t ++ l ++ (e ++ s) ++ r ≡
         h ++ (n ++ (m ++ (b ++ (t ++ (l ++ (e ++ (s ++ r)))))))
     regroup h n m b t l e s r = simp append_assoc
 
     -- THE LAW: what is put
-    pub bytes-are : (p : List ℕ) → (0 < size_of im Statements → get_or p (size_of im Expressions) 0 ≡ place_of im Statements) →
-        newBytes s p c ctx z f list ≡ encode final
-    unfolding newBytes
-    bytes-are p h =
+    pub bytes_are : (p : List ℕ) → (0 < size_of im Statements → get_or p (size_of im Expressions) 0 ≡ place_of im Statements) →
+        new_bytes s p c ctx z f list ≡ encode final
+    unfolding new_bytes
+    bytes_are p h =
         (λ i.
-        header_is i ++ text-is i ++ texts-are i ++ lists-are i
-        ++ (ap (λ n. newTrees s (expressionsAt c) n (parametersAt s c) ctx z) (statements-are p h) ∙ trees-are) i
-        ++ rest-is im wf f l list i)
-        ∙ regroup (1 ∷ bytes_of 4 im.arena) (fiveCounts (im.bytes ++ new.bytes) after) (fourCounts after) (im.bytes ++ new.bytes)
-        (encodeRecords after.texts) (encodeRecords after.lists) (encodeRecords after.expressions) (encodeRecords after.statements) (rest_of after)
+        header_is i ++ text_is i ++ texts_are i ++ lists_are i
+        ++ (ap (λ n. new_trees s (expressions_at c) n (parameters_at s c) ctx z) (statements_are p h) ∙ trees_are) i
+        ++ rest_is im wf f l list i)
+        ∙ regroup (1 ∷ bytes_of 4 im.arena) (five_counts (im.bytes ++ new.bytes) after) (four_counts after) (im.bytes ++ new.bytes)
+        (encode_records after.texts) (encode_records after.lists) (encode_records after.expressions) (encode_records after.statements) (rest_of after)
         ∙ sym (laid im.arena (im.bytes ++ new.bytes) after)
 
-    grown-length : (rs qs : List Rec) → length (encodeRecords (rs ++ qs)) ≡ length (encodeRecords rs) + length (encodeRecords qs)
-    grown-length rs qs = ap length (append-records rs qs) ∙ length-append (encodeRecords rs) (encodeRecords qs)
+    grown_length : (rs qs : List Rec) → length (encode_records (rs ++ qs)) ≡ length (encode_records rs) + length (encode_records qs)
+    grown_length rs qs = ap length (append_records rs qs) ∙ length-append (encode_records rs) (encode_records qs)
 
-    final-length : length (encode final) ≡ layoutLength (im.bytes ++ new.bytes) after
-    final-length =
+    final_length : length (encode final) ≡ layout_length (im.bytes ++ new.bytes) after
+    final_length =
         ap length (laid im.arena (im.bytes ++ new.bytes) after)
-        ∙ laid-length im.arena (im.bytes ++ new.bytes) after
+        ∙ laid_length im.arena (im.bytes ++ new.bytes) after
 
     -- THE LAW: how many bytes they are
-    pub length-is : newLength s c ctx ≡ length (encode final)
-    unfolding newLength
-    length-is =
+    pub length_is : new_length s c ctx ≡ length (encode final)
+    unfolding new_length
+    length_is =
         omega (
           arith,
-          final-length,
+          final_length,
           whole_length im wf,
           length-append im.bytes new.bytes,
-          grown-length (recordsOf im Texts) new.texts,
-          grown-length (recordsOf im Lists) new.lists,
-          grown-length (recordsOf im Expressions) new.expressions,
-          grown-length (recordsOf im Statements) new.statements,
-          rest-same im wf f l list.first list.count,
+          grown_length (records_of im Texts) new.texts,
+          grown_length (records_of im Lists) new.lists,
+          grown_length (records_of im Expressions) new.expressions,
+          grown_length (records_of im Statements) new.statements,
+          rest_same im wf f l list.first list.count,
           counted.bytes,
           counted.texts,
           counted.lists,
-          counted.text-bytes,
-          counted.list-bytes,
-          counted.expression-bytes,
-          counted.statement-bytes,
+          counted.text_bytes_lem,
+          counted.list_bytes,
+          counted.expression_bytes_lem,
+          counted.statement_bytes_lem,
         )

@@ -14,18 +14,18 @@ use Rattle.rl_spec.specs.declared.Counts.{Counts}
 use Rattle.rl_spec.specs.declared.Interval.{Interval}
 use Rattle.rl_spec.specs.declared.Section.TheVariants.{Functions, Statements}
 use Rattle.rl_spec.specs.Image.{Image, size_of, pair, encode}
-use Rattle.rl_spec.specs.Lower.{withBody, fitting}
+use Rattle.rl_spec.specs.Lower.{with_body, fitting}
 use Rattle.rl_images.specs.Encoding.ReaderKnows.{counts}
 use Rattle.rl_images.specs.Encoding.Sections.{place_of}
-use Rattle.rl_text_out.specs.Put.{withText, afterText}
+use Rattle.rl_text_out.specs.Put.{with_text, after_text}
 use Rattle.rl_text_out.specs.Put.{fitting as placed}
 use Rattle.rl_context.specs.declared.Ctx.{Ctx}
 use Rattle.rl_context.specs.Additions.{New, grown, Counted, Kept}
-use Rattle.rl_assemble.specs.Pieces.{Puts, Source, newBytes, newLength}
+use Rattle.rl_assemble.specs.Pieces.{Puts, Source, new_bytes, new_length}
 use Rattle.rl_assemble.specs.Written.{Written}
 use Rattle.rl_assemble.specs.declared.Assembled.{Assembled}
 use Rattle.rl_assemble.specs.declared.Assembled.TheVariants.{Length, PastLimit}
-use Rattle.rl_assemble.proofs.Final.{bytes-are, length-is}
+use Rattle.rl_assemble.proofs.Final.{bytes_are, length_is}
 
 -- a text at the front of a slice that has room for it
 module _ (out x : List ℕ) (room : length x ≤ length out) where
@@ -33,40 +33,40 @@ module _ (out x : List ℕ) (room : length x ≤ length out) where
   unfolding placed
   fits = omega arith
 
-  pub after_front : afterText out 0 x ≡ length x
-  unfolding afterText
+  pub after_front : after_text out 0 x ≡ length x
+  unfolding after_text
   after_front = omega (arith, fits)
 
-  pub with-front : withText out 0 x ≡ x ++ drop (length x) out
-  unfolding withText
-  with-front = ap (paste out 0 x) fits ∙ ap₂ (λ a n. a ++ drop n out) (take-length x) (zero-add (length x))
+  pub with_front : with_text out 0 x ≡ x ++ drop (length x) out
+  unfolding with_text
+  with_front = ap (paste out 0 x) fits ∙ ap₂ (λ a n. a ++ drop n out) (take-length x) (zero-add (length x))
 
 abbrev pub IsPast : Assembled → Type 0
 IsPast (Length n) = ⊥
 IsPast PastLimit = Unit {0}
 
-abbrev pub lengthIn : Assembled → ℕ
-lengthIn (Length n) = n
-lengthIn PastLimit = 0
+abbrev pub length_in : Assembled → ℕ
+length_in (Length n) = n
+length_in PastLimit = 0
 
 pub written_none : (out : List ℕ) → Written none out PastLimit out
 written_none out = record { number = refl; bytes = refl; few = λ n e. absurd (subst IsPast e tt) }
 
 pub written_all : (im : Image) (out : List ℕ) (r : ℕ) (after : List ℕ) → r ≡ length (encode im) → after ≡ encode im ++ drop (length (encode im)) out →
     length (encode im) ≤ 65535 → Written (some im) out (Length r) after
-written_all im out r after e f h = record { number = ap Length e; bytes = f; few = λ n g. omega (arith, ap lengthIn g, e) }
+written_all im out r after e f h = record { number = ap Length e; bytes = f; few = λ n g. omega (arith, ap length_in g, e) }
 
-past-limit : (im : Image) (out : List ℕ) → 65535 < length (encode im) → Written (fitting true im) out PastLimit out
+past_limit : (im : Image) (out : List ℕ) → 65535 < length (encode im) → Written (fitting true im) out PastLimit out
 unfolding fitting
-past-limit im out h =
+past_limit im out h =
     subst (λ b. Written (cond b none (some im)) out PastLimit out) (sym (lt-ltb 65535 (length (encode im)) h)) (written_none out)
 
-within-limit : (im : Image) (out : List ℕ) (r : ℕ) (after : List ℕ) → length (encode im) ≤ 65535 → 65535 ≤ length out →
+within_limit : (im : Image) (out : List ℕ) (r : ℕ) (after : List ℕ) → length (encode im) ≤ 65535 → 65535 ≤ length out →
     Puts out 0 (encode im) r after → Written (fitting true im) out (Length r) after
 unfolding fitting
-within-limit im out r after h room p =
+within_limit im out r after h room p =
     subst (λ b. Written (cond b none (some im)) out (Length r) after) (sym (le-ltb 65535 (length (encode im)) h))
-    (written_all im out r after (p.place ∙ after_front out (encode im) (omega arith)) (p.bytes ∙ with-front out (encode im) (omega arith)) h)
+    (written_all im out r after (p.place ∙ after_front out (encode im) (omega arith)) (p.bytes ∙ with_front out (encode im) (omega arith)) h)
 
 -- ---- the three ways out
 
@@ -74,34 +74,34 @@ module _ (s p : List ℕ) (c : Counts) (ctx : Ctx) (z : List ℕ) (f : ℕ) (lis
   abbrev Assembles : Assembled → List ℕ → Type 0
   Assembles r after =
       (im : Image) (new : New) → Source im s p c → Counted im new ctx → Kept im new z → f < size_of im Functions → 65535 ≤ length out →
-      Written (fitting true (withBody (grown im new) f (pair list.first list.count))) out r after
+      Written (fitting true (with_body (grown im new) f (pair list.first list.count))) out r after
 
   module _ (im : Image) (new : New) (src : Source im s p c) (counted : Counted im new ctx) (kept : Kept im new z) (l : f < size_of im Functions) where
     abbrev final : Image
-    final = withBody (grown im new) f (pair list.first list.count)
+    final = with_body (grown im new) f (pair list.first list.count)
 
-    size_is : newLength s c ctx ≡ length (encode final)
+    size_is : new_length s c ctx ≡ length (encode final)
     size_is =
-        (λ i. newLength (src.bytes i) (src.counts-are i) ctx) ∙ length-is im src.well-formed new ctx z counted kept f l list
+        (λ i. new_length (src.bytes i) (src.counts_are i) ctx) ∙ length_is im src.well_formed new ctx z counted kept f l list
 
-    starts-are : 0 < size_of im Statements → get_or p (counts im).expressions 0 ≡ place_of im Statements
-    starts-are =
-        subst (λ x. 0 < x.statements → get_or p x.expressions 0 ≡ place_of im Statements) src.counts-are src.starts
+    starts_are : 0 < size_of im Statements → get_or p (counts im).expressions 0 ≡ place_of im Statements
+    starts_are =
+        subst (λ x. 0 < x.statements → get_or p x.expressions 0 ≡ place_of im Statements) src.counts_are src.starts
 
-    put_is : newBytes s p c ctx z f list ≡ encode final
+    put_is : new_bytes s p c ctx z f list ≡ encode final
     put_is =
-        (λ i. newBytes (src.bytes i) p (src.counts-are i) ctx z f list)
-        ∙ bytes-are im src.well-formed new ctx z counted kept f l list p starts-are
+        (λ i. new_bytes (src.bytes i) p (src.counts_are i) ctx z f list)
+        ∙ bytes_are im src.well_formed new ctx z counted kept f l list p starts_are
 
-  pub image-long : 65535 < length s → Assembles PastLimit out
-  image-long h im new src counted kept l room = absurd (omega (arith, src.well-formed.size, ap length src.bytes))
+  pub image_long : 65535 < length s → Assembles PastLimit out
+  image_long h im new src counted kept l room = absurd (omega (arith, src.well_formed.size, ap length src.bytes))
 
-  pub bytes-long : (n : ℕ) → n ≡ newLength s c ctx → 65535 < n → Assembles PastLimit out
-  bytes-long n e h im new src counted kept l room =
-      past-limit (final im new src counted kept l) out (omega (arith, size_is im new src counted kept l))
+  pub bytes_long : (n : ℕ) → n ≡ new_length s c ctx → 65535 < n → Assembles PastLimit out
+  bytes_long n e h im new src counted kept l room =
+      past_limit (final im new src counted kept l) out (omega (arith, size_is im new src counted kept l))
 
-  pub all-put : (n : ℕ) → n ≡ newLength s c ctx → n ≤ 65535 → (r : ℕ) (after : List ℕ) → Puts out 0 (newBytes s p c ctx z f list) r after →
+  pub all_put : (n : ℕ) → n ≡ new_length s c ctx → n ≤ 65535 → (r : ℕ) (after : List ℕ) → Puts out 0 (new_bytes s p c ctx z f list) r after →
       Assembles (Length r) after
-  all-put n e h r after q im new src counted kept l room =
-      within-limit (final im new src counted kept l) out r after (omega (arith, size_is im new src counted kept l)) room
+  all_put n e h r after q im new src counted kept l room =
+      within_limit (final im new src counted kept l) out r after (omega (arith, size_is im new src counted kept l)) room
       (subst (λ x. Puts out 0 x r after) (put_is im new src counted kept l) q)

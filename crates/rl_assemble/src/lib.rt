@@ -2,10 +2,10 @@
 ghost use Rattle.std.specs.Prelude.{◌≡◌, true, ◌+◌, ◌*◌, ◌≤◌, ◌<◌, length};
 ghost use Rattle.rl_spec.specs.declared.Section.TheVariants.{Functions};
 ghost use Rattle.rl_spec.specs.Image.{Image, pair, bytes_of, size_of};
-ghost use Rattle.rl_spec.specs.Lower.{withBody, fitting};
+ghost use Rattle.rl_spec.specs.Lower.{with_body, fitting};
 ghost use Rattle.rl_context.specs.Additions.{New, grown, Counted, Kept};
 ghost use Rattle.rl_assemble.specs.Written.{Written};
-ghost use Rattle.rl_assemble.specs.Pieces.{Puts, Source, newCounts, newHeader, newText, newTexts, newLists, newTrees, newRest, newBytes, newLength, expressionsAt, statementsAt, body_at, both};
+ghost use Rattle.rl_assemble.specs.Pieces.{Puts, Source, new_counts, new_header, new_text, new_texts, new_lists, new_trees, new_rest, new_bytes, new_length, expressions_at, statements_at, body_at, both};
 ghost use Rattle.rl_assemble.specs.Pieces as pieces;
 
 use rl_bytes::{part, word_at};
@@ -33,7 +33,7 @@ fn put_two(out: &mut [u8], at: usize, n: u32) -> usize
 }
 
 fn put_counts(out: &mut [u8], at: usize, ctx: Ctx) -> usize
-    ensures { Puts out.old at (newCounts ctx) result out.new }
+    ensures { Puts out.old at (new_counts ctx) result out.new }
 {
     let bytes = ctx.bytes;
     let texts = ctx.texts;
@@ -48,7 +48,7 @@ fn put_counts(out: &mut [u8], at: usize, ctx: Ctx) -> usize
 }
 
 fn put_header(out: &mut [u8], at: usize, image: &[u8], ctx: Ctx) -> usize
-    ensures { Puts out.old at (newHeader image.now ctx) result out.new }
+    ensures { Puts out.old at (new_header image.now ctx) result out.new }
 {
     let a = put_part(out, at, image, 0, 5);
     let b = put_counts(out, a, ctx);
@@ -80,7 +80,7 @@ fn put_bytes(
     ctx: Ctx,
     scratch: &[u8],
 ) -> usize
-    ensures { Puts out.old at (newText image.now counts ctx scratch.now) result out.new }
+    ensures { Puts out.old at (new_text image.now counts ctx scratch.now) result out.new }
 {
     let bytes = counts.bytes as usize;
     let n = before(ctx.bytes as usize, bytes);
@@ -95,7 +95,7 @@ fn put_texts(
     ctx: Ctx,
     scratch: &[u8],
 ) -> usize
-    ensures { Puts out.old at (newTexts image.now counts ctx scratch.now) result out.new }
+    ensures { Puts out.old at (new_texts image.now counts ctx scratch.now) result out.new }
 {
     let from = 23 + (counts.bytes as usize);
     let size = (counts.texts as usize) * 5;
@@ -111,7 +111,7 @@ fn put_lists(
     ctx: Ctx,
     scratch: &[u8],
 ) -> usize
-    ensures { Puts out.old at (newLists image.now counts ctx scratch.now) result out.new }
+    ensures { Puts out.old at (new_lists image.now counts ctx scratch.now) result out.new }
 {
     let from = 23 + (counts.bytes as usize) + (counts.texts as usize) * 5;
     let size = (counts.lists as usize) * 3;
@@ -130,7 +130,7 @@ fn put_trees(
     ctx: Ctx,
     scratch: &[u8],
 ) -> usize
-    ensures { Puts out.old at (newTrees image.now expressions statements parameters ctx scratch.now) result out.new }
+    ensures { Puts out.old at (new_trees image.now expressions statements parameters ctx scratch.now) result out.new }
 {
     let expression_bytes = ctx.expression_bytes as usize;
     let statement_bytes = ctx.statement_bytes as usize;
@@ -168,7 +168,7 @@ fn put_rest(
     list: Interval,
 ) -> usize
     requires { body ≤ 4294967295 }
-    ensures { Puts out.old at (newRest image.now parameters body list) result out.new }
+    ensures { Puts out.old at (new_rest image.now parameters body list) result out.new }
 {
     let first = list.first as u32;
     let count = list.count as u32;
@@ -182,13 +182,13 @@ fn put_rest(
 // ---- the image
 
 fn expressions_at(counts: Counts) -> usize
-    ensures { result ≡ expressionsAt counts }
+    ensures { result ≡ expressions_at counts }
 {
     23 + (counts.bytes as usize) + (counts.texts as usize) * 5 + (counts.lists as usize) * 3
 }
 
 fn statements_at(image: &[u8], starts: &[u16], counts: Counts) -> usize
-    ensures { result ≡ statementsAt image.now starts.now counts }
+    ensures { result ≡ statements_at image.now starts.now counts }
 {
     let statements = counts.statements;
     let expressions = counts.expressions as usize;
@@ -208,7 +208,7 @@ fn body_at(image: &[u8], counts: Counts, function: u16) -> usize
 
 fn new_length(image: &[u8], counts: Counts, ctx: Ctx) -> usize
     requires { length image.now ≤ 65535 }
-    ensures { result ≡ newLength image.now counts ctx }
+    ensures { result ≡ new_length image.now counts ctx }
 {
     let bytes = before(ctx.bytes as usize, counts.bytes as usize);
     let texts = before(ctx.texts as usize, counts.texts as usize);
@@ -229,7 +229,7 @@ fn put_image(
     list: Interval,
 ) -> usize
     requires { length image.now ≤ 65535 }
-    ensures { Puts out.old 0 (newBytes image.now starts.now counts ctx scratch.now function list) result out.new }
+    ensures { Puts out.old 0 (new_bytes image.now starts.now counts ctx scratch.now function list) result out.new }
 {
     let statements = statements_at(image, starts, counts);
     let parameters = parameters_at(image, counts);
@@ -270,7 +270,7 @@ pub fn assemble(
     list: Interval,
     out: &mut [u8],
 ) -> Assembled
-    ensures { (im : Image) (new : New) → Source im image.now starts.now counts → Counted im new ctx → Kept im new scratch.now → function < size_of im Functions → 65535 ≤ length out.old → Written (fitting true (withBody (grown im new) function (pair list.first list.count))) out.old result out.new }
+    ensures { (im : Image) (new : New) → Source im image.now starts.now counts → Counted im new ctx → Kept im new scratch.now → function < size_of im Functions → 65535 ≤ length out.old → Written (fitting true (with_body (grown im new) function (pair list.first list.count))) out.old result out.new }
 {
     if 65535 < image.len() {
         return Assembled::PastLimit;

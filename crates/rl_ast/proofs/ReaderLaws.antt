@@ -20,112 +20,112 @@ use Rattle.rl_spec.specs.declared.Section.{Section}
 use Rattle.rl_spec.specs.declared.Section.TheVariants.{Texts, Lists, Expressions, Statements, Parameters, Clauses, Functions, Calls}
 use Rattle.rl_spec.specs.declared.Step.{Step}
 use Rattle.rl_spec.specs.declared.Step.TheVariants.{Next, Stop}
-use Rattle.rl_spec.specs.Bytes.{u16At, u32_at, past}
-use Rattle.rl_spec.specs.Schema.{limits, sections, count_of, inSection, fields_of}
-use Rattle.rl_spec.specs.Fields.{recordAt, heightStep, fieldsFrom}
-use Rattle.rl_spec.specs.Read.{countsOf, countsFrom, headerOf, Out, good, bad, out_of, seenBy, keep, recordsFrom, sectionsFrom, end_of, body_of, contentOf, mostStarts, read_of, answer_of, workOf, startsOf}
+use Rattle.rl_spec.specs.Bytes.{u16_at, u32_at, past}
+use Rattle.rl_spec.specs.Schema.{limits, sections, count_of, in_section, fields_of}
+use Rattle.rl_spec.specs.Fields.{record_at, height_step, fields_from}
+use Rattle.rl_spec.specs.Read.{counts_of, counts_from, header_of, Out, good, bad, out_of, seen_by, keep, records_from, sections_from, end_of, body_of, content_of, most_starts, read_of, answer_of, work_of, starts_of}
 use Rattle.rl_fields.proofs.FieldLaws.{turn, ended}
-use Rattle.rl_fields.proofs.RecordLaws.{byte-there, record-by-table}
-use Rattle.rl_fields.specs.Checked.{recordBy}
+use Rattle.rl_fields.proofs.RecordLaws.{byte_there, record_by_table}
+use Rattle.rl_fields.specs.Checked.{record_by}
 use Rattle.rl_schema.specs.Codes.{table}
 
 -- ---- the header
 
-pub limit-rest : (j : ℕ) → (j ≡ 0 → ⊥) → (j ≡ 1 → ⊥) → (j ≡ 2 → ⊥) → (j ≡ 3 → ⊥) → (j ≡ 4 → ⊥) → (j ≡ 7 → ⊥) → 256 ≡ get_or limits j 256
+pub limit_rest : (j : ℕ) → (j ≡ 0 → ⊥) → (j ≡ 1 → ⊥) → (j ≡ 2 → ⊥) → (j ≡ 3 → ⊥) → (j ≡ 4 → ⊥) → (j ≡ 7 → ⊥) → 256 ≡ get_or limits j 256
 unfolding limits
-limit-rest zero a b c d e f = absurd (a refl)
-limit-rest (suc zero) a b c d e f = absurd (b refl)
-limit-rest (suc (suc zero)) a b c d e f = absurd (c refl)
-limit-rest (suc (suc (suc zero))) a b c d e f = absurd (d refl)
-limit-rest (suc (suc (suc (suc zero)))) a b c d e f = absurd (e refl)
-limit-rest (suc (suc (suc (suc (suc zero))))) a b c d e f = refl
-limit-rest (suc (suc (suc (suc (suc (suc zero)))))) a b c d e f = refl
-limit-rest (suc (suc (suc (suc (suc (suc (suc zero))))))) a b c d e f = absurd (f refl)
-limit-rest (suc (suc (suc (suc (suc (suc (suc (suc zero)))))))) a b c d e f = refl
-limit-rest (suc (suc (suc (suc (suc (suc (suc (suc (suc j))))))))) a b c d e f = refl
+limit_rest zero a b c d e f = absurd (a refl)
+limit_rest (suc zero) a b c d e f = absurd (b refl)
+limit_rest (suc (suc zero)) a b c d e f = absurd (c refl)
+limit_rest (suc (suc (suc zero))) a b c d e f = absurd (d refl)
+limit_rest (suc (suc (suc (suc zero)))) a b c d e f = absurd (e refl)
+limit_rest (suc (suc (suc (suc (suc zero))))) a b c d e f = refl
+limit_rest (suc (suc (suc (suc (suc (suc zero)))))) a b c d e f = refl
+limit_rest (suc (suc (suc (suc (suc (suc (suc zero))))))) a b c d e f = absurd (f refl)
+limit_rest (suc (suc (suc (suc (suc (suc (suc (suc zero)))))))) a b c d e f = refl
+limit_rest (suc (suc (suc (suc (suc (suc (suc (suc (suc j))))))))) a b c d e f = refl
 
 nine : length limits ≡ 9
 unfolding limits
 nine = refl
 
-module _ (s : List ℕ) (j at : ℕ) (whole : Step) (v : whole ≡ countsFrom s (drop j limits) at) where
-  pub count-end : 9 ≤ j → Next at 0 ≡ whole
-  unfolding countsFrom
-  count-end q = rw (v, drop_of_length-le limits {i = j} (rw nine q)) refl
+module _ (s : List ℕ) (j at : ℕ) (whole : Step) (v : whole ≡ counts_from s (drop j limits) at) where
+  pub count_end : 9 ≤ j → Next at 0 ≡ whole
+  unfolding counts_from
+  count_end q = rw (v, drop_of_length-le limits {i = j} (rw nine q)) refl
 
   module _ (q : j < 9) (b : Bool) (e : b ≡ past s at 2) where
     here : drop j limits ≡ get_or limits j 256 ∷ drop (j + 1) limits
     here = rw (add-one j) (drop-cons limits j 256 (rw nine q))
 
     pub count_past : b ≡ true → Stop BytesEnd at ≡ whole
-    unfolding countsFrom
+    unfolding counts_from
     count_past f = rw (v, here, ← e, f) refl
 
-    module _ (f : b ≡ false) (most n : ℕ) (g : most ≡ get_or limits j 256) (h : n ≡ u16At s at) where
-      pub count-over : most < n → Stop CountOverLimit at ≡ whole
-      unfolding countsFrom
-      count-over x = rw (v, here, ← e, f, ← g, ← h, lt-ltb most n x) refl
+    module _ (f : b ≡ false) (most n : ℕ) (g : most ≡ get_or limits j 256) (h : n ≡ u16_at s at) where
+      pub count_over : most < n → Stop CountOverLimit at ≡ whole
+      unfolding counts_from
+      count_over x = rw (v, here, ← e, f, ← g, ← h, lt-ltb most n x) refl
 
-      pub count-more : n ≤ most → whole ≡ countsFrom s (drop (j + 1) limits) (at + 2)
-      unfolding countsFrom
-      count-more x = rw (v, here, ← e, f, ← g, ← h, le-ltb most n x) refl
+      pub count_more : n ≤ most → whole ≡ counts_from s (drop (j + 1) limits) (at + 2)
+      unfolding counts_from
+      count_more x = rw (v, here, ← e, f, ← g, ← h, le-ltb most n x) refl
 
 module _ (s : List ℕ) (b : Bool) (e : b ≡ past s 0 1) where
-  pub header-past : b ≡ true → Stop BytesEnd 0 ≡ headerOf s
-  unfolding headerOf
-  header-past q = rw (← e, q) refl
+  pub header_past : b ≡ true → Stop BytesEnd 0 ≡ header_of s
+  unfolding header_of
+  header_past q = rw (← e, q) refl
 
   module _ (q : b ≡ false) (k : ℕ) (f : k ≡ get_or s 0 0) where
-    pub header-kind : (k ≡ 1 → ⊥) → Stop WrongKind 0 ≡ headerOf s
-    unfolding headerOf
-    header-kind x = rw (← e, q, ← f, ne_eqb k 1 x) refl
+    pub header_kind : (k ≡ 1 → ⊥) → Stop WrongKind 0 ≡ header_of s
+    unfolding header_of
+    header_kind x = rw (← e, q, ← f, ne_eqb k 1 x) refl
 
     module _ (x : k ≡ 1) (d : Bool) (g : d ≡ past s 1 4) where
-      pub header-arena : d ≡ true → Stop BytesEnd 1 ≡ headerOf s
-      unfolding headerOf
-      header-arena y = rw (← e, q, ← f, eq-eqb k 1 x, ← g, y) refl
+      pub header_arena : d ≡ true → Stop BytesEnd 1 ≡ header_of s
+      unfolding header_of
+      header_arena y = rw (← e, q, ← f, eq-eqb k 1 x, ← g, y) refl
 
-      pub header-counts : d ≡ false → (r : Step) → r ≡ countsFrom s limits 5 → r ≡ headerOf s
-      unfolding headerOf
-      header-counts y r z = rw (← e, q, ← f, eq-eqb k 1 x, ← g, y) z
+      pub header_counts : d ≡ false → (r : Step) → r ≡ counts_from s limits 5 → r ≡ header_of s
+      unfolding header_of
+      header_counts y r z = rw (← e, q, ← f, eq-eqb k 1 x, ← g, y) z
 
-pub counts-are : (s : List ℕ) (b t l e d q k f c : ℕ) → b ≡ u16At s 5 → t ≡ u16At s 7 → l ≡ u16At s 9 → e ≡ u16At s 11 → d ≡ u16At s 13 → q ≡ u16At s 15 → k ≡ u16At s 17 → f ≡ u16At s 19 → c ≡ u16At s 21 → ◌≡◌ {A = Counts} (record { bytes = b; texts = t; lists = l; expressions = e; statements = d; parameters = q; clauses = k; functions = f; calls = c }) (countsOf s)
-unfolding countsOf
-counts-are s b t l e d q k f c e1 e2 e3 e4 e5 e6 e7 e8 e9 = rw (e1, e2, e3, e4, e5, e6, e7, e8, e9) refl
+pub counts_are : (s : List ℕ) (b t l e d q k f c : ℕ) → b ≡ u16_at s 5 → t ≡ u16_at s 7 → l ≡ u16_at s 9 → e ≡ u16_at s 11 → d ≡ u16_at s 13 → q ≡ u16_at s 15 → k ≡ u16_at s 17 → f ≡ u16_at s 19 → c ≡ u16_at s 21 → ◌≡◌ {A = Counts} (record { bytes = b; texts = t; lists = l; expressions = e; statements = d; parameters = q; clauses = k; functions = f; calls = c }) (counts_of s)
+unfolding counts_of
+counts_are s b t l e d q k f c e1 e2 e3 e4 e5 e6 e7 e8 e9 = rw (e1, e2, e3, e4, e5, e6, e7, e8, e9) refl
 
 -- ---- the records
 
-pub seen-is : (c : Counts) (o k : Section) (i : ℕ) (r : Counts) → o ≡ k → r ≡ seenBy c k i → r ≡ seenBy c o i
-seen-is c o k i r e f = rw e f
+pub seen_is : (c : Counts) (o k : Section) (i : ℕ) (r : Counts) → o ≡ k → r ≡ seen_by c k i → r ≡ seen_by c o i
+seen_is c o k i r e f = rw e f
 
-pub keep-is : (c : Counts) (o k : Section) (i x : ℕ) (w r : List ℕ) → o ≡ k → r ≡ keep c k i x w → r ≡ keep c o i x w
-keep-is c o k i x w r e f = rw e f
+pub keep_is : (c : Counts) (o k : Section) (i x : ℕ) (w r : List ℕ) → o ≡ k → r ≡ keep c k i x w → r ≡ keep c o i x w
+keep_is c o k i x w r e f = rw e f
 
-pub length-keep : (c : Counts) (o : Section) (i x : ℕ) (w : List ℕ) → length (keep c o i x w) ≡ length w
-length-keep c Texts i x w = refl
-length-keep c Lists i x w = refl
-length-keep c Expressions i x w = length-set w i x
-length-keep c Statements i x w = length-set w (c.expressions + i) x
-length-keep c Parameters i x w = refl
-length-keep c Clauses i x w = refl
-length-keep c Functions i x w = refl
-length-keep c Calls i x w = refl
+pub length_keep : (c : Counts) (o : Section) (i x : ℕ) (w : List ℕ) → length (keep c o i x w) ≡ length w
+length_keep c Texts i x w = refl
+length_keep c Lists i x w = refl
+length_keep c Expressions i x w = length-set w i x
+length_keep c Statements i x w = length-set w (c.expressions + i) x
+length_keep c Parameters i x w = refl
+length_keep c Clauses i x w = refl
+length_keep c Functions i x w = refl
+length_keep c Calls i x w = refl
 
 -- a record that is accepted is there
-pub record-there : (s w p : List ℕ) (seen : Counts) (own : Section) (at : ℕ) (r : Step) → r ≡ recordAt s w p seen own at → (a t : ℕ) → r ≡ Next a t → at < length s
-unfolding recordAt
-record-there s w p seen own at r e a t f = go (past s at 1) refl (sym e ∙ f)
+pub record_there : (s w p : List ℕ) (seen : Counts) (own : Section) (at : ℕ) (r : Step) → r ≡ record_at s w p seen own at → (a t : ℕ) → r ≡ Next a t → at < length s
+unfolding record_at
+record_there s w p seen own at r e a t f = go (past s at 1) refl (sym e ∙ f)
   where
     rest : Step
-    rest = cond (inSection own (get_or s at 0)) (heightStep own at (fieldsFrom s w p seen own (fields_of (get_or s at 0)) (at + 1) 0)) (Stop WrongKind at)
+    rest = cond (in_section own (get_or s at 0)) (height_step own at (fields_from s w p seen own (fields_of (get_or s at 0)) (at + 1) 0)) (Stop WrongKind at)
 
     go : (b : Bool) → b ≡ past s at 1 → cond b (Stop BytesEnd at) rest ≡ Next a t → at < length s
     go true g h = let z : ◌≡◌ {A = ℕ} 0 1 = cc in absurd (omega arith)
-    go false g h = byte-there s at false g refl
+    go false g h = byte_there s at false g refl
 
-pub start_fits : (rows s w p : List ℕ) (seen : Counts) (own : Section) (at : ℕ) → rows ≡ table → (r : Step) → r ≡ recordBy rows s w p seen own at → (a t : ℕ) → r ≡ Next a t → length s ≤ 65535 → Fits w16 at
+pub start_fits : (rows s w p : List ℕ) (seen : Counts) (own : Section) (at : ℕ) → rows ≡ table → (r : Step) → r ≡ record_by rows s w p seen own at → (a t : ℕ) → r ≡ Next a t → length s ≤ 65535 → Fits w16 at
 start_fits rows s w p seen own at z r e a t f l =
-    omega (arith, record-there s w p seen own at r (e ∙ record-by-table rows s w p seen own at z) a t f)
+    omega (arith, record_there s w p seen own at r (e ∙ record_by_table rows s w p seen own at z) a t f)
 
 pub at_most : (i n : ℕ) → i < n → i + 1 ≤ n
 at_most i n q = omega arith
@@ -133,30 +133,30 @@ at_most i n q = omega arith
 pub next_fits : (i n : ℕ) → i < n → Fits w16 n → Fits w16 (i + 1)
 next_fits i n q f = omega arith
 
-module _ (s : List ℕ) (c : Counts) (o : Section) (n i at : ℕ) (w p : List ℕ) (whole : Out) (v : whole ≡ recordsFrom s c o (n - i) i at w p) where
-  pub records-end : n ≤ i → good at w p ≡ whole
-  unfolding recordsFrom
-  records-end q = rw (v, ended n i q) refl
+module _ (s : List ℕ) (c : Counts) (o : Section) (n i at : ℕ) (w p : List ℕ) (whole : Out) (v : whole ≡ records_from s c o (n - i) i at w p) where
+  pub records_end : n ≤ i → good at w p ≡ whole
+  unfolding records_from
+  records_end q = rw (v, ended n i q) refl
 
-  module _ (q : i < n) (seen : Counts) (e : seen ≡ seenBy c o i) (rows : List ℕ) (z : rows ≡ table) (r : Step) (h : r ≡ recordBy rows s w p seen o at) where
-    f : r ≡ recordAt s w p seen o at
-    f = h ∙ record-by-table rows s w p seen o at z
+  module _ (q : i < n) (seen : Counts) (e : seen ≡ seen_by c o i) (rows : List ℕ) (z : rows ≡ table) (r : Step) (h : r ≡ record_by rows s w p seen o at) where
+    f : r ≡ record_at s w p seen o at
+    f = h ∙ record_by_table rows s w p seen o at z
 
-    pub records-more : (a t : ℕ) → r ≡ Next a t → (w' p' : List ℕ) → w' ≡ keep c o i t w → p' ≡ keep c o i at p → whole ≡ recordsFrom s c o (n - (i + 1)) (i + 1) a w' p'
-    unfolding recordsFrom
-    records-more a t g w' p' x y = rw (v, turn n i q, ← e, ← f, g, x, y) refl
+    pub records_more : (a t : ℕ) → r ≡ Next a t → (w' p' : List ℕ) → w' ≡ keep c o i t w → p' ≡ keep c o i at p → whole ≡ records_from s c o (n - (i + 1)) (i + 1) a w' p'
+    unfolding records_from
+    records_more a t g w' p' x y = rw (v, turn n i q, ← e, ← f, g, x, y) refl
 
-    pub records-stop : (d : Cause) (y : ℕ) → r ≡ Stop d y → bad d y ≡ whole
-    unfolding recordsFrom
-    records-stop d y g = rw (v, turn n i q, ← e, ← f, g) refl
+    pub records_stop : (d : Cause) (y : ℕ) → r ≡ Stop d y → bad d y ≡ whole
+    unfolding records_from
+    records_stop d y g = rw (v, turn n i q, ← e, ← f, g) refl
 
-pub records-start : (s : List ℕ) (c : Counts) (o : Section) (n at : ℕ) (w p : List ℕ) → recordsFrom s c o n 0 at w p ≡ recordsFrom s c o (n - 0) 0 at w p
-records-start s c o n at w p =
+pub records_start : (s : List ℕ) (c : Counts) (o : Section) (n at : ℕ) (w p : List ℕ) → records_from s c o n 0 at w p ≡ records_from s c o (n - 0) 0 at w p
+records_start s c o n at w p =
     let a : n - 0 ≡ n = omega arith in
     rw a
 
-pub section-same : (s : List ℕ) (c : Counts) (o k : Section) (n at : ℕ) (w p : List ℕ) (x : Out) → o ≡ k → x ≡ recordsFrom s c k n 0 at w p → x ≡ recordsFrom s c o n 0 at w p
-section-same s c o k n at w p x e f = rw e f
+pub section_same : (s : List ℕ) (c : Counts) (o k : Section) (n at : ℕ) (w p : List ℕ) (x : Out) → o ≡ k → x ≡ records_from s c k n 0 at w p → x ≡ records_from s c o n 0 at w p
+section_same s c o k n at w p x e f = rw e f
 
 -- ---- the sections
 
@@ -164,43 +164,43 @@ eight : length sections ≡ 8
 unfolding sections
 eight = refl
 
-module _ (s : List ℕ) (c : Counts) (j at : ℕ) (w p : List ℕ) (whole : Out) (v : whole ≡ sectionsFrom s c (drop j sections) at w p) where
-  pub sections-end : 8 ≤ j → good at w p ≡ whole
-  unfolding sectionsFrom
-  sections-end q = rw (v, drop_of_length-le sections {i = j} (rw eight q)) refl
+module _ (s : List ℕ) (c : Counts) (j at : ℕ) (w p : List ℕ) (whole : Out) (v : whole ≡ sections_from s c (drop j sections) at w p) where
+  pub sections_end_lem : 8 ≤ j → good at w p ≡ whole
+  unfolding sections_from
+  sections_end_lem q = rw (v, drop_of_length-le sections {i = j} (rw eight q)) refl
 
-  module _ (q : j < 8) (o : Section) (e : o ≡ get_or sections j Calls) (n : ℕ) (f : n ≡ count_of c o) (r : Step) (w' p' : List ℕ) (g : out_of r w' p' ≡ recordsFrom s c o n 0 at w p) where
+  module _ (q : j < 8) (o : Section) (e : o ≡ get_or sections j Calls) (n : ℕ) (f : n ≡ count_of c o) (r : Step) (w' p' : List ℕ) (g : out_of r w' p' ≡ records_from s c o n 0 at w p) where
     next : drop j sections ≡ o ∷ drop (j + 1) sections
     next = rw (add-one j, e) (drop-cons sections j Calls (rw eight q))
 
-    pub sections-more : (a t : ℕ) → r ≡ Next a t → whole ≡ sectionsFrom s c (drop (j + 1) sections) a w' p'
-    unfolding sectionsFrom
-    sections-more a t h = rw (v, next, ← f, ← g, h) refl
+    pub sections_more : (a t : ℕ) → r ≡ Next a t → whole ≡ sections_from s c (drop (j + 1) sections) a w' p'
+    unfolding sections_from
+    sections_more a t h = rw (v, next, ← f, ← g, h) refl
 
-    pub sections-stop : (d : Cause) (z : ℕ) → r ≡ Stop d z → bad d z ≡ whole
-    unfolding sectionsFrom
-    sections-stop d z h = rw (v, next, ← f, ← g, h) refl
+    pub sections_stop : (d : Cause) (z : ℕ) → r ≡ Stop d z → bad d z ≡ whole
+    unfolding sections_from
+    sections_stop d z h = rw (v, next, ← f, ← g, h) refl
 
 -- ---- after the header
 
 module _ (s : List ℕ) (c : Counts) (w p : List ℕ) (b : Bool) (e : b ≡ past s 23 c.bytes) where
-  pub body-past : b ≡ true → bad BytesEnd 23 ≡ body_of s c w p
+  pub body_past : b ≡ true → bad BytesEnd 23 ≡ body_of s c w p
   unfolding body_of
-  body-past q = rw (← e, q) refl
+  body_past q = rw (← e, q) refl
 
-  module _ (q : b ≡ false) (r : Step) (w' p' : List ℕ) (f : out_of r w' p' ≡ sectionsFrom s c sections (23 + c.bytes) w p) where
+  module _ (q : b ≡ false) (r : Step) (w' p' : List ℕ) (f : out_of r w' p' ≡ sections_from s c sections (23 + c.bytes) w p) where
     body_is : end_of s (out_of r w' p') ≡ body_of s c w p
     unfolding body_of
     body_is = rw (← e, q, f) refl
 
-    pub body-stop : (d : Cause) (z : ℕ) → r ≡ Stop d z → bad d z ≡ body_of s c w p
+    pub body_stop : (d : Cause) (z : ℕ) → r ≡ Stop d z → bad d z ≡ body_of s c w p
     unfolding end_of
-    body-stop d z g = rw (← body_is, g) refl
+    body_stop d z g = rw (← body_is, g) refl
 
     module _ (a t : ℕ) (g : r ≡ Next a t) where
-      pub body-left : a < length s → bad BytesLeft a ≡ body_of s c w p
+      pub body_left_lem : a < length s → bad BytesLeft a ≡ body_of s c w p
       unfolding end_of
-      body-left x = rw (← body_is, g, lt-ltb a (length s) x) refl
+      body_left_lem x = rw (← body_is, g, lt-ltb a (length s) x) refl
 
       pub body_end : length s ≤ a → good a w' p' ≡ body_of s c w p
       unfolding end_of
@@ -208,12 +208,12 @@ module _ (s : List ℕ) (c : Counts) (w p : List ℕ) (b : Bool) (e : b ≡ past
 
 -- ---- the content
 
-module _ (s w p : List ℕ) (r : Step) (e : r ≡ headerOf s) where
-  pub content-stop : (d : Cause) (z : ℕ) → r ≡ Stop d z → bad d z ≡ contentOf s w p
-  content-stop d z f = rw (← e, f) refl
+module _ (s w p : List ℕ) (r : Step) (e : r ≡ header_of s) where
+  pub content_stop : (d : Cause) (z : ℕ) → r ≡ Stop d z → bad d z ≡ content_of s w p
+  content_stop d z f = rw (← e, f) refl
 
-  pub content-more : (a t : ℕ) → r ≡ Next a t → (c : Counts) → c ≡ countsOf s → (o : Out) → o ≡ body_of s c w p → o ≡ contentOf s w p
-  content-more a t f c g o h = rw (← e, f, ← g) h
+  pub content_more : (a t : ℕ) → r ≡ Next a t → (c : Counts) → c ≡ counts_of s → (o : Out) → o ≡ body_of s c w p → o ≡ content_of s w p
+  content_more a t f c g o h = rw (← e, f, ← g) h
 
 -- ---- the answer
 
@@ -222,30 +222,30 @@ cleared v w k e f = e ∙ ap (λ (n : ℕ). replicate n 0) f
 
 -- what is promised of the reader's answer, the work slice of k entries, and the starts
 abbrev Promised : List ℕ → ℕ → Answer → List ℕ → List ℕ → Type 0
-Promised s k r w p = (r ≡ answer_of s k) × ((w ≡ workOf s k) × (p ≡ startsOf s k))
+Promised s k r w p = (r ≡ answer_of s k) × ((w ≡ work_of s k) × (p ≡ starts_of s k))
 
 module _ (s : List ℕ) (k : ℕ) where
-  refused : (d : Cause) (z : ℕ) → bad d z ≡ read_of s k → (w p : List ℕ) → w ≡ replicate k 0 → p ≡ replicate mostStarts 0 → Promised s k (Refused d z) w p
-  unfolding answer_of workOf startsOf
+  refused : (d : Cause) (z : ℕ) → bad d z ≡ read_of s k → (w p : List ℕ) → w ≡ replicate k 0 → p ≡ replicate most_starts 0 → Promised s k (Refused d z) w p
+  unfolding answer_of work_of starts_of
   refused d z e w p f g = rw (← e) (refl, (f, g))
 
-  pub read-long : 65535 < length s → (w p : List ℕ) → w ≡ replicate k 0 → p ≡ replicate mostStarts 0 → Promised s k (Refused ImageTooLong 0) w p
+  pub read_long : 65535 < length s → (w p : List ℕ) → w ≡ replicate k 0 → p ≡ replicate most_starts 0 → Promised s k (Refused ImageTooLong 0) w p
   unfolding read_of
-  read-long h w p f g = refused ImageTooLong 0 (rw (lt-ltb 65535 (length s) h) refl) w p f g
+  read_long h w p f g = refused ImageTooLong 0 (rw (lt-ltb 65535 (length s) h) refl) w p f g
 
   module _ (h : length s ≤ 65535) where
-    pub read_short : k < 8192 → (w p : List ℕ) → w ≡ replicate k 0 → p ≡ replicate mostStarts 0 → Promised s k (Refused WorkTooShort 0) w p
+    pub read_short : k < 8192 → (w p : List ℕ) → w ≡ replicate k 0 → p ≡ replicate most_starts 0 → Promised s k (Refused WorkTooShort 0) w p
     unfolding read_of
     read_short q w p f g = refused WorkTooShort 0 (rw (le-ltb 65535 (length s) h, lt-ltb k 8192 q) refl) w p f g
 
-    module _ (q : 8192 ≤ k) (r : Step) (w p w' p' : List ℕ) (f : w ≡ replicate k 0) (g : p ≡ replicate mostStarts 0) (e : out_of r w' p' ≡ contentOf s w p) where
+    module _ (q : 8192 ≤ k) (r : Step) (w p w' p' : List ℕ) (f : w ≡ replicate k 0) (g : p ≡ replicate most_starts 0) (e : out_of r w' p' ≡ content_of s w p) where
       read_is : out_of r w' p' ≡ read_of s k
       unfolding read_of
       read_is = rw (le-ltb 65535 (length s) h, le-ltb k 8192 q, ← f, ← g) e
 
-      pub read-stop : (d : Cause) (z : ℕ) → r ≡ Stop d z → (w'' p'' : List ℕ) → w'' ≡ replicate k 0 → p'' ≡ replicate mostStarts 0 → Promised s k (Refused d z) w'' p''
-      read-stop d z x w'' p'' y v = refused d z (ap (λ (i : Step). out_of i w' p') (sym x) ∙ read_is) w'' p'' y v
+      pub read_stop : (d : Cause) (z : ℕ) → r ≡ Stop d z → (w'' p'' : List ℕ) → w'' ≡ replicate k 0 → p'' ≡ replicate most_starts 0 → Promised s k (Refused d z) w'' p''
+      read_stop d z x w'' p'' y v = refused d z (ap (λ (i : Step). out_of i w' p') (sym x) ∙ read_is) w'' p'' y v
 
-      pub read-good : (a t : ℕ) → r ≡ Next a t → (n : ℕ) → n ≡ u32_at s 1 → (c : Counts) → c ≡ countsOf s → Promised s k (Accepted (record { 0 = n }) c) w' p'
-      unfolding answer_of workOf startsOf
-      read-good a t x n y c z = rw (← read_is, x, y, z) (refl, (refl, refl))
+      pub read_good : (a t : ℕ) → r ≡ Next a t → (n : ℕ) → n ≡ u32_at s 1 → (c : Counts) → c ≡ counts_of s → Promised s k (Accepted (record { 0 = n }) c) w' p'
+      unfolding answer_of work_of starts_of
+      read_good a t x n y c z = rw (← read_is, x, y, z) (refl, (refl, refl))

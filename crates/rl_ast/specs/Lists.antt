@@ -5,8 +5,8 @@ use Rattle.rl_spec.specs.declared.Step.{Step}
 use Rattle.rl_spec.specs.declared.Step.TheVariants.{Next, Stop}
 use Rattle.rl_spec.specs.Bytes.{past}
 
-unfoldable pub listsFrom : List ℕ → ℕ → ℕ → Step
-listsFrom s zero at = Next at 0
-listsFrom s (suc n) at =
+unfoldable pub lists_from : List ℕ → ℕ → ℕ → Step
+lists_from s zero at = Next at 0
+lists_from s (suc n) at =
     cond (past s at 1) (Stop BytesEnd at)
-    (cond (eqb (get_or s at 0) 3) (cond (past s (at + 1) 2) (Stop BytesEnd (at + 1)) (listsFrom s n (at + 1 + 2))) (Stop WrongKind at))
+    (cond (eqb (get_or s at 0) 3) (cond (past s (at + 1) 2) (Stop BytesEnd (at + 1)) (lists_from s n (at + 1 + 2))) (Stop WrongKind at))

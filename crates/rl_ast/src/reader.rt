@@ -1,9 +1,9 @@
 // The reader: the header, the sections, the whole.
 ghost use Rattle.std.specs.Prelude.{◌≡◌, ◌≤◌, length, get_or};
 ghost use Rattle.rl_schema.specs.Codes.{table};
-ghost use Rattle.rl_ast.specs.Lists.{listsFrom};
+ghost use Rattle.rl_ast.specs.Lists.{lists_from};
 ghost use Rattle.rl_spec.specs.Schema.{limits, sections};
-ghost use Rattle.rl_spec.specs.Read.{countsOf, countsFrom, headerOf, seenBy, keep, out_of, recordsFrom, sectionsFrom, body_of, contentOf, answer_of, workOf, startsOf};
+ghost use Rattle.rl_spec.specs.Read.{counts_of, counts_from, header_of, seen_by, keep, out_of, records_from, sections_from, body_of, content_of, answer_of, work_of, starts_of};
 
 use rl_bytes::{byte_at, clear, is_past, put, u16_at, u32_at};
 use rl_fields::record;
@@ -26,7 +26,7 @@ fn limit_at(j: usize) -> u16
 }
 
 fn count_step(s: &[u8]) -> Step
-    ensures { result ≡ countsFrom s.now limits 5 }
+    ensures { result ≡ counts_from s.now limits 5 }
 {
     let mut at = 5;
     let mut j = 0;
@@ -50,7 +50,7 @@ fn count_step(s: &[u8]) -> Step
 }
 
 fn header(s: &[u8]) -> Step
-    ensures { result ≡ headerOf s.now }
+    ensures { result ≡ header_of s.now }
 {
     if is_past(s, 0, 1) {
         return Step::Stop {
@@ -74,7 +74,7 @@ fn header(s: &[u8]) -> Step
 }
 
 fn header_counts(s: &[u8]) -> Counts
-    ensures { result ≡ countsOf s.now }
+    ensures { result ≡ counts_of s.now }
 {
     Counts {
         bytes: u16_at(s, 5),
@@ -91,7 +91,7 @@ fn header_counts(s: &[u8]) -> Counts
 
 // What an expression, or a statement, may refer to.
 fn seen_by_expression(c: Counts, i: u16) -> Counts
-    ensures { result ≡ seenBy c Section.Expressions i }
+    ensures { result ≡ seen_by c Section.Expressions i }
 {
     Counts {
         bytes: c.bytes,
@@ -107,7 +107,7 @@ fn seen_by_expression(c: Counts, i: u16) -> Counts
 }
 
 fn seen_by_statement(c: Counts, i: u16) -> Counts
-    ensures { result ≡ seenBy c Section.Statements i }
+    ensures { result ≡ seen_by c Section.Statements i }
 {
     Counts {
         bytes: c.bytes,
@@ -124,7 +124,7 @@ fn seen_by_statement(c: Counts, i: u16) -> Counts
 
 // What the i-th record of a section may refer to.
 fn seen_by(c: Counts, own: Section, i: u16) -> Counts
-    ensures { result ≡ seenBy c own i }
+    ensures { result ≡ seen_by c own i }
 {
     match own {
         Section::Texts => c,
@@ -168,7 +168,7 @@ fn records(
 ) -> Step
     requires s_len_bound { length s.now ≤ 65535 }
     requires rows_value { rows.now ≡ table }
-    ensures { out_of result w.new p.new ≡ recordsFrom s.now c own count 0 start w.old p.old }
+    ensures { out_of result w.new p.new ≡ records_from s.now c own count 0 start w.old p.old }
 {
     let mut at = start;
     let mut i: u16 = 0;
@@ -191,7 +191,7 @@ fn records(
 
 // The list entries: records of one kind whose only field may hold any number.
 fn list_records(s: &[u8], count: u16, start: usize) -> Step
-    ensures { result ≡ listsFrom s.now count start }
+    ensures { result ≡ lists_from s.now count start }
 {
     let mut at = start;
     let mut i: u16 = 0;
@@ -235,7 +235,7 @@ fn section_records(
 ) -> Step
     requires s_len_bound { length s.now ≤ 65535 }
     requires rows_value { rows.now ≡ table }
-    ensures { out_of result w.new p.new ≡ recordsFrom s.now c own count 0 start w.old p.old }
+    ensures { out_of result w.new p.new ≡ records_from s.now c own count 0 start w.old p.old }
 {
     if let Section::Lists = own {
         return list_records(s, count, start);
@@ -260,7 +260,7 @@ fn all_sections(
 ) -> Step
     requires s_len_bound { length s.now ≤ 65535 }
     requires rows_value { rows.now ≡ table }
-    ensures { out_of result w.new p.new ≡ sectionsFrom s.now c sections start w.old p.old }
+    ensures { out_of result w.new p.new ≡ sections_from s.now c sections start w.old p.old }
 {
     let mut at = start;
     let mut j = 0;
@@ -312,7 +312,7 @@ fn after_header(s: &[u8], rows: &[u64], c: Counts, w: &mut [u16], p: &mut [u16])
 fn content(s: &[u8], rows: &[u64], w: &mut [u16], p: &mut [u16]) -> Step
     requires s_len_bound { length s.now ≤ 65535 }
     requires rows_value { rows.now ≡ table }
-    ensures { out_of result w.new p.new ≡ contentOf s.now w.old p.old }
+    ensures { out_of result w.new p.new ≡ content_of s.now w.old p.old }
 {
     let head = header(s);
     match head {
@@ -325,8 +325,8 @@ fn content(s: &[u8], rows: &[u64], w: &mut [u16], p: &mut [u16]) -> Step
 // `starts` the place where each of them starts; all else of both is 0.
 pub fn read_starts(image: &[u8], work: &mut [u16], starts: &mut [u16; 6144]) -> Answer
     ensures value { result ≡ answer_of image.now (length work.old) }
-    ensures work_after { work.new ≡ workOf image.now (length work.old) }
-    ensures starts_after { starts.new ≡ startsOf image.now (length work.old) }
+    ensures work_after { work.new ≡ work_of image.now (length work.old) }
+    ensures starts_after { starts.new ≡ starts_of image.now (length work.old) }
 {
     clear(work);
     clear(starts);
@@ -360,7 +360,7 @@ pub fn read_starts(image: &[u8], work: &mut [u16], starts: &mut [u16; 6144]) -> 
 // THE READER: any bytes are read, or refused with a cause and a place.
 pub fn read(image: &[u8], work: &mut [u16]) -> Answer
     ensures value { result ≡ answer_of image.now (length work.old) }
-    ensures work_after { work.new ≡ workOf image.now (length work.old) }
+    ensures work_after { work.new ≡ work_of image.now (length work.old) }
 {
     let mut starts = [0u16; 6144];
     read_starts(image, work, &mut starts)

@@ -1,14 +1,14 @@
 // The new body of a function.
 ghost use Rattle.std.specs.Prelude.{◌≡◌, true, List, ℕ, ◌-◌, ◌≤◌, ◌<◌, min, length, take};
 ghost use Rattle.rl_spec.specs.Image.{Image, pair, WellFormed};
-ghost use Rattle.rl_spec.specs.Found.{imageFound};
+ghost use Rattle.rl_spec.specs.Found.{image_found};
 ghost use Rattle.rl_spec.specs.Tree.{number};
-ghost use Rattle.rl_spec.specs.Lower.{last_of, ensuredBody, newBody};
+ghost use Rattle.rl_spec.specs.Lower.{last_of, ensured_body, new_body};
 ghost use Rattle.rl_schema.specs.Codes.{table};
 ghost use Rattle.rl_context.specs.Does.{Does, nothing, at};
-ghost use Rattle.rl_context.specs.Guards.{Gathers, clausesIn};
+ghost use Rattle.rl_context.specs.Guards.{Gathers, clauses_in};
 ghost use Rattle.rl_transform.specs.Transforms.{Ready};
-ghost use Rattle.rl_bodies.specs.Bodies.{Fresh, refinedIn, desugaredIn, entriesIn, Waits, BodyFits, endsBare, restIn};
+ghost use Rattle.rl_bodies.specs.Bodies.{Fresh, refined_in, desugared_in, entries_in, Waits, BodyFits, ends_bare, rest_in};
 
 use rl_arena::{kind_at, statement_start};
 use rl_bytes::{u16_at, word_at};
@@ -27,7 +27,7 @@ fn refinement_guards(
     waiting: &mut [u16],
     ctx: Ctx,
 ) -> Ctx
-    ensures { (im : Image) (p : List ℕ) → 16385 ≤ length text.old → im ≡ imageFound image.now p counts → Gathers im 0 (refinedIn im function) (at ctx scratch.old waiting.old) (at result scratch.new waiting.new) }
+    ensures { (im : Image) (p : List ℕ) → 16385 ≤ length text.old → im ≡ image_found image.now p counts → Gathers im 0 (refined_in im function) (at ctx scratch.old waiting.old) (at result scratch.new waiting.new) }
 {
     let f = function_at(image, counts, function);
     let params = f.params;
@@ -42,7 +42,7 @@ fn refinement_guards(
 
 // A list's entries, as they are; they wait then.
 fn push_entries(image: &[u8], counts: Counts, list: Interval, waiting: &mut [u16], ctx: Ctx) -> Ctx
-    ensures { (im : Image) (p s : List ℕ) → Waits im (entriesIn (imageFound image.now p counts) list) (at ctx s waiting.old) (at result s waiting.new) }
+    ensures { (im : Image) (p s : List ℕ) → Waits im (entries_in (image_found image.now p counts) list) (at ctx s waiting.old) (at result s waiting.new) }
 {
     let mut next = ctx;
     let mut i = 0;
@@ -70,7 +70,7 @@ fn push_first(other: &[u16], count: u32, waiting: &mut [u16], ctx: Ctx) -> Ctx
 
 // Whether a body's last statement is a bare expression.
 fn ends_bare(image: &[u8], starts: &[u16], counts: Counts, body: Interval) -> bool
-    ensures { BodyFits image.now starts.now counts body → result ≡ endsBare (imageFound image.now starts.now counts) (entriesIn (imageFound image.now starts.now counts) body) }
+    ensures { BodyFits image.now starts.now counts body → result ≡ ends_bare (image_found image.now starts.now counts) (entries_in (image_found image.now starts.now counts) body) }
 {
     if body.count == 0 {
         return false;
@@ -82,7 +82,7 @@ fn ends_bare(image: &[u8], starts: &[u16], counts: Counts, body: Interval) -> bo
 
 // The value of a body's last statement, a bare expression.
 fn last_value(image: &[u8], starts: &[u16], counts: Counts, body: Interval) -> u16
-    ensures { BodyFits image.now starts.now counts body → endsBare (imageFound image.now starts.now counts) (entriesIn (imageFound image.now starts.now counts) body) ≡ true → result ≡ number (last_of (imageFound image.now starts.now counts) (entriesIn (imageFound image.now starts.now counts) body)) 1 }
+    ensures { BodyFits image.now starts.now counts body → ends_bare (image_found image.now starts.now counts) (entries_in (image_found image.now starts.now counts) body) ≡ true → result ≡ number (last_of (image_found image.now starts.now counts) (entries_in (image_found image.now starts.now counts) body)) 1 }
 {
     if body.count == 0 {
         return 0;
@@ -122,7 +122,7 @@ fn ensured_body(
     waiting: &mut [u16],
     ctx: Ctx,
 ) -> Ctx
-    ensures { Ready image.now starts.now counts rows.now ensured → BodyFits image.now starts.now counts body → Gathers (imageFound image.now starts.now counts) 0 (ensuredBody (clausesIn (imageFound image.now starts.now counts) ensured) (entriesIn (imageFound image.now starts.now counts) body)) (at ctx scratch.old waiting.old) (at result scratch.new waiting.new) }
+    ensures { Ready image.now starts.now counts rows.now ensured → BodyFits image.now starts.now counts body → Gathers (image_found image.now starts.now counts) 0 (ensured_body (clauses_in (image_found image.now starts.now counts) ensured) (entries_in (image_found image.now starts.now counts) body)) (at ctx scratch.old waiting.old) (at result scratch.new waiting.new) }
 {
     let bare = ends_bare(image, starts, counts, body);
     let value = last_value(image, starts, counts, body);
@@ -165,7 +165,7 @@ fn rest(
     waiting: &mut [u16],
     ctx: Ctx,
 ) -> Ctx
-    ensures { Ready image.now starts.now counts rows.now ensured → BodyFits image.now starts.now counts body → Gathers (imageFound image.now starts.now counts) 0 (restIn (imageFound image.now starts.now counts) body ensured) (at ctx scratch.old waiting.old) (at result scratch.new waiting.new) }
+    ensures { Ready image.now starts.now counts rows.now ensured → BodyFits image.now starts.now counts body → Gathers (image_found image.now starts.now counts) 0 (rest_in (image_found image.now starts.now counts) body ensured) (at ctx scratch.old waiting.old) (at result scratch.new waiting.new) }
 {
     if ensured.count == 0 {
         return push_entries(image, counts, body, waiting, ctx);
@@ -188,7 +188,7 @@ fn desugar_fn_contracts(
     waiting: &mut [u16],
     ctx: Ctx,
 ) -> Ctx
-    ensures { rows.now ≡ table → function < counts.functions → 16385 ≡ length text.old → WellFormed (imageFound image.now starts.now counts) → Fresh (imageFound image.now starts.now counts) ctx → Gathers (imageFound image.now starts.now counts) 0 (desugaredIn (imageFound image.now starts.now counts) function) (at ctx scratch.old waiting.old) (at result scratch.new waiting.new) }
+    ensures { rows.now ≡ table → function < counts.functions → 16385 ≡ length text.old → WellFormed (image_found image.now starts.now counts) → Fresh (image_found image.now starts.now counts) ctx → Gathers (image_found image.now starts.now counts) 0 (desugared_in (image_found image.now starts.now counts) function) (at ctx scratch.old waiting.old) (at result scratch.new waiting.new) }
 {
     let f = function_at(image, counts, function);
     let refined = refinement_guards(image, counts, function, text, scratch, waiting, ctx);
@@ -222,7 +222,7 @@ pub fn new_body(
     waiting: &mut [u16],
     ctx: Ctx,
 ) -> MadeList
-    ensures { rows.now ≡ table → function < counts.functions → 16385 ≡ length text.old → WellFormed (imageFound image.now starts.now counts) → Fresh (imageFound image.now starts.now counts) ctx → Does (imageFound image.now starts.now counts) 0 0 nothing (newBody (imageFound image.now starts.now counts) function) (at ctx scratch.old waiting.old) (pair result.list.first result.list.count) (at result.ctx scratch.new waiting.new) }
+    ensures { rows.now ≡ table → function < counts.functions → 16385 ≡ length text.old → WellFormed (image_found image.now starts.now counts) → Fresh (image_found image.now starts.now counts) ctx → Does (image_found image.now starts.now counts) 0 0 nothing (new_body (image_found image.now starts.now counts) function) (at ctx scratch.old waiting.old) (pair result.list.first result.list.count) (at result.ctx scratch.new waiting.new) }
 {
     let first = ctx.waiting;
     let done = desugar_fn_contracts(

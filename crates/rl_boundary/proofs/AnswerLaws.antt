@@ -23,7 +23,7 @@ use Rattle.rl_spec.specs.declared.TextAnswer.{TextAnswer}
 use Rattle.rl_spec.specs.declared.TextAnswer.TheVariants as text
 use Rattle.rl_spec.specs.declared.TextPart.{TextPart}
 use Rattle.rl_spec.specs.Read.{number_of, place_in, packed}
-use Rattle.rl_spec.specs.Boundary.{above, provePacked, provedPlace, lowerPacked, loweredPlace, textPacked, textPlace, messagePacked, messagePlace, pagesPacked, pagesPlace}
+use Rattle.rl_spec.specs.Boundary.{above, prove_packed, proved_place, lower_packed, lowered_place, text_packed, text_place, message_packed, message_place, pages_packed, pages_place}
 
 number_small : (q : Cause) → number_of q ≤ 22
 number_small ImageTooLong = omega arith
@@ -53,67 +53,67 @@ module _ (q : Cause) (n : ℕ) (e : n ≡ number_of q) where
   pub high_fits : Fits w64 (n * 4294967296)
   high_fits = omega (arith, number_small q)
 
-  pub both-fit : (p : ℕ) → p ≤ 65535 → Fits w64 (n * 4294967296 + p)
-  both-fit p h = omega (arith, number_small q)
+  pub both_fit : (p : ℕ) → p ≤ 65535 → Fits w64 (n * 4294967296 + p)
+  both_fit p h = omega (arith, number_small q)
 
 -- ---- reading
 
 module _ (a : Answer) where
-  pub accepted-packed : (m : ArenaNo) (c : Counts) → a ≡ Accepted m c → 0 ≡ packed a
-  accepted-packed m c f = rw f refl
+  pub accepted_packed : (m : ArenaNo) (c : Counts) → a ≡ Accepted m c → 0 ≡ packed a
+  accepted_packed m c f = rw f refl
 
   module _ (q : Cause) (p : ℕ) (f : a ≡ Refused q p) where
-    pub read-near : place_in a ≤ 65535 → p ≤ 65535
-    read-near h = rw f at h
+    pub read_near : place_in a ≤ 65535 → p ≤ 65535
+    read_near h = rw f at h
 
-    pub read-packed : (r : ℕ) → r ≡ above (number_of q) p → r ≡ packed a
-    read-packed r g = rw f g
+    pub read_packed : (r : ℕ) → r ≡ above (number_of q) p → r ≡ packed a
+    read_packed r g = rw f g
 
 -- ---- proving
 
 module _ (a : ProveAnswer) (q : Cause) (p : ℕ) (f : a ≡ prove.Refused q p) where
-  pub refused-near : provedPlace a ≤ 65535 → p ≤ 65535
-  refused-near h = rw f at h
+  pub refused_near : proved_place a ≤ 65535 → p ≤ 65535
+  refused_near h = rw f at h
 
-  pub refused-packed : (r : ℕ) → r ≡ above (number_of q) p → r ≡ provePacked a
-  refused-packed r g = rw f g
+  pub refused_packed : (r : ℕ) → r ≡ above (number_of q) p → r ≡ prove_packed a
+  refused_packed r g = rw f g
 
 -- ---- lowering
 
 module _ (a : LowerAnswer) (q : Cause) (p : ℕ) (f : a ≡ lower.Refused q p) where
-  pub lowered-near : loweredPlace a ≤ 65535 → p ≤ 65535
-  lowered-near h = rw f at h
+  pub lowered_near : lowered_place a ≤ 65535 → p ≤ 65535
+  lowered_near h = rw f at h
 
-  pub lowered-packed : (r : ℕ) → r ≡ above (number_of q) p → r ≡ lowerPacked a
-  lowered-packed r g = rw f g
+  pub lowered_packed : (r : ℕ) → r ≡ above (number_of q) p → r ≡ lower_packed a
+  lowered_packed r g = rw f g
 
 -- ---- texts
 
 module _ (a : TextAnswer) where
-  pub text-packed : (part : TextPart) → a ≡ text.Found part → part.start + part.length * 65536 ≡ textPacked a
-  text-packed part f = rw f refl
+  pub text_packed_lem : (part : TextPart) → a ≡ text.Found part → part.start + part.length * 65536 ≡ text_packed a
+  text_packed_lem part f = rw f refl
 
   module _ (q : Cause) (p : ℕ) (f : a ≡ text.Refused q p) where
-    pub text-near : textPlace a ≤ 65535 → p ≤ 65535
-    text-near h = rw f at h
+    pub text_near : text_place a ≤ 65535 → p ≤ 65535
+    text_near h = rw f at h
 
-    pub no-text-packed : (r : ℕ) → r ≡ above (number_of q) p → r ≡ textPacked a
-    no-text-packed r g = rw f g
+    pub no_text_packed : (r : ℕ) → r ≡ above (number_of q) p → r ≡ text_packed a
+    no_text_packed r g = rw f g
 
 -- ---- messages
 
 module _ (a : MessageAnswer) (q : Cause) (p : ℕ) (f : a ≡ message.Refused q p) where
-  pub message-near : messagePlace a ≤ 65535 → p ≤ 65535
-  message-near h = rw f at h
+  pub message_near : message_place a ≤ 65535 → p ≤ 65535
+  message_near h = rw f at h
 
-  pub message-packed : (r : ℕ) → r ≡ above (number_of q) p → r ≡ messagePacked a
-  message-packed r g = rw f g
+  pub message_packed_lem : (r : ℕ) → r ≡ above (number_of q) p → r ≡ message_packed a
+  message_packed_lem r g = rw f g
 
 -- ---- pages
 
 module _ (a : PagesAnswer) (q : Cause) (p : ℕ) (f : a ≡ pages.Refused q p) where
-  pub pages-near : pagesPlace a ≤ 65535 → p ≤ 65535
-  pages-near h = rw f at h
+  pub pages_near : pages_place a ≤ 65535 → p ≤ 65535
+  pages_near h = rw f at h
 
-  pub pages-packed : (r : ℕ) → r ≡ above (number_of q) p → r ≡ pagesPacked a
-  pages-packed r g = rw f g
+  pub pages_packed_lem : (r : ℕ) → r ≡ above (number_of q) p → r ≡ pages_packed a
+  pages_packed_lem r g = rw f g

@@ -1,7 +1,7 @@
 // Answers in one word: a refusal's number in the high 32 bits.
 ghost use Rattle.std.specs.Prelude.{◌≡◌, ◌≤◌};
 ghost use Rattle.rl_spec.specs.Read.{number_of, place_in, packed};
-ghost use Rattle.rl_spec.specs.Boundary.{above, provePacked, provedPlace, lowerPacked, loweredPlace, textPacked, textPlace, messagePacked, messagePlace, pagesPacked, pagesPlace};
+ghost use Rattle.rl_spec.specs.Boundary.{above, prove_packed, proved_place, lower_packed, lowered_place, text_packed, text_place, message_packed, message_place, pages_packed, pages_place};
 
 use rl_numbers::number_of;
 use rl_spec::{Answer, Cause, LowerAnswer, MessageAnswer, PagesAnswer, ProveAnswer, TextAnswer};
@@ -26,8 +26,8 @@ pub fn pack_read(answer: Answer) -> u64
 
 // The number of reports, or a refusal.
 pub fn pack_proved(answer: ProveAnswer) -> u64
-    requires { provedPlace answer ≤ 65535 }
-    ensures { result ≡ provePacked answer }
+    requires { proved_place answer ≤ 65535 }
+    ensures { result ≡ prove_packed answer }
 {
     match answer {
         ProveAnswer::Proved(n) => n as u64,
@@ -37,8 +37,8 @@ pub fn pack_proved(answer: ProveAnswer) -> u64
 
 // The length of the image written, or a refusal.
 pub fn pack_lowered(answer: LowerAnswer) -> u64
-    requires { loweredPlace answer ≤ 65535 }
-    ensures { result ≡ lowerPacked answer }
+    requires { lowered_place answer ≤ 65535 }
+    ensures { result ≡ lower_packed answer }
 {
     match answer {
         LowerAnswer::Lowered(n) => n as u64,
@@ -48,8 +48,8 @@ pub fn pack_lowered(answer: LowerAnswer) -> u64
 
 // Where a text starts, and above 16 bits how many bytes it has, or a refusal.
 pub fn pack_text(answer: TextAnswer) -> u64
-    requires { textPlace answer ≤ 65535 }
-    ensures { result ≡ textPacked answer }
+    requires { text_place answer ≤ 65535 }
+    ensures { result ≡ text_packed answer }
 {
     match answer {
         TextAnswer::Found(part) => (part.start as u64) + (part.length as u64) * 65536,
@@ -59,8 +59,8 @@ pub fn pack_text(answer: TextAnswer) -> u64
 
 // The length of a message, or a refusal.
 pub fn pack_message(answer: MessageAnswer) -> u64
-    requires { messagePlace answer ≤ 65535 }
-    ensures { result ≡ messagePacked answer }
+    requires { message_place answer ≤ 65535 }
+    ensures { result ≡ message_packed answer }
 {
     match answer {
         MessageAnswer::Message(n) => n as u64,
@@ -70,8 +70,8 @@ pub fn pack_message(answer: MessageAnswer) -> u64
 
 // How many bytes of pages are written, or a refusal.
 pub fn pack_pages(answer: PagesAnswer) -> u64
-    requires { pagesPlace answer ≤ 65535 }
-    ensures { result ≡ pagesPacked answer }
+    requires { pages_place answer ≤ 65535 }
+    ensures { result ≡ pages_packed answer }
 {
     match answer {
         PagesAnswer::Written(n) => n as u64,

@@ -1,7 +1,7 @@
 // Values and outcomes in words.
 ghost use Rattle.std.specs.Prelude.{◌≡◌, [], ◌∷◌};
-ghost use Rattle.rl_spec.specs.Words.{sortWordOf, payloadWordOf};
-ghost use Rattle.rl_spec.specs.Boundary.{is_plain, is_value, areValues, countOfWords, argumentsOf, outcomeWords};
+ghost use Rattle.rl_spec.specs.Words.{sort_word_of, payload_word_of};
+ghost use Rattle.rl_spec.specs.Boundary.{is_plain, is_value, are_values, count_of_words, arguments_of, outcome_words};
 
 use rl_bytes::long_at;
 use rl_memory::clear as clear_words;
@@ -10,7 +10,7 @@ use rl_words::{payload_word, sort_word, value_of_words, value_payload, value_sor
 
 // The two words of a folded value.
 pub fn put_value(value: &mut [u64; 2], v: Folded)
-    ensures { value.new ≡ sortWordOf v ∷ payloadWordOf v ∷ [] }
+    ensures { value.new ≡ sort_word_of v ∷ payload_word_of v ∷ [] }
 {
     clear_words(value);
     value[0] = sort_word(v);
@@ -41,7 +41,7 @@ fn is_value(sort: u64, payload: u64) -> bool
 
 // Whether all words are values of two words each.
 fn are_values(words: &[u64]) -> bool
-    ensures { result ≡ areValues words.now }
+    ensures { result ≡ are_values words.now }
 {
     let mut i = 0;
     while i + 1 < words.len() {
@@ -55,7 +55,7 @@ fn are_values(words: &[u64]) -> bool
 
 // How many values there are; 17 for more than sixteen, and for words that are no values.
 fn count_of_words(words: &[u64]) -> u32
-    ensures { result ≡ countOfWords words.now }
+    ensures { result ≡ count_of_words words.now }
 {
     let pairs = words.len() / 2;
     if pairs < 17 {
@@ -68,7 +68,7 @@ fn count_of_words(words: &[u64]) -> u32
 
 // The first sixteen values, and how many there are.
 pub fn arguments_of(words: &[u64]) -> Arguments
-    ensures { result ≡ argumentsOf words.now }
+    ensures { result ≡ arguments_of words.now }
 {
     let none = Argument {
         value: Value::Plain(Plain::Null),
@@ -97,7 +97,7 @@ pub fn put_words(outcome: &mut [u64; 4], tag: u64, steps: u64, sort: u64, payloa
 }
 
 pub fn put_outcome(outcome: &mut [u64; 4], o: Outcome, steps: u32)
-    ensures { outcome.new ≡ outcomeWords o steps }
+    ensures { outcome.new ≡ outcome_words o steps }
 {
     let used = steps as u64;
     match o {

@@ -1,6 +1,6 @@
 // Access to bytes and to words, for every place: what is past the end reads as 0 and is not written.
 ghost use Rattle.std.specs.Prelude.{◌≡◌, ◌+◌, ◌-◌, ◌*◌, min, max, length, get_or, set, replicate, take, drop};
-ghost use Rattle.rl_spec.specs.Bytes.{num_at, u16At, u32_at, past};
+ghost use Rattle.rl_spec.specs.Bytes.{num_at, u16_at, u32_at, past};
 
 pub fn byte_at(s: &[u8], at: usize) -> u8
     ensures { result ≡ get_or s.now at 0 }
@@ -33,7 +33,7 @@ fn join32(low: u16, high: u16) -> u32
 }
 
 pub fn u16_at(s: &[u8], at: usize) -> u16
-    ensures { result ≡ u16At s.now at }
+    ensures { result ≡ u16_at s.now at }
 {
     if at < s.len() {
         join16(s[at], byte_at(s, at + 1))
@@ -74,7 +74,7 @@ pub fn u64_at(s: &[u8], at: usize) -> u64
 
 // The second of two u16 at a place.
 pub fn second_u16(s: &[u8], at: usize) -> u16
-    ensures { result ≡ u16At s.now (at + 2) }
+    ensures { result ≡ u16_at s.now (at + 2) }
 {
     if s.len() <= at {
         return 0;

@@ -8,7 +8,7 @@ use lib.ListN.{length, get_or, replicate, length-replicate}
 use mir.Syntax.{w8}
 use mir.Val.{Fits}
 use borrow.Author.Tests.{lt-ltb, le-ltb}
-use Rattle.rl_laws.specs.Tests.{by-ltb}
+use Rattle.rl_laws.specs.Tests.{by_ltb}
 use Rattle.rl_spec.specs.declared.Answer.{Answer}
 use Rattle.rl_spec.specs.declared.Answer.TheVariants as read
 use Rattle.rl_spec.specs.declared.ArenaNo.{ArenaNo}
@@ -19,175 +19,175 @@ use Rattle.rl_spec.specs.declared.ProveAnswer.{ProveAnswer}
 use Rattle.rl_spec.specs.declared.ProveAnswer.TheVariants.{Proved, Refused}
 use Rattle.rl_spec.specs.declared.Section.TheVariants.{Texts, Calls}
 use Rattle.rl_spec.specs.Schema.{limits}
-use Rattle.rl_spec.specs.Read.{countsOf, answer_of, workOf, startsOf}
+use Rattle.rl_spec.specs.Read.{counts_of, answer_of, work_of, starts_of}
 use Rattle.rl_spec.specs.Image.{Image, image_of, WellFormed}
-use Rattle.rl_spec.specs.Fold.{workUnless}
-use Rattle.rl_spec.specs.Found.{imageFound}
-use Rattle.rl_spec.specs.Prove.{callEntries, allEntries, fitting, sliceBy, proveOf, reportsOf, proveAllOf, allReportsOf, proveNumber}
+use Rattle.rl_spec.specs.Fold.{work_unless}
+use Rattle.rl_spec.specs.Found.{image_found}
+use Rattle.rl_spec.specs.Prove.{call_entries, all_entries, fitting, slice_by, prove_of, reports_of, prove_all_of, all_reports_of, prove_number}
 use Rattle.rl_prover.specs.Reports.{Shown, kept_at}
-use Rattle.rl_prover.proofs.ShownLaws.{none-shown, all_shown}
-use Rattle.rl_images.specs.Encoding.Accepted.{accepted-well-formed}
-use Rattle.rl_images.specs.Reading.Found.{found-is-image}
-use Rattle.rl_images.specs.Images.Limits.{size-within, texts-within, parameters-within, all-bytes}
-use Rattle.rl_images.specs.Reading.Starts.{section-size, sizes-are-counts}
-use Rattle.rl_checker.specs.Entries.{Limited, ProvesOne, ProvesAll, fittingAt}
-use Rattle.rl_images.specs.Reading.Refusals.{zeros-unless, refused-work}
+use Rattle.rl_prover.proofs.ShownLaws.{none_shown, all_shown}
+use Rattle.rl_images.specs.Encoding.Accepted.{accepted_well_formed}
+use Rattle.rl_images.specs.Reading.Found.{found_is_image}
+use Rattle.rl_images.specs.Images.Limits.{size_within, texts_within, parameters_within, all_bytes}
+use Rattle.rl_images.specs.Reading.Starts.{section_size, sizes_are_counts}
+use Rattle.rl_checker.specs.Entries.{Limited, ProvesOne, ProvesAll, fitting_at}
+use Rattle.rl_images.specs.Reading.Refusals.{zeros_unless, refused_work}
 
 -- ---- the answer by the place after the entries
 
 module _ (l e : List ℕ) (at room : ℕ) (n : length l ≡ room) (sh : Shown l e at) where
-  answer-is : fittingAt (length l) at ≡ fitting room e
-  unfolding fittingAt
-  answer-is = rw (n, ← sh.place) refl
+  answer_is : fitting_at (length l) at ≡ fitting room e
+  unfolding fitting_at
+  answer_is = rw (n, ← sh.place) refl
 
-  slice_is : kept_at (length l) at l ≡ sliceBy room e (fitting room e)
+  slice_is : kept_at (length l) at l ≡ slice_by room e (fitting room e)
   unfolding kept_at
   slice_is =
       let p : length e ≡ at = sh.place in
-      by-ltb room (length e)
+      by_ltb room (length e)
       (λ h. rw (n, ← p, lt-ltb room (length e) h) refl)
       (λ h.
       let k : length l ≡ room = n in
       rw (n, ← p, le-ltb room (length e) h) (sh.slice ∙ all_shown (length l) (length l) e (omega arith) (omega arith) ∙ rw n refl))
 
-  work-is : (v s : List ℕ) (k : ℕ) → v ≡ workOf s k → length v ≡ k → kept_at (length l) at v ≡ workUnless (proveNumber (fitting room e)) s k
+  work_is : (v s : List ℕ) (k : ℕ) → v ≡ work_of s k → length v ≡ k → kept_at (length l) at v ≡ work_unless (prove_number (fitting room e)) s k
   unfolding kept_at
-  work-is v s k w m =
+  work_is v s k w m =
       let p : length e ≡ at = sh.place in
-      by-ltb room (length e)
-      (λ h. rw (n, ← p, lt-ltb room (length e) h, m) (zeros-unless ReportsTooShort s k))
+      by_ltb room (length e)
+      (λ h. rw (n, ← p, lt-ltb room (length e) h, m) (zeros_unless ReportsTooShort s k))
       (λ h. rw (n, ← p, le-ltb room (length e) h) w)
 
-pub fitted_short : (room at : ℕ) → room < at → Refused ReportsTooShort 0 ≡ fittingAt room at
-unfolding fittingAt
+pub fitted_short : (room at : ℕ) → room < at → Refused ReportsTooShort 0 ≡ fitting_at room at
+unfolding fitting_at
 fitted_short room at h = rw (lt-ltb room at h) refl
 
-pub fitted-all : (room at : ℕ) → at ≤ room → Proved (at / 4) ≡ fittingAt room at
-unfolding fittingAt
-fitted-all room at h = rw (le-ltb room at h) refl
+pub fitted_all : (room at : ℕ) → at ≤ room → Proved (at / 4) ≡ fitting_at room at
+unfolding fitting_at
+fitted_all room at h = rw (le-ltb room at h) refl
 
 -- ---- an accepted image
 
 module _ (s : List ℕ) (bytes : (i : ℕ) → Fits w8 (get_or s i 0)) (k : ℕ) (no : ArenaNo) (c : Counts) (e : answer_of s k ≡ read.Accepted no c) where
   well : WellFormed (image_of s)
-  well = accepted-well-formed s k no c (all-bytes s (λ i. omega (arith, (bytes i).fits))) e
+  well = accepted_well_formed s k no c (all_bytes s (λ i. omega (arith, (bytes i).fits))) e
 
   limited : Limited (image_of s) c
   limited =
       record {
-        texts = subst (λ (n : ℕ). n ≤ 2048) (sizes-are-counts s k no c e Texts) (texts-within (image_of s) well);
-        parameters = parameters-within (image_of s) well;
+        texts = subst (λ (n : ℕ). n ≤ 2048) (sizes_are_counts s k no c e Texts) (texts_within (image_of s) well);
+        parameters = parameters_within (image_of s) well;
       }
 
-  calls-within : min c.calls 256 ≡ c.calls
+  calls_within : min c.calls 256 ≡ c.calls
   unfolding limits
-  calls-within = let n = sizes-are-counts s k no c e Calls in omega (arith, n, size-within (image_of s) well Calls)
+  calls_within = let n = sizes_are_counts s k no c e Calls in omega (arith, n, size_within (image_of s) well Calls)
 
 -- ---- the ways out
 
 module _ (s : List ℕ) (k room : ℕ) (a : Answer) (e : a ≡ answer_of s k) (l : List ℕ) (z : l ≡ replicate room 0) where
-  module _ (q : Cause) (n : ℕ) (f : a ≡ read.Refused q n) (w : List ℕ) (g : w ≡ workOf s k) where
-    unread-work : (r : ProveAnswer) → r ≡ Refused q n → w ≡ workUnless (proveNumber r) s k
-    unread-work r h = g ∙ refused-work s k q n (sym e ∙ f) ∙ zeros-unless q s k ∙ ap (λ (x : ProveAnswer). workUnless (proveNumber x) s k) (sym h)
+  module _ (q : Cause) (n : ℕ) (f : a ≡ read.Refused q n) (w : List ℕ) (g : w ≡ work_of s k) where
+    unread_work : (r : ProveAnswer) → r ≡ Refused q n → w ≡ work_unless (prove_number r) s k
+    unread_work r h = g ∙ refused_work s k q n (sym e ∙ f) ∙ zeros_unless q s k ∙ ap (λ (x : ProveAnswer). work_unless (prove_number x) s k) (sym h)
 
     module _ (call : ℕ) where
-      unread : proveOf s k call room ≡ Refused q n
-      unfolding proveOf
+      unread : prove_of s k call room ≡ Refused q n
+      unfolding prove_of
       unread = rw (← e, f) refl
 
-      pub prove-unread : Refused q n ≡ proveOf s k call room
-      prove-unread = sym unread
+      pub prove_unread : Refused q n ≡ prove_of s k call room
+      prove_unread = sym unread
 
-      pub prove-unread-slice : l ≡ reportsOf s k call room
-      unfolding reportsOf
-      prove-unread-slice = z ∙ rw unread refl
+      pub prove_unread_slice : l ≡ reports_of s k call room
+      unfolding reports_of
+      prove_unread_slice = z ∙ rw unread refl
 
-      pub prove-unread-work : w ≡ workUnless (proveNumber (proveOf s k call room)) s k
-      prove-unread-work = unread-work (proveOf s k call room) unread
+      pub prove_unread_work : w ≡ work_unless (prove_number (prove_of s k call room)) s k
+      prove_unread_work = unread_work (prove_of s k call room) unread
 
-    unread-all : proveAllOf s k room ≡ Refused q n
-    unfolding proveAllOf
-    unread-all = rw (← e, f) refl
+    unread_all : prove_all_of s k room ≡ Refused q n
+    unfolding prove_all_of
+    unread_all = rw (← e, f) refl
 
-    pub all-unread : Refused q n ≡ proveAllOf s k room
-    all-unread = sym unread-all
+    pub all_unread : Refused q n ≡ prove_all_of s k room
+    all_unread = sym unread_all
 
-    pub all-unread-slice : l ≡ allReportsOf s k room
-    unfolding allReportsOf
-    all-unread-slice = z ∙ rw unread-all refl
+    pub all_unread_slice : l ≡ all_reports_of s k room
+    unfolding all_reports_of
+    all_unread_slice = z ∙ rw unread_all refl
 
-    pub all-unread-work : w ≡ workUnless (proveNumber (proveAllOf s k room)) s k
-    all-unread-work = unread-work (proveAllOf s k room) unread-all
+    pub all_unread_work : w ≡ work_unless (prove_number (prove_all_of s k room)) s k
+    all_unread_work = unread_work (prove_all_of s k room) unread_all
 
   module _ (no : ArenaNo) (c : Counts) (f : a ≡ read.Accepted no c) where
     module _ (call : ℕ) (h : c.calls ≤ call) where
-      missing : proveOf s k call room ≡ Refused NoSuchCall 0
-      unfolding proveOf
+      missing : prove_of s k call room ≡ Refused NoSuchCall 0
+      unfolding prove_of
       missing = rw (← e, f, le-ltb call c.calls h) refl
 
-      pub prove-missing : Refused NoSuchCall 0 ≡ proveOf s k call room
-      prove-missing = sym missing
+      pub prove_missing : Refused NoSuchCall 0 ≡ prove_of s k call room
+      prove_missing = sym missing
 
-      pub prove-missing-slice : l ≡ reportsOf s k call room
-      unfolding reportsOf
-      prove-missing-slice = z ∙ rw missing refl
+      pub prove_missing_slice : l ≡ reports_of s k call room
+      unfolding reports_of
+      prove_missing_slice = z ∙ rw missing refl
 
-      pub prove-missing-work : (v w : List ℕ) → length v ≡ k → w ≡ replicate (length v) 0 → w ≡ workUnless (proveNumber (proveOf s k call room)) s k
-      prove-missing-work v w m g = g ∙ ap (λ (i : ℕ). replicate i 0) m ∙ zeros-unless NoSuchCall s k ∙ ap (λ (x : ProveAnswer). workUnless (proveNumber x) s k) (sym missing)
+      pub prove_missing_work : (v w : List ℕ) → length v ≡ k → w ≡ replicate (length v) 0 → w ≡ work_unless (prove_number (prove_of s k call room)) s k
+      prove_missing_work v w m g = g ∙ ap (λ (i : ℕ). replicate i 0) m ∙ zeros_unless NoSuchCall s k ∙ ap (λ (x : ProveAnswer). work_unless (prove_number x) s k) (sym missing)
 
-    module _ (bytes : (i : ℕ) → Fits w8 (get_or s i 0)) (p : List ℕ) (y : p ≡ startsOf s k) where
-      same : imageFound s p c ≡ image_of s
-      same = ap (λ (x : List ℕ). imageFound s x c) y ∙ found-is-image s k no c (sym e ∙ f)
+    module _ (bytes : (i : ℕ) → Fits w8 (get_or s i 0)) (p : List ℕ) (y : p ≡ starts_of s k) where
+      same : image_found s p c ≡ image_of s
+      same = ap (λ (x : List ℕ). image_found s x c) y ∙ found_is_image s k no c (sym e ∙ f)
 
-      start : Limited (imageFound s p c) c × Shown l [] 0
-      start = (subst (λ (im : Image). Limited im c) (sym same) (limited s bytes k no c (sym e ∙ f)), none-shown l room z)
+      start : Limited (image_found s p c) c × Shown l [] 0
+      start = (subst (λ (im : Image). Limited im c) (sym same) (limited s bytes k no c (sym e ∙ f)), none_shown l room z)
 
-      module _ (call : ℕ) (h : call < c.calls) (out : List ℕ) (at : ℕ) (o : ProvesOne (imageFound s p c) c call l out at) (n : length out ≡ length l) where
-        shown : Shown out (callEntries (image_of s) call) at
-        shown = subst (λ (im : Image). Shown out (callEntries im call) at) same (o start.0 start.1)
+      module _ (call : ℕ) (h : call < c.calls) (out : List ℕ) (at : ℕ) (o : ProvesOne (image_found s p c) c call l out at) (n : length out ≡ length l) where
+        shown : Shown out (call_entries (image_of s) call) at
+        shown = subst (λ (im : Image). Shown out (call_entries im call) at) same (o start.0 start.1)
 
         wide : length out ≡ room
         wide = n ∙ ap length z ∙ length-replicate room 0
 
-        found : proveOf s k call room ≡ fitting room (callEntries (image_of s) call)
-        unfolding proveOf
+        found : prove_of s k call room ≡ fitting room (call_entries (image_of s) call)
+        unfolding prove_of
         found = rw (← e, f, lt-ltb call c.calls h) refl
 
-        pub prove-found : (r : ProveAnswer) → r ≡ fittingAt (length out) at → r ≡ proveOf s k call room
-        prove-found r g = g ∙ answer-is out (callEntries (image_of s) call) at room wide shown ∙ sym found
+        pub prove_found : (r : ProveAnswer) → r ≡ fitting_at (length out) at → r ≡ prove_of s k call room
+        prove_found r g = g ∙ answer_is out (call_entries (image_of s) call) at room wide shown ∙ sym found
 
-        pub prove-found-slice : (last : List ℕ) → last ≡ kept_at (length out) at out → last ≡ reportsOf s k call room
-        unfolding reportsOf
-        prove-found-slice last g = g ∙ slice_is out (callEntries (image_of s) call) at room wide shown ∙ rw found refl
+        pub prove_found_slice : (last : List ℕ) → last ≡ kept_at (length out) at out → last ≡ reports_of s k call room
+        unfolding reports_of
+        prove_found_slice last g = g ∙ slice_is out (call_entries (image_of s) call) at room wide shown ∙ rw found refl
 
-        pub prove-found-work : (v w : List ℕ) → v ≡ workOf s k → length v ≡ k → w ≡ kept_at (length out) at v → w ≡ workUnless (proveNumber (proveOf s k call room)) s k
-        prove-found-work v w g m i = i ∙ work-is out (callEntries (image_of s) call) at room wide shown v s k g m ∙ ap (λ (x : ProveAnswer). workUnless (proveNumber x) s k) (sym found)
+        pub prove_found_work : (v w : List ℕ) → v ≡ work_of s k → length v ≡ k → w ≡ kept_at (length out) at v → w ≡ work_unless (prove_number (prove_of s k call room)) s k
+        prove_found_work v w g m i = i ∙ work_is out (call_entries (image_of s) call) at room wide shown v s k g m ∙ ap (λ (x : ProveAnswer). work_unless (prove_number x) s k) (sym found)
 
-      module _ (out : List ℕ) (at : ℕ) (o : ProvesAll (imageFound s p c) c l out at) (n : length out ≡ length l) where
+      module _ (out : List ℕ) (at : ℕ) (o : ProvesAll (image_found s p c) c l out at) (n : length out ≡ length l) where
         abbrev every : List ℕ
-        every = allEntries (image_of s) c.calls 0
+        every = all_entries (image_of s) c.calls 0
 
-        shown-all : Shown out every at
-        shown-all =
-            subst (λ (i : ℕ). Shown out (allEntries (image_of s) i 0) at) (calls-within s bytes k no c (sym e ∙ f))
-            (subst (λ (im : Image). Shown out (allEntries im (min c.calls 256) 0) at) same (o start.0 start.1))
+        shown_all : Shown out every at
+        shown_all =
+            subst (λ (i : ℕ). Shown out (all_entries (image_of s) i 0) at) (calls_within s bytes k no c (sym e ∙ f))
+            (subst (λ (im : Image). Shown out (all_entries im (min c.calls 256) 0) at) same (o start.0 start.1))
 
-        wide-all : length out ≡ room
-        wide-all = n ∙ ap length z ∙ length-replicate room 0
+        wide_all : length out ≡ room
+        wide_all = n ∙ ap length z ∙ length-replicate room 0
 
-        found_all : proveAllOf s k room ≡ fitting room every
-        unfolding proveAllOf
+        found_all : prove_all_of s k room ≡ fitting room every
+        unfolding prove_all_of
         found_all = rw (← e, f) refl
 
-        pub all_found : (r : ProveAnswer) → r ≡ fittingAt (length out) at → r ≡ proveAllOf s k room
-        all_found r g = g ∙ answer-is out every at room wide-all shown-all ∙ sym found_all
+        pub all_found : (r : ProveAnswer) → r ≡ fitting_at (length out) at → r ≡ prove_all_of s k room
+        all_found r g = g ∙ answer_is out every at room wide_all shown_all ∙ sym found_all
 
-        pub all-found-slice : (last : List ℕ) → last ≡ kept_at (length out) at out → last ≡ allReportsOf s k room
-        unfolding allReportsOf
-        all-found-slice last g = g ∙ slice_is out every at room wide-all shown-all ∙ rw (found_all, own-calls) refl
+        pub all_found_slice : (last : List ℕ) → last ≡ kept_at (length out) at out → last ≡ all_reports_of s k room
+        unfolding all_reports_of
+        all_found_slice last g = g ∙ slice_is out every at room wide_all shown_all ∙ rw (found_all, own_calls) refl
           where
-            own-calls : (countsOf s).calls ≡ c.calls
-            own-calls = sym (section-size s Calls) ∙ sizes-are-counts s k no c (sym e ∙ f) Calls
+            own_calls : (counts_of s).calls ≡ c.calls
+            own_calls = sym (section_size s Calls) ∙ sizes_are_counts s k no c (sym e ∙ f) Calls
 
-        pub all-found-work : (v w : List ℕ) → v ≡ workOf s k → length v ≡ k → w ≡ kept_at (length out) at v → w ≡ workUnless (proveNumber (proveAllOf s k room)) s k
-        all-found-work v w g m i = i ∙ work-is out every at room wide-all shown-all v s k g m ∙ ap (λ (x : ProveAnswer). workUnless (proveNumber x) s k) (sym found_all)
+        pub all_found_work : (v w : List ℕ) → v ≡ work_of s k → length v ≡ k → w ≡ kept_at (length out) at v → w ≡ work_unless (prove_number (prove_all_of s k room)) s k
+        all_found_work v w g m i = i ∙ work_is out every at room wide_all shown_all v s k g m ∙ ap (λ (x : ProveAnswer). work_unless (prove_number x) s k) (sym found_all)

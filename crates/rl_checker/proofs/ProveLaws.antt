@@ -2,14 +2,14 @@
 -- Assumes nothing.
 use Prim.Native.Nat.{ℕ, suc, ◌+◌, ◌-◌, ◌*◌, ◌≤◌, ◌<◌, min}
 use mathlib.Core.Path.{◌≡◌, refl, sym, ap, subst, ◌∙◌}
-use mathlib.Core.List.{List, [], ◌++◌, append-nil, append_assoc}
+use mathlib.Core.List.{List, [], ◌++◌, append_nil, append_assoc}
 use native.Mathlib.Omega.{arith}
 use lib.ListN.{length, replicate, length-replicate}
 use Rattle.rl_spec.specs.declared.Counts.{Counts}
 use Rattle.rl_spec.specs.Image.{Image, text_of}
-use Rattle.rl_spec.specs.Records.{functionAt}
-use Rattle.rl_spec.specs.Found.{imageFound}
-use Rattle.rl_spec.specs.Prove.{callEntries, allEntries}
+use Rattle.rl_spec.specs.Records.{function_at}
+use Rattle.rl_spec.specs.Found.{image_found}
+use Rattle.rl_spec.specs.Prove.{call_entries, all_entries}
 use Rattle.rl_names.specs.Names.{Classes}
 use Rattle.rl_prover.specs.Reports.{Shown}
 use Rattle.rl_prover.specs.Calls.{Room, ProvesCall}
@@ -20,19 +20,19 @@ use Rattle.rl_checker.specs.Entries.{Limited, ProvesOne, ProvesEach, ProvesAll}
 module _ (s p : List ℕ) (c : Counts) (cs : List ℕ) where
   -- the classes of a slice of 2,048 words each
   abbrev Classed : Type 0
-  Classed = (q : List ℕ) → c.texts ≤ length (replicate {A = ℕ} 2048 0) → c.texts ≤ length (replicate {A = ℕ} 2048 0) → Classes (text_of (imageFound s q c)) cs
+  Classed = (q : List ℕ) → c.texts ≤ length (replicate {A = ℕ} 2048 0) → c.texts ≤ length (replicate {A = ℕ} 2048 0) → Classes (text_of (image_found s q c)) cs
 
-  classed : Classed → Limited (imageFound s p c) c → Classes (text_of (imageFound s p c)) cs
+  classed : Classed → Limited (image_found s p c) c → Classes (text_of (image_found s p c)) cs
   classed k h =
       let n : c.texts ≤ length (replicate {A = ℕ} 2048 0) = subst (λ (i : ℕ). c.texts ≤ i) (sym (length-replicate {A = ℕ} 2048 0)) h.texts in
       k p n n
 
-  roomy : Limited (imageFound s p c) c → Room (imageFound s p c) (replicate 768 0)
-  roomy h f = subst (λ (i : ℕ). (functionAt (imageFound s p c) f).params.count * 3 ≤ i) (sym (length-replicate {A = ℕ} 768 0)) (omega (arith, h.parameters f))
+  roomy : Limited (image_found s p c) c → Room (image_found s p c) (replicate 768 0)
+  roomy h f = subst (λ (i : ℕ). (function_at (image_found s p c) f).params.count * 3 ≤ i) (sym (length-replicate {A = ℕ} 768 0)) (omega (arith, h.parameters f))
 
-  pub one-proves : (call : ℕ) (l out : List ℕ) (r : ℕ) → Classed → ProvesCall (imageFound s p c) cs call (replicate 768 0) l 0 out r → ProvesOne (imageFound s p c) c call l out r
-  unfolding callEntries
-  one-proves call l out r k f h sh = f (omega arith) (classed k h) (roomy h) [] sh
+  pub one_proves : (call : ℕ) (l out : List ℕ) (r : ℕ) → Classed → ProvesCall (image_found s p c) cs call (replicate 768 0) l 0 out r → ProvesOne (image_found s p c) c call l out r
+  unfolding call_entries
+  one_proves call l out r k f h sh = f (omega arith) (classed k h) (roomy h) [] sh
 
 -- ---- all calls
 
@@ -44,7 +44,7 @@ pub record Each (im : Image) (c : Counts) (cs w₀ m₀ l₀ : List ℕ) (most :
   pub width : length w ≡ length w₀
   pub size : length m ≡ length m₀
   pub room : length l ≡ length l₀
-  pub so_far : Classes (text_of im) cs → Room im w₀ → Shown l₀ [] 0 → (e : List ℕ) × (Shown l e at × (allEntries im most 0 ≡ e ++ allEntries im (most - call) call))
+  pub so_far : Classes (text_of im) cs → Room im w₀ → Shown l₀ [] 0 → (e : List ℕ) × (Shown l e at × (all_entries im most 0 ≡ e ++ all_entries im (most - call) call))
 
 module _ (im : Image) (c : Counts) (cs w₀ m₀ l₀ : List ℕ) (most : ℕ) where
   pub each_start : most ≡ min c.calls 256 → Each im c cs w₀ m₀ l₀ most w₀ m₀ l₀ 0 0
@@ -61,19 +61,19 @@ module _ (im : Image) (c : Counts) (cs w₀ m₀ l₀ : List ℕ) (most : ℕ) w
       }
 
   module _ (w m l : List ℕ) (at call : ℕ) (t : Each im c cs w₀ m₀ l₀ most w m l at call) where
-    pub each-end : most ≤ call → ProvesEach im c cs w₀ l₀ l at
-    unfolding allEntries
-    each-end h cl ro sh =
+    pub each_end : most ≤ call → ProvesEach im c cs w₀ l₀ l at
+    unfolding all_entries
+    each_end h cl ro sh =
         let x = t.so_far cl ro sh in
         let z : most - call ≡ 0 = omega arith in
-        let whole : allEntries im (min c.calls 256) 0 ≡ x.0 = ap (λ (n : ℕ). allEntries im n 0) (sym t.limit) ∙ x.1.1 ∙ rw z (append-nil x.0) in
+        let whole : all_entries im (min c.calls 256) 0 ≡ x.0 = ap (λ (n : ℕ). all_entries im n 0) (sym t.limit) ∙ x.1.1 ∙ rw z (append_nil x.0) in
         subst (λ (e : List ℕ). Shown l e at) (sym whole) x.1.0
 
-    pub each-bound : at ≤ 134215680
-    each-bound = let a = t.limit in let b = t.within in let d = t.near in omega arith
+    pub each_bound : at ≤ 134215680
+    each_bound = let a = t.limit in let b = t.within in let d = t.near in omega arith
 
     pub each_next : call < most → (w₁ m₁ l₁ : List ℕ) (r : ℕ) → ProvesCall im cs call w l at l₁ r → r ≤ at + 524280 → length w₁ ≡ length w → length m₁ ≡ length m → length l₁ ≡ length l → Each im c cs w₀ m₀ l₀ most w₁ m₁ l₁ r (call + 1)
-    unfolding allEntries callEntries
+    unfolding all_entries call_entries
     each_next h w₁ m₁ l₁ r f b x y z =
         let lim = t.limit in
         let d = t.near in
@@ -88,14 +88,14 @@ module _ (im : Image) (c : Counts) (cs w₀ m₀ l₀ : List ℕ) (most : ℕ) w
           so_far =
               λ cl ro sh.
               let q = t.so_far cl ro sh in
-              let own : Room im w = λ g. subst (λ (i : ℕ). (functionAt im g).params.count * 3 ≤ i) (sym t.width) (ro g) in (
-                q.0 ++ callEntries im call,
+              let own : Room im w = λ g. subst (λ (i : ℕ). (function_at im g).params.count * 3 ≤ i) (sym t.width) (ro g) in (
+                q.0 ++ call_entries im call,
                 (
                   f (omega arith) cl own q.0 q.1.0,
-                  q.1.1 ∙ rw n (sym (append_assoc q.0 (callEntries im call) (allEntries im (most - (call + 1)) (call + 1)))),
+                  q.1.1 ∙ rw n (sym (append_assoc q.0 (call_entries im call) (all_entries im (most - (call + 1)) (call + 1)))),
                 ),
               );
         }
 
-pub all-prove : (s p : List ℕ) (c : Counts) (cs l out : List ℕ) (r : ℕ) → Classed s p c cs → ProvesEach (imageFound s p c) c cs (replicate 768 0) l out r → ProvesAll (imageFound s p c) c l out r
-all-prove s p c cs l out r k f h sh = f (classed s p c cs k h) (roomy s p c cs h) sh
+pub all_prove : (s p : List ℕ) (c : Counts) (cs l out : List ℕ) (r : ℕ) → Classed s p c cs → ProvesEach (image_found s p c) c cs (replicate 768 0) l out r → ProvesAll (image_found s p c) c l out r
+all_prove s p c cs l out r k f h sh = f (classed s p c cs k h) (roomy s p c cs h) sh

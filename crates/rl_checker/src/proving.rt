@@ -1,10 +1,10 @@
 // Proving a call, and all calls.
 ghost use Rattle.std.specs.Prelude.{◌≡◌, ◌≤◌, ◌<◌, min, length};
-ghost use Rattle.rl_spec.specs.Fold.{workUnless};
-ghost use Rattle.rl_spec.specs.Found.{imageFound};
-ghost use Rattle.rl_spec.specs.Prove.{proveOf, reportsOf, proveAllOf, allReportsOf, proveNumber};
+ghost use Rattle.rl_spec.specs.Fold.{work_unless};
+ghost use Rattle.rl_spec.specs.Found.{image_found};
+ghost use Rattle.rl_spec.specs.Prove.{prove_of, reports_of, prove_all_of, all_reports_of, prove_number};
 ghost use Rattle.rl_prover.specs.Reports.{kept_at};
-ghost use Rattle.rl_checker.specs.Entries.{ProvesOne, ProvesEach, ProvesAll, fittingAt};
+ghost use Rattle.rl_checker.specs.Entries.{ProvesOne, ProvesEach, ProvesAll, fitting_at};
 
 use rl_ast::read_starts;
 use rl_bytes::{clear, clear_entries};
@@ -20,7 +20,7 @@ fn prove_one(
     call: u16,
     reports: &mut [u32],
 ) -> usize
-    ensures proves_one { ProvesOne (imageFound image.now starts.now counts) counts call reports.old reports.new result }
+    ensures proves_one { ProvesOne (image_found image.now starts.now counts) counts call reports.old reports.new result }
     ensures upper_bound { result ≤ 524280 }
 {
     let mut links = [0u64; 2048];
@@ -63,7 +63,7 @@ fn prove_calls(
     memory: &mut [u64],
     reports: &mut [u32],
 ) -> usize
-    ensures proves_each { ProvesEach (imageFound image.now starts.now counts) counts classes.now names.old reports.old reports.new result }
+    ensures proves_each { ProvesEach (image_found image.now starts.now counts) counts classes.now names.old reports.old reports.new result }
     ensures upper_bound { result ≤ 134215680 }
 {
     let most = call_count(counts);
@@ -81,7 +81,7 @@ fn prove_calls(
 // Answers for entries up to a place, or refuses a slice that is too short for them; then both slices are cleared.
 fn fitted(work: &mut [u16], reports: &mut [u32], at: usize) -> ProveAnswer
     requires { at ≤ 134215680 }
-    ensures value { result ≡ fittingAt (length reports.old) at }
+    ensures value { result ≡ fitting_at (length reports.old) at }
     ensures reports_after { reports.new ≡ kept_at (length reports.old) at reports.old }
     ensures work_after { work.new ≡ kept_at (length reports.old) at work.old }
 {
@@ -98,9 +98,9 @@ fn fitted(work: &mut [u16], reports: &mut [u32], at: usize) -> ProveAnswer
 
 // Reads an image and proves one of its calls. 17 for a call that is not there, 18 for a slice under four entries a report.
 pub fn prove(image: &[u8], work: &mut [u16], call: u32, reports: &mut [u32]) -> ProveAnswer
-    ensures value { result ≡ proveOf image.now (length work.old) call (length reports.old) }
-    ensures reports_after { reports.new ≡ reportsOf image.now (length work.old) call (length reports.old) }
-    ensures work_after { work.new ≡ workUnless (proveNumber (proveOf image.now (length work.old) call (length reports.old))) image.now (length work.old) }
+    ensures value { result ≡ prove_of image.now (length work.old) call (length reports.old) }
+    ensures reports_after { reports.new ≡ reports_of image.now (length work.old) call (length reports.old) }
+    ensures work_after { work.new ≡ work_unless (prove_number (prove_of image.now (length work.old) call (length reports.old))) image.now (length work.old) }
 {
     let mut starts = [0u16; 6144];
     clear_entries(reports);
@@ -123,7 +123,7 @@ pub fn prove(image: &[u8], work: &mut [u16], call: u32, reports: &mut [u32]) -> 
 }
 
 fn prove_each(image: &[u8], starts: &[u16; 6144], counts: Counts, reports: &mut [u32]) -> usize
-    ensures proves_all { ProvesAll (imageFound image.now starts.now counts) counts reports.old reports.new result }
+    ensures proves_all { ProvesAll (image_found image.now starts.now counts) counts reports.old reports.new result }
     ensures upper_bound { result ≤ 134215680 }
 {
     let mut links = [0u64; 2048];
@@ -145,9 +145,9 @@ fn prove_each(image: &[u8], starts: &[u16; 6144], counts: Counts, reports: &mut 
 
 // Reads an image and proves all its calls, in order. 18 for a slice under four entries a report.
 pub fn prove_all(image: &[u8], work: &mut [u16], reports: &mut [u32]) -> ProveAnswer
-    ensures value { result ≡ proveAllOf image.now (length work.old) (length reports.old) }
-    ensures reports_after { reports.new ≡ allReportsOf image.now (length work.old) (length reports.old) }
-    ensures work_after { work.new ≡ workUnless (proveNumber (proveAllOf image.now (length work.old) (length reports.old))) image.now (length work.old) }
+    ensures value { result ≡ prove_all_of image.now (length work.old) (length reports.old) }
+    ensures reports_after { reports.new ≡ all_reports_of image.now (length work.old) (length reports.old) }
+    ensures work_after { work.new ≡ work_unless (prove_number (prove_all_of image.now (length work.old) (length reports.old))) image.now (length work.old) }
 {
     let mut starts = [0u16; 6144];
     clear_entries(reports);

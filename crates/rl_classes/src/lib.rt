@@ -3,12 +3,12 @@
 // for a text goes down from parent to child: it meets only texts that have its own link, and compares from that place on. The
 // same text was sought the same way before, so it is met. The work is linear in the texts' bytes, beside one link for each pair.
 ghost use Rattle.std.specs.Prelude.{◌≡◌, List, ℕ, ◌%◌, ◌<◌, ◌≤◌, length};
-ghost use Rattle.rl_spec.specs.Values.{sameText};
+ghost use Rattle.rl_spec.specs.Values.{same_text};
 ghost use Rattle.rl_spec.specs.Image.{text_of};
-ghost use Rattle.rl_spec.specs.Found.{imageFound};
+ghost use Rattle.rl_spec.specs.Found.{image_found};
 ghost use Rattle.rl_names.specs.Names.{Classes};
 ghost use Rattle.rl_classes.specs.Classes.{ClassOfEach};
-ghost use Rattle.rl_classes.specs.Links.{mismatch, nextLink, Linked, PlaceOf};
+ghost use Rattle.rl_classes.specs.Links.{mismatch, next_link, Linked, PlaceOf};
 
 use rl_bytes::{clear, least, long_at, part, put, put_long};
 use rl_records::text_at;
@@ -55,7 +55,7 @@ fn mismatch(a: &[u8], b: &[u8], at: usize) -> usize
 // Whether two texts are the same, where `to` is their first mismatch from `at` on.
 fn is_same(a: &[u8], b: &[u8], at: usize, to: usize) -> bool
     requires { to ≡ mismatch a.now b.now at }
-    ensures { result ≡ sameText a.now b.now }
+    ensures { result ≡ same_text a.now b.now }
 {
     if to < a.len() {
         return false;
@@ -69,7 +69,7 @@ fn is_same(a: &[u8], b: &[u8], at: usize, to: usize) -> bool
 // The link of a search that has met the u-th text, a: that text is the parent where the first mismatch is later.
 fn next_link(a: &[u8], b: &[u8], u: u16, link: u64, to: usize) -> u64
     requires { to ≡ mismatch a.now b.now (link % 65536) }
-    ensures { result ≡ nextLink a.now b.now u link }
+    ensures { result ≡ next_link a.now b.now u link }
 {
     if (to as u64) <= link % 65536 {
         return link;
@@ -87,7 +87,7 @@ struct Place {
 // Searches for the first text that is the same as the t-th.
 fn find(image: &[u8], counts: Counts, links: &[u64], t: u16) -> Place
     requires { t < counts.texts }
-    ensures { (p : List ℕ) → Linked (text_of (imageFound image.now p counts)) links.now t → PlaceOf (text_of (imageFound image.now p counts)) links.now t result.class result.link }
+    ensures { (p : List ℕ) → Linked (text_of (image_found image.now p counts)) links.now t → PlaceOf (text_of (image_found image.now p counts)) links.now t result.class result.link }
 {
     let text = text_at(image, counts, t);
     let mut link = 0;
@@ -114,8 +114,8 @@ fn find(image: &[u8], counts: Counts, links: &[u64], t: u16) -> Place
 
 // Gives each text its class, where both slices have a word for each text. `links` is scratch: what it holds then is left open.
 pub fn text_classes(image: &[u8], counts: Counts, links: &mut [u64], classes: &mut [u16])
-    ensures by_index { (p : List ℕ) → counts.texts ≤ length links.old → counts.texts ≤ length classes.old → ClassOfEach (text_of (imageFound image.now p counts)) classes.new }
-    ensures by_index_2 { (p : List ℕ) → counts.texts ≤ length links.old → counts.texts ≤ length classes.old → Classes (text_of (imageFound image.now p counts)) classes.new }
+    ensures by_index { (p : List ℕ) → counts.texts ≤ length links.old → counts.texts ≤ length classes.old → ClassOfEach (text_of (image_found image.now p counts)) classes.new }
+    ensures by_index_2 { (p : List ℕ) → counts.texts ≤ length links.old → counts.texts ≤ length classes.old → Classes (text_of (image_found image.now p counts)) classes.new }
 {
     clear(classes);
     let mut t = 0;

@@ -1,11 +1,11 @@
 // The fields of a page's line and the line itself, put into a lent buffer at a place; each function answers the place after what it put.
 // What has no room is left out.
 ghost use Rattle.std.specs.Prelude.{◌≡◌, ◌++◌, drop};
-ghost use Rattle.rl_spec.specs.Utf8.{charWidth, encodeScalar, encodeText};
+ghost use Rattle.rl_spec.specs.Utf8.{char_width, encode_scalar, encode_text};
 ghost use Rattle.rl_spec.specs.Message.{decimal};
-ghost use Rattle.rl_spec.specs.Pages.{spaces, left, right, pageLine, ended};
-ghost use Rattle.rl_columns.specs.Columns.{columnOf};
-ghost use Rattle.rl_text_out.specs.Put.{afterText, withText};
+ghost use Rattle.rl_spec.specs.Pages.{spaces, left, right, page_line, ended};
+ghost use Rattle.rl_columns.specs.Columns.{column_of};
+ghost use Rattle.rl_text_out.specs.Put.{after_text, with_text};
 
 use rl_bytes::{least, part};
 use rl_text::char_width;
@@ -13,9 +13,9 @@ use rl_text_out::{put_number, put_text};
 
 // One column: a space behind the text's end, ? for a scalar below 32, else the scalar's octets.
 fn put_column(out: &mut [u8], at: usize, text: &[u8], i: usize, width: usize) -> usize
-    requires { width ≡ charWidth text.now i }
-    ensures value { result ≡ afterText out.old at (encodeScalar (columnOf (drop i text.now))) }
-    ensures out_after { out.new ≡ withText out.old at (encodeScalar (columnOf (drop i text.now))) }
+    requires { width ≡ char_width text.now i }
+    ensures value { result ≡ after_text out.old at (encode_scalar (column_of (drop i text.now))) }
+    ensures out_after { out.new ≡ with_text out.old at (encode_scalar (column_of (drop i text.now))) }
 {
     if width == 0 {
         return put_text(out, at, b" ");
@@ -28,8 +28,8 @@ fn put_column(out: &mut [u8], at: usize, text: &[u8], i: usize, width: usize) ->
 
 // A text from the left of a field of so many columns.
 pub fn put_left(out: &mut [u8], at: usize, text: &[u8], columns: usize) -> usize
-    ensures value { result ≡ afterText out.old at (encodeText (left columns text.now)) }
-    ensures out_after { out.new ≡ withText out.old at (encodeText (left columns text.now)) }
+    ensures value { result ≡ after_text out.old at (encode_text (left columns text.now)) }
+    ensures out_after { out.new ≡ with_text out.old at (encode_text (left columns text.now)) }
 {
     let mut place = at;
     let mut i = 0;
@@ -45,8 +45,8 @@ pub fn put_left(out: &mut [u8], at: usize, text: &[u8], columns: usize) -> usize
 
 // A number to the right of a field of so many columns.
 fn put_right(out: &mut [u8], at: usize, n: u64, columns: usize) -> usize
-    ensures value { result ≡ afterText out.old at (encodeText (right columns (decimal n))) }
-    ensures out_after { out.new ≡ withText out.old at (encodeText (right columns (decimal n))) }
+    ensures value { result ≡ after_text out.old at (encode_text (right columns (decimal n))) }
+    ensures out_after { out.new ≡ with_text out.old at (encode_text (right columns (decimal n))) }
 {
     let mut digits = [0u8; 20];
     let count = put_number(&mut digits, 0, n);
@@ -57,8 +57,8 @@ fn put_right(out: &mut [u8], at: usize, n: u64, columns: usize) -> usize
 
 // The call and the span, with a space behind each.
 fn put_place(out: &mut [u8], call: u32, span: u32) -> usize
-    ensures value { result ≡ afterText out.old 0 (encodeText (right 4 (decimal call) ++ spaces 1 ++ right 10 (decimal span) ++ spaces 1)) }
-    ensures out_after { out.new ≡ withText out.old 0 (encodeText (right 4 (decimal call) ++ spaces 1 ++ right 10 (decimal span) ++ spaces 1)) }
+    ensures value { result ≡ after_text out.old 0 (encode_text (right 4 (decimal call) ++ spaces 1 ++ right 10 (decimal span) ++ spaces 1)) }
+    ensures out_after { out.new ≡ with_text out.old 0 (encode_text (right 4 (decimal call) ++ spaces 1 ++ right 10 (decimal span) ++ spaces 1)) }
 {
     let mut at = put_right(out, 0, call as u64, 4);
     at = put_text(out, at, b" ");
@@ -68,8 +68,8 @@ fn put_place(out: &mut [u8], call: u32, span: u32) -> usize
 
 // The line of a report with its newline.
 pub fn put_page_line(out: &mut [u8], call: u32, span: u32, callee: &[u8], message: &[u8]) -> usize
-    ensures value { result ≡ afterText out.old 0 (encodeText (ended (pageLine call span callee.now message.now))) }
-    ensures out_after { out.new ≡ withText out.old 0 (encodeText (ended (pageLine call span callee.now message.now))) }
+    ensures value { result ≡ after_text out.old 0 (encode_text (ended (page_line call span callee.now message.now))) }
+    ensures out_after { out.new ≡ with_text out.old 0 (encode_text (ended (page_line call span callee.now message.now))) }
 {
     let mut at = put_place(out, call, span);
     at = put_left(out, at, callee, 16);
@@ -80,8 +80,8 @@ pub fn put_page_line(out: &mut [u8], call: u32, span: u32, callee: &[u8], messag
 
 // A line of spaces with its newline.
 pub fn put_blank_line(out: &mut [u8]) -> usize
-    ensures value { result ≡ afterText out.old 0 (encodeText (ended (spaces 72))) }
-    ensures out_after { out.new ≡ withText out.old 0 (encodeText (ended (spaces 72))) }
+    ensures value { result ≡ after_text out.old 0 (encode_text (ended (spaces 72))) }
+    ensures out_after { out.new ≡ with_text out.old 0 (encode_text (ended (spaces 72))) }
 {
     let at = put_left(out, 0, b"", 72);
     put_text(out, at, b"\n")

@@ -9,49 +9,49 @@ use Rattle.rl_spec.specs.declared.Section.TheVariants.{Lists, Expressions}
 use Rattle.rl_spec.specs.declared.Target.{Target}
 use Rattle.rl_spec.specs.declared.Sort.{Sort}
 use Rattle.rl_spec.specs.declared.Sort.TheVariants.{Raw, Byte, Scalar, Part, One, Maybe, Many, Range, OperandSort, Operand}
-use Rattle.rl_spec.specs.Bytes.{num_at, u16At}
-use Rattle.rl_spec.specs.Schema.{sortOf, width_of}
-use Rattle.rl_spec.specs.Image.{Field, num, pair, Image, size_of, first, entry_of, isPair, fieldIn, FieldFits, WellFormed}
-use Rattle.rl_spec.specs.Found.{imageFound}
+use Rattle.rl_spec.specs.Bytes.{num_at, u16_at}
+use Rattle.rl_spec.specs.Schema.{sort_of, width_of}
+use Rattle.rl_spec.specs.Image.{Field, num, pair, Image, size_of, first, entry_of, is_pair, field_in_lem, FieldFits, WellFormed}
+use Rattle.rl_spec.specs.Found.{image_found}
 use Rattle.rl_spec.specs.Ranges.{up_from}
-use Rattle.rl_spec.specs.Make.{Context, Make, and_then, ◌>>=◌, give, imageSoFar, newList, entriesOf}
-use Rattle.rl_spec.specs.Lower.{isNode, cloneEntries, cloneField, deepCloneExpr}
-use Rattle.rl_encode.specs.Words.{wordField}
+use Rattle.rl_spec.specs.Make.{Context, Make, and_then, ◌>>=◌, give, image_so_far, new_list, entries_of}
+use Rattle.rl_spec.specs.Lower.{is_node, clone_entries, clone_field, deep_clone_expr}
+use Rattle.rl_encode.specs.Words.{word_field}
 use Rattle.rl_images.specs.Images.SchemaSorts.{and_right}
-use Rattle.rl_images.specs.Images.FieldFacts.{list-says}
+use Rattle.rl_images.specs.Images.FieldFacts.{list_says}
 use Rattle.rl_images.specs.Lowering.Gives.{gives, after}
 use Rattle.rl_context.specs.declared.Ctx.{Ctx}
 use Rattle.rl_context.specs.Additions.{Live}
 use Rattle.rl_context.specs.Does.{State, at, nothing, one, all, Ends, Start, Does, Pushes, Listed}
-use Rattle.rl_context.proofs.Composed.{Keeps, does-then, does-bind, does-give, does-same, does-push, does-list}
-use Rattle.rl_images.specs.Lowering.Adds.{adds-give}
-use Rattle.rl_context.proofs.StaysOver.{keeps-more, keeps-one}
-use Rattle.rl_images.specs.Lowering.AddsLower.{adds-entries, adds-field}
+use Rattle.rl_context.proofs.Composed.{Keeps, does_then, does_bind, does_give, does_same, does_push, does_list}
+use Rattle.rl_images.specs.Lowering.Adds.{adds_give}
+use Rattle.rl_context.proofs.StaysOver.{keeps_more, keeps_one}
+use Rattle.rl_images.specs.Lowering.AddsLower.{adds_entries, adds_field}
 use Rattle.rl_context.specs.declared.copy.Plan.{Plan}
 use Rattle.rl_context.specs.declared.copy.Plan.TheVariants as plan
-use Rattle.rl_context.specs.Copies.{plan_of, cloneBelow, Fitting, Copies, CopiesField, CopiesEntry, CopiesEntries}
-use Rattle.rl_context.proofs.Copying.{adds-below, old-entries}
+use Rattle.rl_context.specs.Copies.{plan_of, clone_below, Fitting, Copies, CopiesField, CopiesEntry, CopiesEntries}
+use Rattle.rl_context.proofs.Copying.{adds_below, old_entries}
 
-pub two : (s : List ℕ) (at : ℕ) → num_at s at 2 ≡ u16At s at
-unfolding num_at u16At
+pub two : (s : List ℕ) (at : ℕ) → num_at s at 2 ≡ u16_at s at
+unfolding num_at u16_at
 two s at = omega arith
 
 -- ---- the copy of a child
 
-pub clone-below : (id n : ℕ) → n < id → cloneBelow id n ≡ deepCloneExpr n
-clone-below id n h = ap (λ b. cond b (deepCloneExpr n) (give n)) (lt-ltb n id h)
+pub clone_below_lem : (id n : ℕ) → n < id → clone_below id n ≡ deep_clone_expr n
+clone_below_lem id n h = ap (λ b. cond b (deep_clone_expr n) (give n)) (lt-ltb n id h)
 
-clone-above : (id n : ℕ) → id ≤ n → cloneBelow id n ≡ give n
-clone-above id n h = ap (λ b. cond b (deepCloneExpr n) (give n)) (le-ltb n id h)
+clone_above : (id n : ℕ) → id ≤ n → clone_below id n ≡ give n
+clone_above id n h = ap (λ b. cond b (deep_clone_expr n) (give n)) (le-ltb n id h)
 
 -- ---- what a plan says of a sort
 
 abbrev Said : Sort → Plan → Type 0
-Said o plan.Keep = (clone : ℕ → Make ℕ) (f : Field) → cloneField clone o f ≡ give f
-Said o plan.Node = (isPair o ≡ false) × ((width_of o ≡ 2) × ((clone : ℕ → Make ℕ) (f : Field) → cloneField clone o f ≡ (clone (first f) >>= λ n. give (num n))))
+Said o plan.Keep = (clone : ℕ → Make ℕ) (f : Field) → clone_field clone o f ≡ give f
+Said o plan.Node = (is_pair o ≡ false) × ((width_of o ≡ 2) × ((clone : ℕ → Make ℕ) (f : Field) → clone_field clone o f ≡ (clone (first f) >>= λ n. give (num n))))
 Said o (plan.List l r) =
-    (isPair o ≡ true)
-    × (((clone : ℕ → Make ℕ) (f : Field) → cloneField clone o f ≡ (imageSoFar >>= λ im. cloneEntries clone l r (entriesOf im f) >>= newList))
+    (is_pair o ≡ true)
+    × (((clone : ℕ → Make ℕ) (f : Field) → clone_field clone o f ≡ (image_so_far >>= λ im. clone_entries clone l r (entries_of im f) >>= new_list))
     × ((im : Image) (i before a n : ℕ) → FieldFits im Expressions i before o (pair a n) → a + n ≤ size_of im Lists))
 
 said : (o : Sort) → Said o (plan_of o)
@@ -59,106 +59,106 @@ said (Raw n) = λ clone f. refl
 said (Byte low high) = λ clone f. refl
 said Scalar = λ clone f. refl
 said Part = λ clone f. refl
-said (One t) = go (isNode t) refl
+said (One t) = go (is_node t) refl
   where
-    go : (b : Bool) → isNode t ≡ b → Said (One t) (cond b plan.Node plan.Keep)
+    go : (b : Bool) → is_node t ≡ b → Said (One t) (cond b plan.Node plan.Keep)
     go true e = (refl, (refl, λ clone f. ap (λ b. cond b (clone (first f) >>= λ n. give (num n)) (give f)) e))
     go false e = λ clone f. ap (λ b. cond b (clone (first f) >>= λ n. give (num n)) (give f)) e
 said (Maybe t) = λ clone f. refl
-said (Many l r n) = go (isNode l || isNode r) refl
+said (Many l r n) = go (is_node l || is_node r) refl
   where
-    go : (b : Bool) → isNode l || isNode r ≡ b → Said (Many l r n) (cond b (plan.List l r) plan.Keep)
+    go : (b : Bool) → is_node l || is_node r ≡ b → Said (Many l r n) (cond b (plan.List l r) plan.Keep)
     go true e =
-        (refl, (λ clone f. ap (λ b. cond b (imageSoFar >>= λ im. cloneEntries clone l r (entriesOf im f) >>= newList) (give f)) e, λ im i before a m h. (list-says h).0))
-    go false e = λ clone f. ap (λ b. cond b (imageSoFar >>= λ im. cloneEntries clone l r (entriesOf im f) >>= newList) (give f)) e
+        (refl, (λ clone f. ap (λ b. cond b (image_so_far >>= λ im. clone_entries clone l r (entries_of im f) >>= new_list) (give f)) e, λ im i before a m h. (list_says h).0))
+    go false e = λ clone f. ap (λ b. cond b (image_so_far >>= λ im. clone_entries clone l r (entries_of im f) >>= new_list) (give f)) e
 said (Range o) = λ clone f. refl
 said OperandSort = λ clone f. refl
 said Operand = λ clone f. refl
 
-said-by : (o : Sort) (q : Plan) → q ≡ plan_of o → Said o q
-said-by o q e = subst (Said o) (sym e) (said o)
+said_by : (o : Sort) (q : Plan) → q ≡ plan_of o → Said o q
+said_by o q e = subst (Said o) (sym e) (said o)
 
 -- ---- a field by its plan
 
-module _ (s p : List ℕ) (c : Counts) (id code place : ℕ) (sort : Sort) (q : Plan) (e : sort ≡ sortOf code) (g : q ≡ plan_of sort) where
+module _ (s p : List ℕ) (c : Counts) (id code place : ℕ) (sort : Sort) (q : Plan) (e : sort ≡ sort_of code) (g : q ≡ plan_of sort) where
   abbrev im : Image
-  im = imageFound s p c
+  im = image_found s p c
 
   abbrev o : Sort
-  o = sortOf code
+  o = sort_of code
 
-  by-plan : Said o q
-  by-plan = said-by o q (g ∙ ap plan_of e)
+  by_plan : Said o q
+  by_plan = said_by o q (g ∙ ap plan_of e)
 
-  field-keeps : Keeps (nothing {A = Unit {0}}) (λ _. cloneField (cloneBelow id) o (fieldIn s o place)) (nothing {A = Field})
-  field-keeps = keeps-more nothing (λ _. adds-field (cloneBelow id) (adds-below id) o (fieldIn s o place))
+  field_keeps : Keeps (nothing {A = Unit {0}}) (λ _. clone_field (clone_below id) o (field_in_lem s o place)) (nothing {A = Field})
+  field_keeps = keeps_more nothing (λ _. adds_field (clone_below id) (adds_below id) o (field_in_lem s o place))
 
-  pub field-kept : (scratch w : List ℕ) (ctx ctx' : Ctx) (word : ℕ) → q ≡ plan.Keep → ctx' ≡ ctx → wordField o word ≡ fieldIn s o place →
+  pub field_kept : (scratch w : List ℕ) (ctx ctx' : Ctx) (word : ℕ) → q ≡ plan.Keep → ctx' ≡ ctx → word_field o word ≡ field_in_lem s o place →
       CopiesField im s id code place (at ctx scratch w) word (at ctx' scratch w)
-  field-kept scratch w ctx ctx' word k v f =
+  field_kept scratch w ctx ctx' word k v f =
       subst (λ z. CopiesField im s id code place (at ctx scratch w) word (at z scratch w)) (sym v)
-      (does-same (cloneField (cloneBelow id) o (fieldIn s o place)) field-keeps (λ x ws l. ap (λ m. m x) (subst (Said o) k by-plan (cloneBelow id) (fieldIn s o place) ∙ ap give (sym f)))
-      (does-give im 0 (wordField o word) (at ctx scratch w)))
+      (does_same (clone_field (clone_below id) o (field_in_lem s o place)) field_keeps (λ x ws l. ap (λ m. m x) (subst (Said o) k by_plan (clone_below id) (field_in_lem s o place) ∙ ap give (sym f)))
+      (does_give im 0 (word_field o word) (at ctx scratch w)))
 
-  module _ (child : ℕ) (k : q ≡ plan.Node) (f : child ≡ u16At s place) where
-    node-said : (isPair o ≡ false) × ((width_of o ≡ 2) × ((clone : ℕ → Make ℕ) (f : Field) → cloneField clone o f ≡ (clone (first f) >>= λ n. give (num n))))
-    node-said = subst (Said o) k by-plan
+  module _ (child : ℕ) (k : q ≡ plan.Node) (f : child ≡ u16_at s place) where
+    node_said : (is_pair o ≡ false) × ((width_of o ≡ 2) × ((clone : ℕ → Make ℕ) (f : Field) → clone_field clone o f ≡ (clone (first f) >>= λ n. give (num n))))
+    node_said = subst (Said o) k by_plan
 
-    child-is : first (fieldIn s o place) ≡ child
-    child-is = ap (λ b. first (cond b (pair (u16At s place) (u16At s (place + 2))) (num (num_at s place (width_of o))))) node-said.0 ∙ ap (num_at s place) node-said.1.0 ∙ two s place ∙ sym f
+    child_is : first (field_in_lem s o place) ≡ child
+    child_is = ap (λ b. first (cond b (pair (u16_at s place) (u16_at s (place + 2))) (num (num_at s place (width_of o))))) node_said.0 ∙ ap (num_at s place) node_said.1.0 ∙ two s place ∙ sym f
 
-    field_is : cloneField (cloneBelow id) o (fieldIn s o place) ≡ (cloneBelow id child >>= λ n. give (num n))
-    field_is = node-said.1.1 (cloneBelow id) (fieldIn s o place) ∙ ap (λ n. cloneBelow id n >>= λ m. give (num m)) child-is
+    field_is : clone_field (clone_below id) o (field_in_lem s o place) ≡ (clone_below id child >>= λ n. give (num n))
+    field_is = node_said.1.1 (clone_below id) (field_in_lem s o place) ∙ ap (λ n. clone_below id n >>= λ m. give (num m)) child_is
 
-    copied : (t u : State) (index word : ℕ) → Does im 0 0 nothing (cloneBelow id child) t index u → word ≡ index → CopiesField im s id code place t word u
+    copied : (t u : State) (index word : ℕ) → Does im 0 0 nothing (clone_below id child) t index u → word ≡ index → CopiesField im s id code place t word u
     copied t u index word d w =
-        subst (λ z. Does im 0 0 nothing (cloneField (cloneBelow id) o (fieldIn s o place)) t z u) (ap num (sym w) ∙ sym (ap (λ b. cond b (pair (word % 65536) (word / 65536)) (num word)) node-said.0))
-        (subst (λ m. Does im 0 0 nothing m t (num index) u) (sym field_is) (does-bind d (keeps-more nothing (λ n. adds-give (num n))) (does-give im 0 (num index) u)))
+        subst (λ z. Does im 0 0 nothing (clone_field (clone_below id) o (field_in_lem s o place)) t z u) (ap num (sym w) ∙ sym (ap (λ b. cond b (pair (word % 65536) (word / 65536)) (num word)) node_said.0))
+        (subst (λ m. Does im 0 0 nothing m t (num index) u) (sym field_is) (does_bind d (keeps_more nothing (λ n. adds_give (num n))) (does_give im 0 (num index) u)))
 
     pub field_shared : (scratch v : List ℕ) (ctx ctx' : Ctx) (word : ℕ) → id ≤ child → ctx' ≡ ctx → word ≡ child →
         CopiesField im s id code place (at ctx scratch v) word (at ctx' scratch v)
     field_shared scratch v ctx ctx' word h c w =
         subst (λ z. CopiesField im s id code place (at ctx scratch v) word (at z scratch v)) (sym c)
-        (copied (at ctx scratch v) (at ctx scratch v) child word (subst (λ m. Does im 0 0 nothing m (at ctx scratch v) child (at ctx scratch v)) (sym (clone-above id child h)) (does-give im 0 child (at ctx scratch v))) w)
+        (copied (at ctx scratch v) (at ctx scratch v) child word (subst (λ m. Does im 0 0 nothing m (at ctx scratch v) child (at ctx scratch v)) (sym (clone_above id child h)) (does_give im 0 child (at ctx scratch v))) w)
 
-    pub field-copied : (t : State) (scratch v : List ℕ) (ctx ctx' : Ctx) (index word : ℕ) → child < id → Copies im child t index (at ctx scratch v) → ctx' ≡ ctx → word ≡ index →
+    pub field_copied : (t : State) (scratch v : List ℕ) (ctx ctx' : Ctx) (index word : ℕ) → child < id → Copies im child t index (at ctx scratch v) → ctx' ≡ ctx → word ≡ index →
         CopiesField im s id code place t word (at ctx' scratch v)
-    field-copied t scratch v ctx ctx' index word h d c w = subst (λ z. CopiesField im s id code place t word (at z scratch v)) (sym c)
-        (copied t (at ctx scratch v) index word (subst (λ m. Does im 0 0 nothing m t index (at ctx scratch v)) (sym (clone-below id child h)) d) w)
+    field_copied t scratch v ctx ctx' index word h d c w = subst (λ z. CopiesField im s id code place t word (at z scratch v)) (sym c)
+        (copied t (at ctx scratch v) index word (subst (λ m. Does im 0 0 nothing m t index (at ctx scratch v)) (sym (clone_below_lem id child h)) d) w)
 
-  module _ (left right : Target) (k : q ≡ plan.List left right) (a n : ℕ) (f : a ≡ u16At s place) (h : n ≡ u16At s (place + 2)) where
-    list-said : Said o (plan.List left right)
-    list-said = subst (Said o) k by-plan
+  module _ (left right : Target) (k : q ≡ plan.List left right) (a n : ℕ) (f : a ≡ u16_at s place) (h : n ≡ u16_at s (place + 2)) where
+    list_said : Said o (plan.List left right)
+    list_said = subst (Said o) k by_plan
 
-    pair_is : fieldIn s o place ≡ pair a n
-    pair_is = ap (λ b. cond b (pair (u16At s place) (u16At s (place + 2))) (num (num_at s place (width_of o)))) list-said.0 ∙ ap₂ pair (sym f) (sym h)
+    pair_is : field_in_lem s o place ≡ pair a n
+    pair_is = ap (λ b. cond b (pair (u16_at s place) (u16_at s (place + 2))) (num (num_at s place (width_of o)))) list_said.0 ∙ ap₂ pair (sym f) (sym h)
 
-    pub list-fits : Fitting im s id code place → WellFormed im → a + n ≤ size_of im Lists
-    list-fits fit wf = list-said.1.1 im id (fit wf).0 a n (subst (FieldFits im Expressions id (fit wf).0 o) pair_is (fit wf).1)
+    pub list_fits : Fitting im s id code place → WellFormed im → a + n ≤ size_of im Lists
+    list_fits fit wf = list_said.1.1 im id (fit wf).0 a n (subst (FieldFits im Expressions id (fit wf).0 o) pair_is (fit wf).1)
 
-    pub field-listed : (t u v : State) (list : Interval) (word waits : ℕ) → Fitting im s id code place → waits ≡ t.ctx.waiting → CopiesEntries im id a n left right t u →
+    pub field_listed : (t u v : State) (list : Interval) (word waits : ℕ) → Fitting im s id code place → waits ≡ t.ctx.waiting → CopiesEntries im id a n left right t u →
         Listed waits u list v → pair (word % 65536) (word / 65536) ≡ pair list.first list.count → CopiesField im s id code place t word v
-    field-listed t u v list word waits fit w d g is =
-        subst (λ z. Does im 0 0 nothing (cloneField (cloneBelow id) o (fieldIn s o place)) t z v) (sym is ∙ sym (ap (λ b. cond b (pair (word % 65536) (word / 65536)) (num word)) list-said.0))
-        (does-same (cloneField (cloneBelow id) o (fieldIn s o place)) field-keeps same (does-list waits w d.1 g))
+    field_listed t u v list word waits fit w d g is =
+        subst (λ z. Does im 0 0 nothing (clone_field (clone_below id) o (field_in_lem s o place)) t z v) (sym is ∙ sym (ap (λ b. cond b (pair (word % 65536) (word / 65536)) (num word)) list_said.0))
+        (does_same (clone_field (clone_below id) o (field_in_lem s o place)) field_keeps same (does_list waits w d.1 g))
       where
         same : (x : Context) (ws : List ℕ) → Live im 0 x ws t.ctx t.scratch t.waiting →
-            cloneField (cloneBelow id) o (fieldIn s o place) x ≡ (cloneEntries (cloneBelow id) left right (map (entry_of im) (up_from a n)) >>= newList) x
+            clone_field (clone_below id) o (field_in_lem s o place) x ≡ (clone_entries (clone_below id) left right (map (entry_of im) (up_from a n)) >>= new_list) x
         same x ws l =
-            ap (λ m. m x) (list-said.1.0 (cloneBelow id) (fieldIn s o place))
-            ∙ ap (λ z. (cloneEntries (cloneBelow id) left right (entriesOf x.image z) >>= newList) x) pair_is
-            ∙ ap (λ z. (cloneEntries (cloneBelow id) left right z >>= newList) x) (old-entries x ws t l a n (list-fits fit l.image))
+            ap (λ m. m x) (list_said.1.0 (clone_below id) (field_in_lem s o place))
+            ∙ ap (λ z. (clone_entries (clone_below id) left right (entries_of x.image z) >>= new_list) x) pair_is
+            ∙ ap (λ z. (clone_entries (clone_below id) left right z >>= new_list) x) (old_entries x ws t l a n (list_fits fit l.image))
 
 pub up_suc : (k m : ℕ) → up_from k (suc m) ≡ k ∷ up_from (k + 1) m
 unfolding up_from
 up_suc k m = refl
 
 -- nothing is made, and nothing more waits
-pub does-nil : (of : Image) (s : State) → Does of 0 0 all (give []) s [] s
-does-nil of s = record { does = λ ws o st. ends-nil ws o st }
+pub does_nil : (of : Image) (s : State) → Does of 0 0 all (give []) s [] s
+does_nil of s = record { does = λ ws o st. ends_nil ws o st }
   where
-    ends-nil : (ws : List ℕ) (o : Option (Unit {0} × Context)) → Start of 0 ws o s → Ends of 0 all ws (and_then o (λ _. give [])) [] s
-    ends-nil ws o st =
+    ends_nil : (ws : List ℕ) (o : Option (Unit {0} × Context)) → Start of 0 ws o s → Ends of 0 all ws (and_then o (λ _. give [])) [] s
+    ends_nil ws o st =
         record {
           full = λ v. after (st.full v) (λ _ x h. gives h);
           live = λ v. record { here = (st.live v).here; is = ap (λ z. and_then z (λ _. give [])) (st.live v).is; live = (st.live v).live };
@@ -169,71 +169,71 @@ does-nil of s = record { does = λ ws o st. ends-nil ws o st }
 pub record CopyingEntries (s p : List ℕ) (c : Counts) (id a n : ℕ) (l r : Target) (start here : State) (i : ℕ) (left right : Target) : Type 0 where
   pub some : i ≤ n
   pub done : List ℕ
-  pub follows : (ns : List ℕ) (t : State) → Does (imageFound s p c) 0 0 all (cloneEntries (cloneBelow id) left right (map (entry_of (imageFound s p c)) (up_from (a + i) (n - i)))) here ns t →
-      Does (imageFound s p c) 0 0 all (cloneEntries (cloneBelow id) l r (map (entry_of (imageFound s p c)) (up_from a n))) start (done ++ ns) t
+  pub follows : (ns : List ℕ) (t : State) → Does (image_found s p c) 0 0 all (clone_entries (clone_below id) left right (map (entry_of (image_found s p c)) (up_from (a + i) (n - i)))) here ns t →
+      Does (image_found s p c) 0 0 all (clone_entries (clone_below id) l r (map (entry_of (image_found s p c)) (up_from a n))) start (done ++ ns) t
 
 module _ (s p : List ℕ) (c : Counts) (id a n : ℕ) (l r : Target) (start : State) where
   abbrev of : Image
-  of = imageFound s p c
+  of = image_found s p c
 
   pub entries_none : CopyingEntries s p c id a n l r start start 0 l r
   entries_none =
       record {
         some = omega arith;
         done = [];
-        follows = λ ns t d. subst (λ z. Does of 0 0 all (cloneEntries (cloneBelow id) l r (map (entry_of of) z)) start ns t) (ap₂ up_from (add-zero a) (sub-zero n)) d;
+        follows = λ ns t d. subst (λ z. Does of 0 0 all (clone_entries (clone_below id) l r (map (entry_of of) z)) start ns t) (ap₂ up_from (add-zero a) (sub-zero n)) d;
       }
 
   module _ (here : State) (i : ℕ) (left right : Target) (w : CopyingEntries s p c id a n l r start here i left right) where
-    next-entry : i < n → up_from (a + i) (n - i) ≡ (a + i) ∷ up_from (a + (i + 1)) (n - (i + 1))
-    next-entry h = cons (n - i) (n - (i + 1)) (omega arith) ∙ ap (λ z. (a + i) ∷ up_from z (n - (i + 1))) (add_assoc a i 1)
+    next_entry : i < n → up_from (a + i) (n - i) ≡ (a + i) ∷ up_from (a + (i + 1)) (n - (i + 1))
+    next_entry h = cons (n - i) (n - (i + 1)) (omega arith) ∙ ap (λ z. (a + i) ∷ up_from z (n - (i + 1))) (add_assoc a i 1)
       where
         cons : (m k : ℕ) → m ≡ suc k → up_from (a + i) m ≡ (a + i) ∷ up_from (a + i + 1) k
         cons m k e = ap (up_from (a + i)) e ∙ up_suc (a + i) k
 
     -- what is made of the next entry waits, and the rest follows
-    entries_next : (h : i < n) (m : ℕ) (next : State) → Does of 0 0 one (cond (isNode left) (cloneBelow id (entry_of of (a + i))) (give (entry_of of (a + i)))) here m next →
+    entries_next : (h : i < n) (m : ℕ) (next : State) → Does of 0 0 one (cond (is_node left) (clone_below id (entry_of of (a + i))) (give (entry_of of (a + i)))) here m next →
         CopyingEntries s p c id a n l r start next (i + 1) right left
-    unfolding cloneEntries
+    unfolding clone_entries
     entries_next h m next d =
         record {
           some = omega arith;
           done = w.done ++ m ∷ [];
           follows = λ ns t f.
-              subst (λ z. Does of 0 0 all (cloneEntries (cloneBelow id) l r (map (entry_of of) (up_from a n))) start z t) (sym (append_assoc w.done (m ∷ []) ns))
+              subst (λ z. Does of 0 0 all (clone_entries (clone_below id) l r (map (entry_of of) (up_from a n))) start z t) (sym (append_assoc w.done (m ∷ []) ns))
               (w.follows (m ∷ ns) t
-              (subst (λ z. Does of 0 0 all (cloneEntries (cloneBelow id) left right (map (entry_of of) z)) here (m ∷ ns) t) (sym (next-entry h))
-              (does-then (λ ms. m ∷ ms) d f
-              (keeps-one (λ b ms. b ∷ ms) (adds-entries (cloneBelow id) (adds-below id) right left (map (entry_of of) (up_from (a + (i + 1)) (n - (i + 1))))) (λ b ms. omega arith)) refl (λ ms. refl))));
+              (subst (λ z. Does of 0 0 all (clone_entries (clone_below id) left right (map (entry_of of) z)) here (m ∷ ns) t) (sym (next_entry h))
+              (does_then (λ ms. m ∷ ms) d f
+              (keeps_one (λ b ms. b ∷ ms) (adds_entries (clone_below id) (adds_below id) right left (map (entry_of of) (up_from (a + (i + 1)) (n - (i + 1))))) (λ b ms. omega arith)) refl (λ ms. refl))));
         }
 
-    pub entries-more : i < n → (e : ℕ) (next : State) → e ≡ entry_of of (a + i) → CopiesEntry of id left e here next → CopyingEntries s p c id a n l r start next (i + 1) right left
-    entries-more h e next g d = entries_next h d.0 next (subst (λ z. Does of 0 0 one (cond (isNode left) (cloneBelow id z) (give z)) here d.0 next) g d.1)
+    pub entries_more : i < n → (e : ℕ) (next : State) → e ≡ entry_of of (a + i) → CopiesEntry of id left e here next → CopyingEntries s p c id a n l r start next (i + 1) right left
+    entries_more h e next g d = entries_next h d.0 next (subst (λ z. Does of 0 0 one (cond (is_node left) (clone_below id z) (give z)) here d.0 next) g d.1)
 
-    pub entries-all : n ≤ i → CopiesEntries of id a n l r start here
-    unfolding cloneEntries up_from
-    entries-all h = (w.done ++ [], w.follows [] here (subst (λ z. Does of 0 0 all (cloneEntries (cloneBelow id) left right (map (entry_of of) (up_from (a + i) z))) here [] here) none_left (does-nil of here)))
+    pub entries_all : n ≤ i → CopiesEntries of id a n l r start here
+    unfolding clone_entries up_from
+    entries_all h = (w.done ++ [], w.follows [] here (subst (λ z. Does of 0 0 all (clone_entries (clone_below id) left right (map (entry_of of) (up_from (a + i) z))) here [] here) none_left (does_nil of here)))
       where
         none_left : 0 ≡ n - i
         none_left = omega (arith, w.some)
 
 -- ---- an entry
 
-pub entry-before : (id : ℕ) (target : Target) (n : ℕ) (b : Bool) → b ≡ isNode target && ltb n id → b ≡ true → n < id
-entry-before id target n b q t = ltb-true n id (and_right (isNode target) (ltb n id) (sym q ∙ t))
+pub entry_before : (id : ℕ) (target : Target) (n : ℕ) (b : Bool) → b ≡ is_node target && ltb n id → b ≡ true → n < id
+entry_before id target n b q t = ltb-true n id (and_right (is_node target) (ltb n id) (sym q ∙ t))
 
-module _ (of : Image) (id : ℕ) (target : Target) (n : ℕ) (here : State) (b : Bool) (q : b ≡ isNode target && ltb n id) where
-  entry-is : (a c : Bool) → cond a (cond c (deepCloneExpr n) (give n)) (give n) ≡ cond (a && c) (deepCloneExpr n) (give n)
-  entry-is true c = refl
-  entry-is false c = refl
+module _ (of : Image) (id : ℕ) (target : Target) (n : ℕ) (here : State) (b : Bool) (q : b ≡ is_node target && ltb n id) where
+  entry_is : (a c : Bool) → cond a (cond c (deep_clone_expr n) (give n)) (give n) ≡ cond (a && c) (deep_clone_expr n) (give n)
+  entry_is true c = refl
+  entry_is false c = refl
 
-  copy_is : cond (isNode target) (cloneBelow id n) (give n) ≡ cond b (deepCloneExpr n) (give n)
-  copy_is = entry-is (isNode target) (ltb n id) ∙ ap (λ z. cond z (deepCloneExpr n) (give n)) (sym q)
+  copy_is : cond (is_node target) (clone_below id n) (give n) ≡ cond b (deep_clone_expr n) (give n)
+  copy_is = entry_is (is_node target) (ltb n id) ∙ ap (λ z. cond z (deep_clone_expr n) (give n)) (sym q)
 
-  pub entry-copied : (made : ℕ) (mid next : State) → b ≡ true → Copies of n here made mid → Pushes made mid next → CopiesEntry of id target n here next
-  entry-copied made mid next t d o =
-      (made, subst (λ m. Does of 0 0 one m here made next) (sym (copy_is ∙ ap (λ z. cond z (deepCloneExpr n) (give n)) t)) (does-push d o))
+  pub entry_copied : (made : ℕ) (mid next : State) → b ≡ true → Copies of n here made mid → Pushes made mid next → CopiesEntry of id target n here next
+  entry_copied made mid next t d o =
+      (made, subst (λ m. Does of 0 0 one m here made next) (sym (copy_is ∙ ap (λ z. cond z (deep_clone_expr n) (give n)) t)) (does_push d o))
 
   pub entry_kept : (next : State) → b ≡ false → Pushes n here next → CopiesEntry of id target n here next
   entry_kept next t o =
-      (n, subst (λ m. Does of 0 0 one m here n next) (sym (copy_is ∙ ap (λ z. cond z (deepCloneExpr n) (give n)) t)) (does-push (does-give of 0 n here) o))
+      (n, subst (λ m. Does of 0 0 one m here n next) (sym (copy_is ∙ ap (λ z. cond z (deep_clone_expr n) (give n)) t)) (does_push (does_give of 0 n here) o))

@@ -3,14 +3,14 @@
 use Rattle.std.proofs.Common.{◌≡◌, ℕ, suc, ◌+◌, ◌<◌, true, false, List, refl, ap, ◌∙◌, arith}
 use mathlib.Core.Option.{some}
 use Rattle.rl_spec.specs.Image.{Image}
-use Rattle.rl_spec.specs.Make.{Context, takeTemp}
+use Rattle.rl_spec.specs.Make.{Context, take_temp}
 use Rattle.rl_context.specs.declared.Ctx.{Ctx}
 use Rattle.rl_context.specs.Additions.{context_of, Live}
 use Rattle.rl_context.specs.Does.{State, at, nothing, Does}
-use Rattle.rl_context.proofs.Composed.{not-both}
-use Rattle.rl_images.specs.Lowering.Adds.{adds-temp}
-use Rattle.rl_context.proofs.Appends.{stops-does}
-use Rattle.rl_context.proofs.Making.{makes-does}
+use Rattle.rl_context.proofs.Composed.{not_both}
+use Rattle.rl_images.specs.Lowering.Adds.{adds_temp}
+use Rattle.rl_context.proofs.Appends.{stops_does}
+use Rattle.rl_context.proofs.Making.{makes_does}
 
 abbrev pub numbered : Ctx → ℕ → Ctx
 numbered ctx n =
@@ -30,25 +30,25 @@ numbered ctx n =
     }
 
 module _ (im : Image) (self : Ctx) (s w : List ℕ) where
-  pub temp-full : self.full ≡ true → Does im 0 1 nothing takeTemp (at self s w) self.temp_counter (at self s w)
-  temp-full f = stops-does nothing f adds-temp (λ x ws v l. not-both f v)
+  pub temp_full : self.full ≡ true → Does im 0 1 nothing take_temp (at self s w) self.temp_counter (at self s w)
+  temp_full f = stops_does nothing f adds_temp (λ x ws v l. not_both f v)
 
-  pub temp-many : (t : State) → t.ctx.full ≡ true → 2048 < self.temp_counter → Does im 0 1 nothing takeTemp (at self s w) self.temp_counter t
-  temp-many t f h =
-      stops-does nothing f adds-temp (λ x ws v l. absurd (omega (arith, l.temps, l.counted.statements, l.counted.few-statements)))
+  pub temp_many : (t : State) → t.ctx.full ≡ true → 2048 < self.temp_counter → Does im 0 1 nothing take_temp (at self s w) self.temp_counter t
+  temp_many t f h =
+      stops_does nothing f adds_temp (λ x ws v l. absurd (omega (arith, l.temps, l.counted.statements, l.counted.few_statements)))
 
-  pub temp-taken : self.full ≡ false → Does im 0 1 nothing takeTemp (at self s w) self.temp_counter (at (numbered self (self.temp_counter + 1)) s w)
-  temp-taken f = makes-does f f go
+  pub temp_taken : self.full ≡ false → Does im 0 1 nothing take_temp (at self s w) self.temp_counter (at (numbered self (self.temp_counter + 1)) s w)
+  temp_taken f = makes_does f f go
     where
       next : suc self.temp_counter ≡ self.temp_counter + 1
       next = omega arith
 
       go : (x : Context) (ws : List ℕ) → Live im 0 x ws self s w →
-          (y : Context) × ((takeTemp x ≡ some (self.temp_counter, y)) × Live im 1 y ws (numbered self (self.temp_counter + 1)) s w)
+          (y : Context) × ((take_temp x ≡ some (self.temp_counter, y)) × Live im 1 y ws (numbered self (self.temp_counter + 1)) s w)
       go x ws l = (
         context_of im l.new (numbered self (self.temp_counter + 1)),
         (
-          ap takeTemp l.context ∙ ap (λ n. some (self.temp_counter, context_of im l.new (numbered self n))) next,
+          ap take_temp l.context ∙ ap (λ n. some (self.temp_counter, context_of im l.new (numbered self n))) next,
           record {
             new = l.new;
             context = refl;
@@ -61,16 +61,16 @@ module _ (im : Image) (self : Ctx) (s w : List ℕ) where
                   expressions = l.counted.expressions;
                   statements = l.counted.statements;
                   few_bytes = l.counted.few_bytes;
-                  few-texts = l.counted.few-texts;
-                  few-lists = l.counted.few-lists;
-                  few-expressions = l.counted.few-expressions;
-                  few-statements = l.counted.few-statements;
-                  text-bytes = l.counted.text-bytes;
-                  list-bytes = l.counted.list-bytes;
-                  expression-bytes = l.counted.expression-bytes;
-                  statement-bytes = l.counted.statement-bytes;
-                  low-expressions = l.counted.low-expressions;
-                  low-statements = l.counted.low-statements;
+                  few_texts = l.counted.few_texts;
+                  few_lists = l.counted.few_lists;
+                  few_expressions = l.counted.few_expressions;
+                  few_statements = l.counted.few_statements;
+                  text_bytes_lem = l.counted.text_bytes_lem;
+                  list_bytes = l.counted.list_bytes;
+                  expression_bytes_lem = l.counted.expression_bytes_lem;
+                  statement_bytes_lem = l.counted.statement_bytes_lem;
+                  low_expressions = l.counted.low_expressions;
+                  low_statements = l.counted.low_statements;
                 };
             kept = l.kept;
             waits = record { size = l.waits.size; count = l.waits.count; few = l.waits.few; entries = l.waits.entries };

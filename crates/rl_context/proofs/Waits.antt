@@ -1,35 +1,35 @@
 -- Entries that wait, and the lists that they become.
 -- Assumes nothing.
-use Rattle.std.proofs.Common.{◌≡◌, ℕ, suc, ◌+◌, ◌*◌, ◌<◌, ◌≤◌, true, false, List, [], ◌∷◌, ◌++◌, length, get_or, take, drop, set, sym, refl, ap, ◌∙◌, subst, ap₂, append-nil, arith, length-append, length-drop, length-set, length-take-le, get_or-drop, take-suc, take-suc-set}
+use Rattle.std.proofs.Common.{◌≡◌, ℕ, suc, ◌+◌, ◌*◌, ◌<◌, ◌≤◌, true, false, List, [], ◌∷◌, ◌++◌, length, get_or, take, drop, set, sym, refl, ap, ◌∙◌, subst, ap₂, append_nil, arith, length-append, length-drop, length-set, length-take-le, get_or-drop, take-suc, take-suc-set}
 use mathlib.Core.Option.{some}
-use Rattle.rl_spec.specs.Image.{num, Image, bytes_of, encodeRecords}
+use Rattle.rl_spec.specs.Image.{num, Image, bytes_of, encode_records}
 use Rattle.rl_spec.specs.Make.{Context, made}
 use Rattle.rl_images.specs.Lowering.Gives.{Gives, gives, weaker}
-use Rattle.rl_images.specs.Encoding.BytesAt.{length-bytes}
-use Rattle.rl_images.specs.Lowering.Grows.{listRecords}
+use Rattle.rl_images.specs.Encoding.BytesAt.{length_bytes}
+use Rattle.rl_images.specs.Lowering.Grows.{list_records}
 use Rattle.rl_encode.specs.Words.{over}
-use Rattle.rl_encode.proofs.Over.{over_none, over-over, length_over}
+use Rattle.rl_encode.proofs.Over.{over_none, over_over, length_over}
 use Rattle.rl_context.specs.declared.Ctx.{Ctx}
-use Rattle.rl_context.specs.Additions.{New, Counted, waitingWith, Waiting}
+use Rattle.rl_context.specs.Additions.{New, Counted, waiting_with, Waiting}
 use Rattle.rl_context.specs.Does.{State, at, one, Over, Ends, Pushes}
-use Rattle.rl_context.proofs.Composed.{by-full, ends-full, ends-live}
-use Rattle.rl_context.proofs.Sizes.{records-one, entry-record, entries-bytes}
+use Rattle.rl_context.proofs.Composed.{by_full, ends_full, ends_live}
+use Rattle.rl_context.proofs.Sizes.{records_one, entry_record, entries_bytes}
 
 -- ---- an entry is pushed
 
-more-over : (ws : List ℕ) {x : Context} (n : ℕ) → Over (ws ++ []) x → Over (ws ++ n ∷ []) x
-more-over ws n h = record { sections = h.sections; more = rw (length-append ws (n ∷ [])) (omega (arith, h.more, length-append ws [])) }
+more_over : (ws : List ℕ) {x : Context} (n : ℕ) → Over (ws ++ []) x → Over (ws ++ n ∷ []) x
+more_over ws n h = record { sections = h.sections; more = rw (length-append ws (n ∷ [])) (omega (arith, h.more, length-append ws [])) }
 
 module _ (entry : ℕ) (self : Ctx) (scratch w : List ℕ) where
-  pub push-full : self.full ≡ true → Pushes entry (at self scratch w) (at self scratch w)
-  push-full f = record { pushes = λ im k ws o e. ends-full f (weaker (e.full f) (λ b x h. more-over ws b h)) }
+  pub push_full : self.full ≡ true → Pushes entry (at self scratch w) (at self scratch w)
+  push_full f = record { pushes = λ im k ws o e. ends_full f (weaker (e.full f) (λ b x h. more_over ws b h)) }
 
-  pub push-many : (t : State) → t.ctx.full ≡ true → 4096 ≤ self.waiting → Pushes entry (at self scratch w) t
-  push-many t g h =
+  pub push_many : (t : State) → t.ctx.full ≡ true → 4096 ≤ self.waiting → Pushes entry (at self scratch w) t
+  push_many t g h =
       record {
         pushes = λ im k ws o e.
-            ends-full g
-            (by-full (at self scratch w) (λ f. weaker (e.full f) (λ b x v. more-over ws b v))
+            ends_full g
+            (by_full (at self scratch w) (λ f. weaker (e.full f) (λ b x v. more_over ws b v))
             (λ f.
             let l = e.live f in
             subst (Gives (λ b x. Over (ws ++ one b) x)) (sym l.is)
@@ -37,7 +37,7 @@ module _ (entry : ℕ) (self : Ctx) (scratch w : List ℕ) where
       }
 
 -- the counts do not depend on what waits
-pub counted_same : {im : Image} {new : New} {ctx : Ctx} (n : ℕ) → Counted im new ctx → Counted im new (waitingWith ctx n)
+pub counted_same : {im : Image} {new : New} {ctx : Ctx} (n : ℕ) → Counted im new ctx → Counted im new (waiting_with ctx n)
 counted_same n c =
     record {
       bytes = c.bytes;
@@ -46,19 +46,19 @@ counted_same n c =
       expressions = c.expressions;
       statements = c.statements;
       few_bytes = c.few_bytes;
-      few-texts = c.few-texts;
-      few-lists = c.few-lists;
-      few-expressions = c.few-expressions;
-      few-statements = c.few-statements;
-      text-bytes = c.text-bytes;
-      list-bytes = c.list-bytes;
-      expression-bytes = c.expression-bytes;
-      statement-bytes = c.statement-bytes;
-      low-expressions = c.low-expressions;
-      low-statements = c.low-statements;
+      few_texts = c.few_texts;
+      few_lists = c.few_lists;
+      few_expressions = c.few_expressions;
+      few_statements = c.few_statements;
+      text_bytes_lem = c.text_bytes_lem;
+      list_bytes = c.list_bytes;
+      expression_bytes_lem = c.expression_bytes_lem;
+      statement_bytes_lem = c.statement_bytes_lem;
+      low_expressions = c.low_expressions;
+      low_statements = c.low_statements;
     }
 
-one_more : (ws : List ℕ) (self : Ctx) (w : List ℕ) (n : ℕ) → self.waiting < 4096 → Waiting ws self w → Waiting (ws ++ n ∷ []) (waitingWith self (self.waiting + 1)) (set w self.waiting n)
+one_more : (ws : List ℕ) (self : Ctx) (w : List ℕ) (n : ℕ) → self.waiting < 4096 → Waiting ws self w → Waiting (ws ++ n ∷ []) (waiting_with self (self.waiting + 1)) (set w self.waiting n)
 one_more ws self w n h v =
     record {
       size = length-set w self.waiting n ∙ v.size;
@@ -73,84 +73,84 @@ one_more ws self w n h v =
     ends : length ws + 1 ≡ suc (length ws)
     ends = omega arith
 
-pub push-made : (entry : ℕ) (self : Ctx) (scratch w end : List ℕ) → self.full ≡ false → self.waiting < 4096 → end ≡ set w self.waiting entry →
-    Pushes entry (at self scratch w) (at (waitingWith self (self.waiting + 1)) scratch end)
-push-made entry self scratch w end f h q =
+pub push_made : (entry : ℕ) (self : Ctx) (scratch w end : List ℕ) → self.full ≡ false → self.waiting < 4096 → end ≡ set w self.waiting entry →
+    Pushes entry (at self scratch w) (at (waiting_with self (self.waiting + 1)) scratch end)
+push_made entry self scratch w end f h q =
     record {
       pushes = λ im k ws o e.
           let l = e.live f in
-          subst (λ z. Ends im k one ws z entry (at (waitingWith self (self.waiting + 1)) scratch end)) (sym l.is)
-          (ends-live f
+          subst (λ z. Ends im k one ws z entry (at (waiting_with self (self.waiting + 1)) scratch end)) (sym l.is)
+          (ends_live f
           (record {
             new = l.live.new;
             context = l.live.context;
             image = l.live.image;
             counted = counted_same (self.waiting + 1) l.live.counted;
             kept = l.live.kept;
-            waits = subst (Waiting (ws ++ entry ∷ []) (waitingWith self (self.waiting + 1))) (sym q) (one_more ws self w entry h (subst (λ z. Waiting z self w) (append-nil ws) l.live.waits));
+            waits = subst (Waiting (ws ++ entry ∷ []) (waiting_with self (self.waiting + 1))) (sym q) (one_more ws self w entry h (subst (λ z. Waiting z self w) (append_nil ws) l.live.waits));
             temps = l.live.temps;
           }));
     }
 
 -- ---- entries become records
 
-entries-append : (a : List ℕ) (n : ℕ) → listRecords (a ++ n ∷ []) ≡ listRecords a ++ made 3 (num n ∷ []) ∷ []
-entries-append [] n = refl
-entries-append (m ∷ a) n = ap (λ l. made 3 (num m ∷ []) ∷ l) (entries-append a n)
+entries_append : (a : List ℕ) (n : ℕ) → list_records (a ++ n ∷ []) ≡ list_records a ++ made 3 (num n ∷ []) ∷ []
+entries_append [] n = refl
+entries_append (m ∷ a) n = ap (λ l. made 3 (num m ∷ []) ∷ l) (entries_append a n)
 
 pub record Entering (out₀ w : List ℕ) (to first count : ℕ) (out : List ℕ) (i : ℕ) : Type 0 where
   pub room : to + count * 3 ≤ length out₀
   pub more : first + count ≤ length w
   pub some : i ≤ count
   pub size : length out ≡ length out₀
-  pub is : out ≡ over out₀ to (encodeRecords (listRecords (take i (drop first w))))
+  pub is : out ≡ over out₀ to (encode_records (list_records (take i (drop first w))))
 
-pub entering-none : (out w : List ℕ) (to first count : ℕ) → to + count * 3 ≤ length out → first + count ≤ length w → Entering out w to first count out 0
-unfolding encodeRecords
-entering-none out w to first count room more = record { room = room; more = more; some = omega arith; size = refl; is = sym (over_none out to) }
+pub entering_none : (out w : List ℕ) (to first count : ℕ) → to + count * 3 ≤ length out → first + count ≤ length w → Entering out w to first count out 0
+unfolding encode_records
+entering_none out w to first count room more = record { room = room; more = more; some = omega arith; size = refl; is = sym (over_none out to) }
 
 module _ (out₀ w : List ℕ) (to first count : ℕ) (out : List ℕ) (i : ℕ) (e : Entering out₀ w to first count out i) where
-  pub entering-room : i < count → to + i * 3 + 3 ≤ length out
-  entering-room h = rw e.size (omega (arith, e.room))
+  pub entering_room : i < count → to + i * 3 + 3 ≤ length out
+  entering_room h = rw e.size (omega (arith, e.room))
 
-  pub entering-more : (next : List ℕ) (n : ℕ) → i < count → n < 65536 → n ≡ get_or w (first + i) 0 → next ≡ over out (to + i * 3) (bytes_of 3 (3 + n * 256)) →
+  pub entering_more : (next : List ℕ) (n : ℕ) → i < count → n < 65536 → n ≡ get_or w (first + i) 0 → next ≡ over out (to + i * 3) (bytes_of 3 (3 + n * 256)) →
       Entering out₀ w to first count next (i + 1)
-  entering-more next n h small g q =
+  entering_more next n h small g q =
       record {
         room = e.room;
         more = e.more;
         some = omega arith;
-        size = ap length q ∙ length_over out (to + i * 3) (bytes_of 3 (3 + n * 256)) (rw (length-bytes 3 (3 + n * 256)) (entering-room h)) ∙ e.size;
+        size = ap length q ∙ length_over out (to + i * 3) (bytes_of 3 (3 + n * 256)) (rw (length_bytes 3 (3 + n * 256)) (entering_room h)) ∙ e.size;
         is =
             q
-            ∙ ap₂ (λ o k. over o k (bytes_of 3 (3 + n * 256))) e.is at-end
-            ∙ over-over out₀ to written (bytes_of 3 (3 + n * 256)) (omega (arith, e.room))
-            ∙ ap (over out₀ to) (ap (λ s. written ++ s) (sym (entry-record n small)) ∙ sym (records-one (listRecords front) (made 3 (num n ∷ []))) ∙ ap encodeRecords (sym (entries-append front n) ∙ ap listRecords longer));
+            ∙ ap₂ (λ o k. over o k (bytes_of 3 (3 + n * 256))) e.is at_end_lem
+            ∙ over_over out₀ to written (bytes_of 3 (3 + n * 256)) (omega (arith, e.room))
+            ∙ ap (over out₀ to) (ap (λ s. written ++ s) (sym (entry_record n small)) ∙ sym (records_one (list_records front) (made 3 (num n ∷ []))) ∙ ap encode_records (sym (entries_append front n) ∙ ap list_records longer));
       }
     where
       front : List ℕ
       front = take i (drop first w)
 
       written : List ℕ
-      written = encodeRecords (listRecords front)
+      written = encode_records (list_records front)
 
       long : i < length (drop first w)
       long = rw length-drop (omega (arith, e.more))
 
-      at-end : to + i * 3 ≡ to + length written
-      at-end = omega (arith, entries-bytes front, length-take-le i (drop first w) (omega (arith, long)))
+      at_end_lem : to + i * 3 ≡ to + length written
+      at_end_lem = omega (arith, entries_bytes front, length-take-le i (drop first w) (omega (arith, long)))
 
       longer : front ++ n ∷ [] ≡ take (i + 1) (drop first w)
       longer =
           ap (λ m. front ++ m ∷ []) (g ∙ sym (get_or-drop first w i 0))
           ∙ sym (take-suc (drop first w) i 0 long)
-          ∙ ap (λ k. take k (drop first w)) next-count
+          ∙ ap (λ k. take k (drop first w)) next_count
         where
-          next-count : suc i ≡ i + 1
-          next-count = omega arith
+          next_count : suc i ≡ i + 1
+          next_count = omega arith
 
-  pub entering-all : count ≤ i → out ≡ over out₀ to (encodeRecords (listRecords (take count (drop first w))))
-  entering-all h = e.is ∙ ap (λ k. over out₀ to (encodeRecords (listRecords (take k (drop first w))))) same
+  pub entering_all : count ≤ i → out ≡ over out₀ to (encode_records (list_records (take count (drop first w))))
+  entering_all h = e.is ∙ ap (λ k. over out₀ to (encode_records (list_records (take k (drop first w))))) same
     where
       same : i ≡ count
       same = omega (arith, e.some)

@@ -1,7 +1,7 @@
 -- What lowering has added to an image, and how the code keeps it.
 use Rattle.std.specs.Prelude.{◌≡◌, ℕ, ◌+◌, ◌*◌, ◌≤◌, true, List, [], ◌∷◌, ◌++◌, length, take, drop}
 use Rattle.rl_spec.specs.declared.Section.TheVariants.{Texts, Lists, Expressions, Statements, Parameters, Clauses, Functions, Calls}
-use Rattle.rl_spec.specs.Image.{Rec, Image, recordsOf, size_of, encodeRecords, WellFormed}
+use Rattle.rl_spec.specs.Image.{Rec, Image, records_of, size_of, encode_records, WellFormed}
 use Rattle.rl_spec.specs.Make.{Context}
 use Rattle.rl_context.specs.declared.Ctx.{Ctx}
 
@@ -12,8 +12,8 @@ pub record New : Type 0 where
   pub expressions : List Rec
   pub statements : List Rec
 
-abbrev pub none-new : New
-none-new = record { bytes = []; texts = []; lists = []; expressions = []; statements = [] }
+abbrev pub none_new : New
+none_new = record { bytes = []; texts = []; lists = []; expressions = []; statements = [] }
 
 abbrev pub grown : Image → New → Image
 grown im new =
@@ -21,50 +21,50 @@ grown im new =
       arena = im.arena;
       bytes = im.bytes ++ new.bytes;
       records =
-          (recordsOf im Texts ++ new.texts)
-          ∷ (recordsOf im Lists ++ new.lists)
-          ∷ (recordsOf im Expressions ++ new.expressions)
-          ∷ (recordsOf im Statements ++ new.statements)
-          ∷ recordsOf im Parameters
-          ∷ recordsOf im Clauses
-          ∷ recordsOf im Functions
-          ∷ recordsOf im Calls
+          (records_of im Texts ++ new.texts)
+          ∷ (records_of im Lists ++ new.lists)
+          ∷ (records_of im Expressions ++ new.expressions)
+          ∷ (records_of im Statements ++ new.statements)
+          ∷ records_of im Parameters
+          ∷ records_of im Clauses
+          ∷ records_of im Functions
+          ∷ records_of im Calls
           ∷ [];
     }
 
 abbrev pub context_of : Image → New → Ctx → Context
 context_of im new ctx =
-    record { image = grown im new; span = ctx.span; isResult = ctx.is_result; tempCounter = ctx.temp_counter; limited = true }
+    record { image = grown im new; span = ctx.span; is_result = ctx.is_result; temp_counter = ctx.temp_counter; limited = true }
 
 -- ---- the scratch slice: places for 16,384 text bytes, 2,048 texts of 5 bytes and 4,096 list entries of 3, of which the image's own stay
 -- empty, then for 4,096 expressions and 2,048 statements of at most 24 bytes, and some more
 
-abbrev pub textsFrom : ℕ
-textsFrom = 16384
+abbrev pub texts_from : ℕ
+texts_from = 16384
 
-abbrev pub listsFrom : ℕ
-listsFrom = 26624
+abbrev pub lists_from : ℕ
+lists_from = 26624
 
-abbrev pub expressionsFrom : ℕ
-expressionsFrom = 38912
+abbrev pub expressions_from : ℕ
+expressions_from = 38912
 
-abbrev pub statementsFrom : ℕ
-statementsFrom = 137216
+abbrev pub statements_from : ℕ
+statements_from = 137216
 
-abbrev pub scratchSize : ℕ
-scratchSize = 186496
+abbrev pub scratch_size : ℕ
+scratch_size = 186496
 
 -- bytes that stand at a place
 abbrev pub Held : ℕ → List ℕ → List ℕ → Type 0
 Held from s scratch = take (length s) (drop from scratch) ≡ s
 
 pub record Kept (im : Image) (new : New) (scratch : List ℕ) : Type 0 where
-  pub size : length scratch ≡ scratchSize
+  pub size : length scratch ≡ scratch_size
   pub bytes : Held (length im.bytes) new.bytes scratch
-  pub texts : Held (textsFrom + size_of im Texts * 5) (encodeRecords new.texts) scratch
-  pub lists : Held (listsFrom + size_of im Lists * 3) (encodeRecords new.lists) scratch
-  pub expressions : Held expressionsFrom (encodeRecords new.expressions) scratch
-  pub statements : Held statementsFrom (encodeRecords new.statements) scratch
+  pub texts : Held (texts_from + size_of im Texts * 5) (encode_records new.texts) scratch
+  pub lists : Held (lists_from + size_of im Lists * 3) (encode_records new.lists) scratch
+  pub expressions : Held expressions_from (encode_records new.expressions) scratch
+  pub statements : Held statements_from (encode_records new.statements) scratch
 
 -- the counts, within their limits
 pub record Counted (im : Image) (new : New) (ctx : Ctx) : Type 0 where
@@ -74,20 +74,20 @@ pub record Counted (im : Image) (new : New) (ctx : Ctx) : Type 0 where
   pub expressions : ctx.expressions ≡ size_of im Expressions + length new.expressions
   pub statements : ctx.statements ≡ size_of im Statements + length new.statements
   pub few_bytes : ctx.bytes ≤ 16384
-  pub few-texts : ctx.texts ≤ 2048
-  pub few-lists : ctx.lists ≤ 4096
-  pub few-expressions : ctx.expressions ≤ 4096
-  pub few-statements : ctx.statements ≤ 2048
-  pub text-bytes : length (encodeRecords new.texts) ≡ 5 * length new.texts
-  pub list-bytes : length (encodeRecords new.lists) ≡ 3 * length new.lists
-  pub expression-bytes : ctx.expression_bytes ≡ length (encodeRecords new.expressions)
-  pub statement-bytes : ctx.statement_bytes ≡ length (encodeRecords new.statements)
-  pub low-expressions : ctx.expression_bytes ≤ 24 * length new.expressions
-  pub low-statements : ctx.statement_bytes ≤ 24 * length new.statements
+  pub few_texts : ctx.texts ≤ 2048
+  pub few_lists : ctx.lists ≤ 4096
+  pub few_expressions : ctx.expressions ≤ 4096
+  pub few_statements : ctx.statements ≤ 2048
+  pub text_bytes_lem : length (encode_records new.texts) ≡ 5 * length new.texts
+  pub list_bytes : length (encode_records new.lists) ≡ 3 * length new.lists
+  pub expression_bytes_lem : ctx.expression_bytes ≡ length (encode_records new.expressions)
+  pub statement_bytes_lem : ctx.statement_bytes ≡ length (encode_records new.statements)
+  pub low_expressions : ctx.expression_bytes ≤ 24 * length new.expressions
+  pub low_statements : ctx.statement_bytes ≤ 24 * length new.statements
 
 -- a context with another count of entries that wait
-abbrev pub waitingWith : Ctx → ℕ → Ctx
-waitingWith ctx n =
+abbrev pub waiting_with : Ctx → ℕ → Ctx
+waiting_with ctx n =
     record {
       bytes = ctx.bytes;
       texts = ctx.texts;

@@ -4,7 +4,7 @@ use Rattle.std.proofs.Math.Option.{Option, some}
 use Rattle.rl_spec.specs.declared.Section.TheVariants.{Lists}
 use Rattle.rl_spec.specs.declared.Interval.{Interval}
 use Rattle.rl_spec.specs.Image.{pair, Image, size_of}
-use Rattle.rl_spec.specs.Make.{Context, Make, and_then, newList}
+use Rattle.rl_spec.specs.Make.{Context, Make, and_then, new_list}
 use Rattle.rl_images.specs.Lowering.Gives.{Gives}
 use Rattle.rl_context.specs.declared.Ctx.{Ctx}
 use Rattle.rl_context.specs.Additions.{Live}
@@ -57,4 +57,4 @@ pub record Pushes (n : ℕ) (s t : State) : Type 0 where
 -- the entries that wait, but for the first so many, become a list
 pub record Listed (first : ℕ) (s : State) (list : Interval) (t : State) : Type 0 where
   pub listed : (im : Image) (slack : ℕ) (ws ns : List ℕ) (o : Option (List ℕ × Context)) → (s.ctx.full ≡ false → first ≡ length ws) → Ends im slack all ws o ns s →
-      Ends im slack nothing ws (and_then o newList) (pair list.first list.count) t
+      Ends im slack nothing ws (and_then o new_list) (pair list.first list.count) t

@@ -7,12 +7,12 @@ use Rattle.rl_spec.specs.declared.RefineOperand as operand
 use Rattle.rl_spec.specs.Folded.{op_of}
 use Rattle.rl_spec.specs.Schema.{fields_of}
 use Rattle.rl_spec.specs.Image.{num, Image, text_of}
-use Rattle.rl_spec.specs.Records.{clauseAt, functionAt}
+use Rattle.rl_spec.specs.Records.{clause_at, function_at}
 use Rattle.rl_spec.specs.Words.{bits64}
-use Rattle.rl_spec.specs.Ranges.{numbersIn}
-use Rattle.rl_spec.specs.Contracts.{RefineOperand, integer, str, bool, param, ParamRefinement, Param, paramOf, operandOf}
-use Rattle.rl_spec.specs.Make.{Make, ◌>>=◌, give, newText}
-use Rattle.rl_spec.specs.Lower.{expr, ident, strLit, unwrapCall, violation, only_if, guard, tokenOf, refinePredicate, refinementGuard}
+use Rattle.rl_spec.specs.Ranges.{numbers_in}
+use Rattle.rl_spec.specs.FnContracts.{RefineOperand, integer, str, bool, param, ParamRefinement, Param, param_of, operand_of}
+use Rattle.rl_spec.specs.Make.{Make, ◌>>=◌, give, new_text}
+use Rattle.rl_spec.specs.Lower.{expr, ident, str_lit, unwrap_call, violation, only_if, guard, token_of, refine_predicate, refinement_guard}
 use Rattle.rl_schema.specs.Codes.{codes}
 use Rattle.rl_context.specs.declared.refinements.Operand.{Operand}
 use Rattle.rl_context.specs.declared.refinements.Predicate.{Predicate}
@@ -34,41 +34,41 @@ guard_of copy msg = do
 
 -- the value that `ret` names
 abbrev pub inner_of : List ℕ → Bool → Make ℕ
-inner_of temp isResult = do
+inner_of temp is_result = do
   n ← ident temp
-  cond isResult (unwrapCall n) (give n)
+  cond is_result (unwrap_call n) (give n)
 
-abbrev pub clausesIn : Image → Interval → List Clause
-clausesIn im clauses = map (clauseAt im) (numbersIn clauses)
+abbrev pub clauses_in : Image → Interval → List Clause
+clauses_in im clauses = map (clause_at im) (numbers_in clauses)
 
 -- so many expressions are enough for the clauses' conditions
 abbrev pub ConditionsIn : Image → Interval → ℕ → Type 0
-ConditionsIn im clauses n = (i : ℕ) → i < clauses.count → (clauseAt im (clauses.first + i)).condition < n
+ConditionsIn im clauses n = (i : ℕ) → i < clauses.count → (clause_at im (clauses.first + i)).condition < n
 
 -- ---- refinements
 
 -- the kinds of operand of a refinement's predicate: records of a span and a number
 pub data Leaf : ℕ → Type 0 where
-  anInteger : Leaf 17
-  aString : Leaf 25
-  aBool : Leaf 26
-  anIdentifier : Leaf 30
+  an_integer : Leaf 17
+  a_string : Leaf 25
+  a_bool : Leaf 26
+  an_identifier : Leaf 30
 
 -- an operand's kind and number, once its text is made
-abbrev pub leafOf : Image → RefineOperand ℕ → Make (ℕ × ℕ)
-leafOf im (integer v) = give (17, bits64 v)
-leafOf im (str s) = newText (text_of im s) >>= λ t. give (25, t)
-leafOf im (bool b) = give (26, cond b 1 0)
-leafOf im (param p) = newText (text_of im p) >>= λ t. give (30, t)
+abbrev pub leaf_of : Image → RefineOperand ℕ → Make (ℕ × ℕ)
+leaf_of im (integer v) = give (17, bits64 v)
+leaf_of im (str s) = new_text (text_of im s) >>= λ t. give (25, t)
+leaf_of im (bool b) = give (26, cond b 1 0)
+leaf_of im (param p) = new_text (text_of im p) >>= λ t. give (30, t)
 
 -- a refinement's predicate, with its right operand's kind and number and its left one's text
-abbrev pub predicateOf : Image → ℕ → ParamRefinement ℕ → Make (ℕ × ((ℕ × ℕ) × ℕ))
-predicateOf im name refinement = do
-  leaf ← leafOf im refinement.operand
+abbrev pub predicate_of : Image → ℕ → ParamRefinement ℕ → Make (ℕ × ((ℕ × ℕ) × ℕ))
+predicate_of im name refinement = do
+  leaf ← leaf_of im refinement.operand
   right ← expr leaf.0 (num leaf.1 ∷ [])
-  t ← newText (text_of im name)
+  t ← new_text (text_of im name)
   left ← expr 30 (num t ∷ [])
-  pred ← expr 32 (num left ∷ num (tokenOf refinement.op) ∷ num right ∷ [])
+  pred ← expr 32 (num left ∷ num (token_of refinement.op) ∷ num right ∷ [])
   give (pred, (leaf, t))
 
 -- the predicate's copy, which has the same texts
@@ -79,16 +79,16 @@ copy_of leaf t token = do
   expr 32 (num left ∷ num token ∷ num right ∷ [])
 
 -- a refinement's guard, with its message
-abbrev pub refinedBy : Image → ℕ → ParamRefinement ℕ → List ℕ → Make (List ℕ)
-refinedBy im name refinement text = do
-  pred ← refinePredicate im name refinement
-  msg ← strLit text
+abbrev pub refined_by : Image → ℕ → ParamRefinement ℕ → List ℕ → Make (List ℕ)
+refined_by im name refinement text = do
+  pred ← refine_predicate im name refinement
+  msg ← str_lit text
   s ← guard pred msg
   give (s ∷ [])
 
 -- a refinement of the code
-abbrev pub refinedAs : op.RefineOp → operand.RefineOperand → ParamRefinement ℕ
-refinedAs o x = record { op = op_of o; operand = operandOf x }
+abbrev pub refined_as : op.RefineOp → operand.RefineOperand → ParamRefinement ℕ
+refined_as o x = record { op = op_of o; operand = operand_of x }
 
 -- an operand of the code, once its text is made
 pub record OperandMade (im : Image) (m : Make (ℕ × ℕ)) (s : State) (o : Operand) (t : State) : Type 0 where
@@ -98,15 +98,15 @@ pub record OperandMade (im : Image) (m : Make (ℕ × ℕ)) (s : State) (o : Ope
 
 -- a predicate of the code
 pub record PredicateMade (im image : Image) (name : ℕ) (refinement : ParamRefinement ℕ) (s : State) (p : Predicate) (t : State) : Type 0 where
-  pub does : Makes im (refinePredicate image name refinement) s p.index t
-  pub parts : Does im 0 0 nothing (predicateOf image name refinement) s (p.index, ((p.kind, p.word), p.text)) t
-  pub token : p.token ≡ tokenOf refinement.op
+  pub does : Makes im (refine_predicate image name refinement) s p.index t
+  pub parts : Does im 0 0 nothing (predicate_of image name refinement) s (p.index, ((p.kind, p.word), p.text)) t
+  pub token : p.token ≡ token_of refinement.op
   pub leaf : Leaf p.kind
   pub row : codes p.row ≡ fields_of p.kind
 
 -- the guard of a function's parameter, by its number
-abbrev pub guardFor : Image → Param ℕ → Make (List ℕ)
-guardFor im p = refinementGuard im p.name p.refinement
+abbrev pub guard_for : Image → Param ℕ → Make (List ℕ)
+guard_for im p = refinement_guard im p.name p.refinement
 
-abbrev pub guardIn : Image → ℕ → ℕ → Make (List ℕ)
-guardIn im f n = guardFor im (paramOf im ((functionAt im f).params.first + n))
+abbrev pub guard_in : Image → ℕ → ℕ → Make (List ℕ)
+guard_in im f n = guard_for im (param_of im ((function_at im f).params.first + n))

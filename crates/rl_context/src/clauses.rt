@@ -1,12 +1,12 @@
 // The guards of clauses: rl-resolver's msg_expr and guard.
 ghost use Rattle.std.specs.Prelude.{◌≡◌, ℕ, ◌<◌, List};
-ghost use Rattle.rl_spec.specs.Found.{imageFound};
+ghost use Rattle.rl_spec.specs.Found.{image_found};
 ghost use Rattle.rl_spec.specs.Image.{Image};
 ghost use Rattle.rl_spec.specs.Make.{each};
-ghost use Rattle.rl_spec.specs.Lower.{msgExpr, guard, clauseGuard};
+ghost use Rattle.rl_spec.specs.Lower.{msg_expr, guard, clause_guard};
 ghost use Rattle.rl_schema.specs.Codes.{table};
 ghost use Rattle.rl_context.specs.Does.{Does, nothing, at};
-ghost use Rattle.rl_context.specs.Guards.{Makes, Gathers, guard_of, clausesIn, ConditionsIn};
+ghost use Rattle.rl_context.specs.Guards.{Makes, Gathers, guard_of, clauses_in, ConditionsIn};
 
 use crate::copy::deep_clone_expr;
 use crate::{Ctx, Made};
@@ -16,7 +16,7 @@ use rl_spec::{Clause, Counts, Interval, Optional};
 impl Ctx {
     // A clause's own message, which is shared, or the default.
     pub fn msg_expr(self, scratch: &mut [u8], clause: Clause, default: &[u8]) -> Made
-        ensures { (im : Image) (k : ℕ) (w : List ℕ) → Does im k k nothing (msgExpr clause default.now) (at self scratch.old w) result.index (at result.ctx scratch.new w) }
+        ensures { (im : Image) (k : ℕ) (w : List ℕ) → Does im k k nothing (msg_expr clause default.now) (at self scratch.old w) result.index (at result.ctx scratch.new w) }
     {
         let message = clause.message;
         match message {
@@ -45,7 +45,7 @@ impl Ctx {
         pred: u16,
         msg: u16,
     ) -> Made
-        ensures { rows.now ≡ table → pred < counts.expressions → Makes (imageFound image.now starts.now counts) (guard pred msg) (at self scratch.old waiting.old) result.index (at result.ctx scratch.new waiting.new) }
+        ensures { rows.now ≡ table → pred < counts.expressions → Makes (image_found image.now starts.now counts) (guard pred msg) (at self scratch.old waiting.old) result.index (at result.ctx scratch.new waiting.new) }
     {
         let copy = deep_clone_expr(image, starts, counts, rows, pred, scratch, waiting, self);
         let index = copy.index;
@@ -63,7 +63,7 @@ impl Ctx {
         default: &[u8],
         clause: Clause,
     ) -> Made
-        ensures { rows.now ≡ table → clause.condition < counts.expressions → Makes (imageFound image.now starts.now counts) (clauseGuard default.now clause) (at self scratch.old waiting.old) result.index (at result.ctx scratch.new waiting.new) }
+        ensures { rows.now ≡ table → clause.condition < counts.expressions → Makes (image_found image.now starts.now counts) (clause_guard default.now clause) (at self scratch.old waiting.old) result.index (at result.ctx scratch.new waiting.new) }
     {
         let msg = self.msg_expr(scratch, clause, default);
         let index = msg.index;
@@ -91,7 +91,7 @@ impl Ctx {
         default: &[u8],
         clauses: Interval,
     ) -> Ctx
-        ensures { rows.now ≡ table → ConditionsIn (imageFound image.now starts.now counts) clauses counts.expressions → Gathers (imageFound image.now starts.now counts) 0 (each (clauseGuard default.now) (clausesIn (imageFound image.now starts.now counts) clauses)) (at self scratch.old waiting.old) (at result scratch.new waiting.new) }
+        ensures { rows.now ≡ table → ConditionsIn (image_found image.now starts.now counts) clauses counts.expressions → Gathers (image_found image.now starts.now counts) 0 (each (clause_guard default.now) (clauses_in (image_found image.now starts.now counts) clauses)) (at self scratch.old waiting.old) (at result scratch.new waiting.new) }
     {
         let mut next = self;
         let mut i = 0;

@@ -2,12 +2,12 @@
 // is met, until a limit would be passed.
 ghost use Rattle.std.specs.Prelude.{◌≡◌, ℕ, ◌+◌, ◌/◌, ◌%◌, ◌<◌, ◌≤◌, ◌&&◌, ◌||◌, List, nat_lt};
 ghost use Rattle.rl_spec.specs.declared.Interval.{Interval};
-ghost use Rattle.rl_spec.specs.Image.{pair, size_of, fieldIn, WellFormed};
-ghost use Rattle.rl_spec.specs.Schema.{sortOf};
-ghost use Rattle.rl_encode.specs.Words.{wordField};
+ghost use Rattle.rl_spec.specs.Image.{pair, size_of, field_in, WellFormed};
+ghost use Rattle.rl_spec.specs.Schema.{sort_of};
+ghost use Rattle.rl_encode.specs.Words.{word_field};
 ghost use Rattle.rl_spec.specs.declared.Section.TheVariants.{Lists};
-ghost use Rattle.rl_spec.specs.Lower.{isNode};
-ghost use Rattle.rl_spec.specs.Found.{imageFound};
+ghost use Rattle.rl_spec.specs.Lower.{is_node};
+ghost use Rattle.rl_spec.specs.Found.{image_found};
 ghost use Rattle.rl_schema.specs.Codes.{table};
 ghost use Rattle.rl_context.specs.Does.{at, Pushes, Listed};
 ghost use Rattle.rl_context.specs.Copies.{plan_of, Fitting, Copies, CopiesField, CopiesEntry, CopiesEntries};
@@ -36,7 +36,7 @@ enum Plan {
 }
 
 fn is_node(target: Target) -> bool
-    ensures { result ≡ isNode target }
+    ensures { result ≡ is_node target }
 {
     match target {
         Target::Text => false,
@@ -49,7 +49,7 @@ fn is_node(target: Target) -> bool
 }
 
 fn has_nodes(left: Target, right: Target) -> bool
-    ensures { result ≡ isNode left || isNode right }
+    ensures { result ≡ is_node left || is_node right }
 {
     if is_node(left) {
         return true;
@@ -90,7 +90,7 @@ fn plan_of(sort: Sort) -> Plan
 
 // The field as it is.
 pub fn word_of(image: &[u8], code: u8, place: usize) -> u64
-    ensures { wordField (sortOf code) result ≡ fieldIn image.now (sortOf code) place }
+    ensures { word_field (sort_of code) result ≡ field_in image.now (sort_of code) place }
 {
     let sort = sort_of(code);
     if is_pair(sort) {
@@ -110,7 +110,7 @@ fn shared(ctx: Ctx, node: u16) -> Copied
 }
 
 fn as_it_is(image: &[u8], code: u8, place: usize, ctx: Ctx) -> Copied
-    ensures { (result.ctx ≡ ctx) × (wordField (sortOf code) result.word ≡ fieldIn image.now (sortOf code) place) }
+    ensures { (result.ctx ≡ ctx) × (word_field (sort_of code) result.word ≡ field_in image.now (sort_of code) place) }
 {
     let word = word_of(image, code, place);
     Copied { ctx, word }
@@ -148,7 +148,7 @@ fn pushed(made: Made, waiting: &mut [u16]) -> Ctx
 
 // An entry of the expression `id` is copied where it is a node before it.
 fn is_copied(id: u16, target: Target, n: u16) -> bool
-    ensures { result ≡ isNode target && nat_lt n id }
+    ensures { result ≡ is_node target && nat_lt n id }
 {
     if is_node(target) {
         return n < id;
@@ -167,7 +167,7 @@ pub fn deep_clone_expr(
     waiting: &mut [u16],
     ctx: Ctx,
 ) -> Made
-    ensures { rows.now ≡ table → id < counts.expressions → Copies (imageFound image.now starts.now counts) id (at ctx scratch.old waiting.old) result.index (at result.ctx scratch.new waiting.new) }
+    ensures { rows.now ≡ table → id < counts.expressions → Copies (image_found image.now starts.now counts) id (at ctx scratch.old waiting.old) result.index (at result.ctx scratch.new waiting.new) }
 {
     if ctx.full {
         return ctx.stopped();
@@ -214,7 +214,7 @@ fn clone_field(
     waiting: &mut [u16],
     ctx: Ctx,
 ) -> Copied
-    ensures { rows.now ≡ table → id < counts.expressions → Fitting (imageFound image.now starts.now counts) image.now id code place → CopiesField (imageFound image.now starts.now counts) image.now id code place (at ctx scratch.old waiting.old) result.word (at result.ctx scratch.new waiting.new) }
+    ensures { rows.now ≡ table → id < counts.expressions → Fitting (image_found image.now starts.now counts) image.now id code place → CopiesField (image_found image.now starts.now counts) image.now id code place (at ctx scratch.old waiting.old) result.word (at result.ctx scratch.new waiting.new) }
 {
     let plan = plan_of(sort_of(code));
     match plan {
@@ -263,7 +263,7 @@ fn clone_entries(
     waiting: &mut [u16],
     ctx: Ctx,
 ) -> Ctx
-    ensures { rows.now ≡ table → id < counts.expressions → (WellFormed (imageFound image.now starts.now counts) → first + count ≤ size_of (imageFound image.now starts.now counts) Lists) → CopiesEntries (imageFound image.now starts.now counts) id first count left right (at ctx scratch.old waiting.old) (at result scratch.new waiting.new) }
+    ensures { rows.now ≡ table → id < counts.expressions → (WellFormed (image_found image.now starts.now counts) → first + count ≤ size_of (image_found image.now starts.now counts) Lists) → CopiesEntries (image_found image.now starts.now counts) id first count left right (at ctx scratch.old waiting.old) (at result scratch.new waiting.new) }
 {
     let mut now = ctx;
     let mut here = left;
@@ -296,7 +296,7 @@ fn clone_entry(
     waiting: &mut [u16],
     ctx: Ctx,
 ) -> Ctx
-    ensures { rows.now ≡ table → id < counts.expressions → CopiesEntry (imageFound image.now starts.now counts) id target n (at ctx scratch.old waiting.old) (at result scratch.new waiting.new) }
+    ensures { rows.now ≡ table → id < counts.expressions → CopiesEntry (image_found image.now starts.now counts) id target n (at ctx scratch.old waiting.old) (at result scratch.new waiting.new) }
 {
     if is_copied(id, target, n) {
         return pushed(

@@ -8,14 +8,14 @@ mod refinements;
 mod wrapping;
 
 ghost use Rattle.std.specs.Prelude.{◌≡◌, ℕ, ◌+◌, ◌-◌, ◌*◌, ◌≤◌, true, List, [], ◌∷◌, length, take, drop, nat_lt};
-ghost use Rattle.rl_spec.specs.Image.{Image, encodeRecords};
+ghost use Rattle.rl_spec.specs.Image.{Image, encode_records};
 ghost use Rattle.rl_spec.specs.Schema.{fields_of};
-ghost use Rattle.rl_images.specs.Lowering.Grows.{listRecords};
-ghost use Rattle.rl_encode.specs.Words.{wordRecord, over};
+ghost use Rattle.rl_images.specs.Lowering.Grows.{list_records};
+ghost use Rattle.rl_encode.specs.Words.{word_record, over};
 ghost use Rattle.rl_spec.specs.declared.Section.TheVariants.{Expressions, Statements};
-ghost use Rattle.rl_spec.specs.Make.{append, newText, takeTemp};
+ghost use Rattle.rl_spec.specs.Make.{append, new_text, take_temp};
 ghost use Rattle.rl_schema.specs.Codes.{codes};
-ghost use Rattle.rl_context.specs.Additions.{waitingWith};
+ghost use Rattle.rl_context.specs.Additions.{waiting_with};
 ghost use Rattle.rl_context.specs.Does.{Does, nothing, at, Pushes, Listed};
 
 pub use copy::{deep_clone_expr, word_of};
@@ -71,7 +71,7 @@ fn passes(used: u32, more: usize, most: u32) -> bool
 fn put_entries(scratch: &mut [u8], waiting: &[u16], at: usize, first: usize, count: usize)
     requires count_in_bounds { at + count * 3 ≤ length scratch.old }
     requires count_in_bounds_2 { first + count ≤ length waiting.now }
-    ensures { scratch.new ≡ over scratch.old at (encodeRecords (listRecords (take count (drop first waiting.now)))) }
+    ensures { scratch.new ≡ over scratch.old at (encode_records (list_records (take count (drop first waiting.now)))) }
 {
     let mut i = 0;
     while i < count {
@@ -105,7 +105,7 @@ impl Ctx {
 
     // A text, even one that the image has.
     pub fn new_text(mut self, scratch: &mut [u8], text: &[u8]) -> Made
-        ensures { (im : Image) (k : ℕ) (w : List ℕ) → Does im k k nothing (newText text.now) (at self scratch.old w) result.index (at result.ctx scratch.new w) }
+        ensures { (im : Image) (k : ℕ) (w : List ℕ) → Does im k k nothing (new_text text.now) (at self scratch.old w) result.index (at result.ctx scratch.new w) }
     {
         let offset = self.bytes;
         let index = self.texts;
@@ -139,7 +139,7 @@ impl Ctx {
 
     // The number of a temporary, which is then taken.
     pub fn take_temp(mut self) -> Ctx
-        ensures { (im : Image) (s w : List ℕ) → Does im 0 1 nothing takeTemp (at self s w) self.temp_counter (at result s w) }
+        ensures { (im : Image) (s w : List ℕ) → Does im 0 1 nothing take_temp (at self s w) self.temp_counter (at result s w) }
     {
         let n = self.temp_counter;
         if self.full {
@@ -172,7 +172,7 @@ impl Ctx {
 
     // With another count of entries that wait.
     pub fn with_waiting(mut self, n: u32) -> Ctx
-        ensures { result ≡ waitingWith self n }
+        ensures { result ≡ waiting_with self n }
     {
         self.waiting = n;
         self
@@ -220,7 +220,7 @@ impl Ctx {
 
     // A record of the expressions, whose row of the schema is given, with its span.
     pub fn new_expression(mut self, scratch: &mut [u8], kind: u8, row: u64, words: &[u64]) -> Made
-        ensures { (im : Image) (k : ℕ) (w : List ℕ) → codes row ≡ fields_of kind → Does im k k nothing (append Expressions (wordRecord kind words.now ∷ [])) (at self scratch.old w) result.index (at result.ctx scratch.new w) }
+        ensures { (im : Image) (k : ℕ) (w : List ℕ) → codes row ≡ fields_of kind → Does im k k nothing (append Expressions (word_record kind words.now ∷ [])) (at self scratch.old w) result.index (at result.ctx scratch.new w) }
     {
         let index = self.expressions;
         let used = self.expression_bytes as usize;
@@ -248,7 +248,7 @@ impl Ctx {
 
     // A record of the statements, the same way.
     pub fn new_statement(mut self, scratch: &mut [u8], kind: u8, row: u64, words: &[u64]) -> Made
-        ensures { (im : Image) (k : ℕ) (w : List ℕ) → codes row ≡ fields_of kind → Does im k (k - 1) nothing (append Statements (wordRecord kind words.now ∷ [])) (at self scratch.old w) result.index (at result.ctx scratch.new w) }
+        ensures { (im : Image) (k : ℕ) (w : List ℕ) → codes row ≡ fields_of kind → Does im k (k - 1) nothing (append Statements (word_record kind words.now ∷ [])) (at self scratch.old w) result.index (at result.ctx scratch.new w) }
     {
         let index = self.statements;
         let used = self.statement_bytes as usize;

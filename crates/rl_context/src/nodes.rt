@@ -1,14 +1,14 @@
 // The nodes and statements that lowering makes, with the function's span.
 ghost use Rattle.std.specs.Prelude.{◌≡◌, ℕ, ◌-◌, ◌/◌, ◌%◌, List, [], ◌∷◌};
 ghost use Rattle.rl_spec.specs.Image.{Image, num, pair};
-ghost use Rattle.rl_spec.specs.Ranges.{optionalField};
-ghost use Rattle.rl_spec.specs.Make.{newText, newList, newStmt};
-ghost use Rattle.rl_spec.specs.Lower.{expr, ident, strLit, errLit, resCall, unwrapCall, isErrCall, violation, only_if, declare, returnOf};
+ghost use Rattle.rl_spec.specs.Ranges.{optional_field};
+ghost use Rattle.rl_spec.specs.Make.{new_text, new_list, new_stmt};
+ghost use Rattle.rl_spec.specs.Lower.{expr, ident, str_lit, err_lit, res_call, unwrap_call, is_err_call, violation, only_if, declare, return_of};
 ghost use Rattle.rl_spec.specs.Schema.{fields_of};
 ghost use Rattle.rl_schema.specs.Codes.{codes};
-ghost use Rattle.rl_encode.specs.Words.{wordFields};
+ghost use Rattle.rl_encode.specs.Words.{word_fields};
 ghost use Rattle.rl_context.specs.Does.{Does, nothing, one, at};
-ghost use Rattle.rl_context.specs.Paths.{resPath};
+ghost use Rattle.rl_context.specs.Paths.{res_path};
 
 use crate::{Ctx, Made, MadeList};
 use rl_spec::{Interval, Optional};
@@ -22,7 +22,7 @@ pub fn list_word(list: Interval) -> u64
 
 // An index or none, as a field of a record.
 pub fn optional_word(index: Optional) -> u16
-    ensures { num result ≡ optionalField index }
+    ensures { num result ≡ optional_field index }
 {
     match index {
         Optional::Some(n) => n,
@@ -33,7 +33,7 @@ pub fn optional_word(index: Optional) -> u16
 impl Ctx {
     // An expression with the function's span, of a kind whose row of the schema is given; a kind with fewer fields takes the first ones.
     pub fn expr(self, scratch: &mut [u8], kind: u8, row: u64, fields: [u64; 3]) -> Made
-        ensures { (im : Image) (k : ℕ) (w cs : List ℕ) → codes row ≡ fields_of kind → fields_of kind ≡ 3 ∷ cs → Does im k k nothing (expr kind (wordFields cs fields 0)) (at self scratch.old w) result.index (at result.ctx scratch.new w) }
+        ensures { (im : Image) (k : ℕ) (w cs : List ℕ) → codes row ≡ fields_of kind → fields_of kind ≡ 3 ∷ cs → Does im k k nothing (expr kind (word_fields cs fields 0)) (at self scratch.old w) result.index (at result.ctx scratch.new w) }
     {
         let words = [self.span as u64, fields[0], fields[1], fields[2]];
         self.new_expression(scratch, kind, row, &words)
@@ -46,7 +46,7 @@ impl Ctx {
     }
 
     pub fn str_lit(self, scratch: &mut [u8], text: &[u8]) -> Made
-        ensures { (im : Image) (k : ℕ) (w : List ℕ) → Does im k k nothing (strLit text.now) (at self scratch.old w) result.index (at result.ctx scratch.new w) }
+        ensures { (im : Image) (k : ℕ) (w : List ℕ) → Does im k k nothing (str_lit text.now) (at self scratch.old w) result.index (at result.ctx scratch.new w) }
     {
         let text = self.new_text(scratch, text);
         let index = text.index as u64;
@@ -69,14 +69,14 @@ impl Ctx {
     }
 
     pub fn err_lit(self, scratch: &mut [u8], msg: u16) -> Made
-        ensures { (im : Image) (k : ℕ) (w : List ℕ) → Does im k k nothing (errLit msg) (at self scratch.old w) result.index (at result.ctx scratch.new w) }
+        ensures { (im : Image) (k : ℕ) (w : List ℕ) → Does im k k nothing (err_lit msg) (at self scratch.old w) result.index (at result.ctx scratch.new w) }
     {
         self.expr(scratch, 50, 0x0d_03, [msg as u64, 0, 0])
     }
 
     // A text of a path.
     fn push_text(self, scratch: &mut [u8], waiting: &mut [u16], text: &[u8]) -> Made
-        ensures { (im : Image) (k : ℕ) → Does im k k one (newText text.now) (at self scratch.old waiting.old) result.index (at result.ctx scratch.new waiting.new) }
+        ensures { (im : Image) (k : ℕ) → Does im k k one (new_text text.now) (at self scratch.old waiting.old) result.index (at result.ctx scratch.new waiting.new) }
     {
         let made = self.new_text(scratch, text);
         let index = made.index;
@@ -86,7 +86,7 @@ impl Ctx {
 
     // `std::res::NAME`
     fn res_path(self, scratch: &mut [u8], waiting: &mut [u16], name: &[u8]) -> MadeList
-        ensures { (im : Image) (k : ℕ) → Does im k k nothing (resPath name.now) (at self scratch.old waiting.old) (pair result.list.first result.list.count) (at result.ctx scratch.new waiting.new) }
+        ensures { (im : Image) (k : ℕ) → Does im k k nothing (res_path name.now) (at self scratch.old waiting.old) (pair result.list.first result.list.count) (at result.ctx scratch.new waiting.new) }
     {
         let first = self.waiting;
         let std = self.push_text(scratch, waiting, b"std");
@@ -97,7 +97,7 @@ impl Ctx {
 
     // A list of one entry.
     fn list_of(self, scratch: &mut [u8], waiting: &mut [u16], entry: u16) -> MadeList
-        ensures { (im : Image) (k : ℕ) → Does im k k nothing (newList (entry ∷ [])) (at self scratch.old waiting.old) (pair result.list.first result.list.count) (at result.ctx scratch.new waiting.new) }
+        ensures { (im : Image) (k : ℕ) → Does im k k nothing (new_list (entry ∷ [])) (at self scratch.old waiting.old) (pair result.list.first result.list.count) (at result.ctx scratch.new waiting.new) }
     {
         let first = self.waiting;
         let ctx = self.push(waiting, entry);
@@ -106,7 +106,7 @@ impl Ctx {
 
     // `std::res::NAME(x)`
     pub fn res_call(self, scratch: &mut [u8], waiting: &mut [u16], name: &[u8], x: u16) -> Made
-        ensures { (im : Image) (k : ℕ) → Does im k k nothing (resCall name.now x) (at self scratch.old waiting.old) result.index (at result.ctx scratch.new waiting.new) }
+        ensures { (im : Image) (k : ℕ) → Does im k k nothing (res_call name.now x) (at self scratch.old waiting.old) result.index (at result.ctx scratch.new waiting.new) }
     {
         let path = self.res_path(scratch, waiting, name);
         let args = path.ctx.list_of(scratch, waiting, x);
@@ -115,26 +115,26 @@ impl Ctx {
     }
 
     pub fn unwrap_call(self, scratch: &mut [u8], waiting: &mut [u16], x: u16) -> Made
-        ensures { (im : Image) (k : ℕ) → Does im k k nothing (unwrapCall x) (at self scratch.old waiting.old) result.index (at result.ctx scratch.new waiting.new) }
+        ensures { (im : Image) (k : ℕ) → Does im k k nothing (unwrap_call x) (at self scratch.old waiting.old) result.index (at result.ctx scratch.new waiting.new) }
     {
         self.res_call(scratch, waiting, b"result_unwrap", x)
     }
 
     pub fn is_err_call(self, scratch: &mut [u8], waiting: &mut [u16], x: u16) -> Made
-        ensures { (im : Image) (k : ℕ) → Does im k k nothing (isErrCall x) (at self scratch.old waiting.old) result.index (at result.ctx scratch.new waiting.new) }
+        ensures { (im : Image) (k : ℕ) → Does im k k nothing (is_err_call x) (at self scratch.old waiting.old) result.index (at result.ctx scratch.new waiting.new) }
     {
         self.res_call(scratch, waiting, b"is_err", x)
     }
 
     pub fn expression_statement(self, scratch: &mut [u8], node: u16) -> Made
-        ensures { (im : Image) (k : ℕ) (w : List ℕ) → Does im k (k - 1) nothing (newStmt 65 (num node ∷ [])) (at self scratch.old w) result.index (at result.ctx scratch.new w) }
+        ensures { (im : Image) (k : ℕ) (w : List ℕ) → Does im k (k - 1) nothing (new_stmt 65 (num node ∷ [])) (at self scratch.old w) result.index (at result.ctx scratch.new w) }
     {
         let words = [self.span as u64, node as u64];
         self.new_statement(scratch, 65, 0x0d_03, &words)
     }
 
     pub fn return_statement(self, scratch: &mut [u8], node: u16) -> Made
-        ensures { (im : Image) (k : ℕ) (w : List ℕ) → Does im k (k - 1) nothing (newStmt 66 (num node ∷ [])) (at self scratch.old w) result.index (at result.ctx scratch.new w) }
+        ensures { (im : Image) (k : ℕ) (w : List ℕ) → Does im k (k - 1) nothing (new_stmt 66 (num node ∷ [])) (at self scratch.old w) result.index (at result.ctx scratch.new w) }
     {
         let words = [self.span as u64, node as u64];
         self.new_statement(scratch, 66, 0x0d_03, &words)
@@ -151,7 +151,7 @@ impl Ctx {
     }
 
     pub fn return_of(self, scratch: &mut [u8], name: &[u8]) -> Made
-        ensures { (im : Image) (w : List ℕ) → Does im 0 0 nothing (returnOf name.now) (at self scratch.old w) result.index (at result.ctx scratch.new w) }
+        ensures { (im : Image) (w : List ℕ) → Does im 0 0 nothing (return_of name.now) (at self scratch.old w) result.index (at result.ctx scratch.new w) }
     {
         let node = self.ident(scratch, name);
         let index = node.index;

@@ -1,15 +1,15 @@
 // The guards of refinements: rl-resolver's refine_predicate, and its guard. The predicate has just been made, so that its copy is known.
 ghost use Rattle.std.specs.Prelude.{◌≡◌, ℕ, ◌+◌, ◌≤◌, List, length};
-ghost use Rattle.rl_spec.specs.Found.{imageFound};
+ghost use Rattle.rl_spec.specs.Found.{image_found};
 ghost use Rattle.rl_spec.specs.Folded.{op_of};
 ghost use Rattle.rl_spec.specs.Schema.{fields_of};
 ghost use Rattle.rl_spec.specs.Image.{Image};
-ghost use Rattle.rl_spec.specs.Make.{newText};
-ghost use Rattle.rl_spec.specs.Lower.{tokenOf};
-ghost use Rattle.rl_spec.specs.Contracts.{operandOf};
+ghost use Rattle.rl_spec.specs.Make.{new_text};
+ghost use Rattle.rl_spec.specs.Lower.{token_of};
+ghost use Rattle.rl_spec.specs.FnContracts.{operand_of};
 ghost use Rattle.rl_schema.specs.Codes.{codes};
 ghost use Rattle.rl_context.specs.Does.{at};
-ghost use Rattle.rl_context.specs.Guards.{Makes, Gathers, Leaf, leafOf, copy_of, refinedBy, refinedAs, OperandMade, PredicateMade, guardIn};
+ghost use Rattle.rl_context.specs.Guards.{Makes, Gathers, Leaf, leaf_of, copy_of, refined_by, refined_as, OperandMade, PredicateMade, guard_in};
 
 use crate::{Ctx, Made};
 use rl_bytes::part;
@@ -40,7 +40,7 @@ pub struct Predicate {
 }
 
 fn token_of(op: RefineOp) -> u8
-    ensures { result ≡ tokenOf (op_of op) }
+    ensures { result ≡ token_of (op_of op) }
 {
     match op {
         RefineOp::Gt => 10,
@@ -54,7 +54,7 @@ fn token_of(op: RefineOp) -> u8
 
 impl Ctx {
     fn text_operand(self, scratch: &mut [u8], text: &[u8], kind: u8) -> Operand
-        ensures { (result.kind ≡ kind) × ((result.row ≡ 3075) × ((im : Image) (w : List ℕ) → Makes im (newText text.now) (at self scratch.old w) result.word (at result.ctx scratch.new w))) }
+        ensures { (result.kind ≡ kind) × ((result.row ≡ 3075) × ((im : Image) (w : List ℕ) → Makes im (new_text text.now) (at self scratch.old w) result.word (at result.ctx scratch.new w))) }
     {
         let made = self.new_text(scratch, text);
         let ctx = made.ctx;
@@ -73,7 +73,7 @@ impl Ctx {
         scratch: &mut [u8],
         operand: RefineOperand,
     ) -> Operand
-        ensures { (im : Image) (p w : List ℕ) → OperandMade im (leafOf (imageFound image.now p counts) (operandOf operand)) (at self scratch.old w) result (at result.ctx scratch.new w) }
+        ensures { (im : Image) (p w : List ℕ) → OperandMade im (leaf_of (image_found image.now p counts) (operand_of operand)) (at self scratch.old w) result (at result.ctx scratch.new w) }
     {
         match operand {
             RefineOperand::Integer(v) => {
@@ -116,7 +116,7 @@ impl Ctx {
         op: RefineOp,
         operand: RefineOperand,
     ) -> Predicate
-        ensures { (im : Image) (p w : List ℕ) → PredicateMade im (imageFound image.now p counts) name (refinedAs op operand) (at self scratch.old w) result (at result.ctx scratch.new w) }
+        ensures { (im : Image) (p w : List ℕ) → PredicateMade im (image_found image.now p counts) name (refined_as op operand) (at self scratch.old w) result (at result.ctx scratch.new w) }
     {
         let token = token_of(op);
         let o = self.operand_of(image, counts, scratch, operand);
@@ -166,7 +166,7 @@ impl Ctx {
         operand: RefineOperand,
         text: &[u8],
     ) -> Ctx
-        ensures { (im : Image) (p : List ℕ) → Gathers im 0 (refinedBy (imageFound image.now p counts) name (refinedAs op operand) text.now) (at self scratch.old waiting.old) (at result scratch.new waiting.new) }
+        ensures { (im : Image) (p : List ℕ) → Gathers im 0 (refined_by (image_found image.now p counts) name (refined_as op operand) text.now) (at self scratch.old waiting.old) (at result scratch.new waiting.new) }
     {
         let pred = self.refine_predicate(image, counts, scratch, name, op, operand);
         let msg = pred.ctx.str_lit(scratch, text);
@@ -187,7 +187,7 @@ impl Ctx {
         function: u16,
         number: u16,
     ) -> Ctx
-        ensures { (im : Image) (p : List ℕ) → 16385 ≤ length room.old → Gathers im 0 (guardIn (imageFound image.now p counts) function number) (at self scratch.old waiting.old) (at result scratch.new waiting.new) }
+        ensures { (im : Image) (p : List ℕ) → 16385 ≤ length room.old → Gathers im 0 (guard_in (image_found image.now p counts) function number) (at self scratch.old waiting.old) (at result scratch.new waiting.new) }
     {
         let f = function_at(image, counts, function);
         let params = f.params;

@@ -1,12 +1,12 @@
 // Wrapped returns: rl-resolver's wrap_return. The statements wait then.
 ghost use Rattle.std.specs.Prelude.{◌≡◌, cond, []};
-ghost use Rattle.rl_spec.specs.Found.{imageFound};
+ghost use Rattle.rl_spec.specs.Found.{image_found};
 ghost use Rattle.rl_spec.specs.Image.{Image};
 ghost use Rattle.rl_spec.specs.Make.{give};
-ghost use Rattle.rl_spec.specs.Lower.{skipErr, wrapAs, wrapReturn};
+ghost use Rattle.rl_spec.specs.Lower.{skip_err, wrap_as, wrap_return};
 ghost use Rattle.rl_schema.specs.Codes.{table};
 ghost use Rattle.rl_context.specs.Does.{at};
-ghost use Rattle.rl_context.specs.Guards.{Makes, Gathers, inner_of, clausesIn, ConditionsIn};
+ghost use Rattle.rl_context.specs.Guards.{Makes, Gathers, inner_of, clauses_in, ConditionsIn};
 
 use crate::{Ctx, Made};
 use rl_bytes::part;
@@ -16,7 +16,7 @@ use rl_text_out::{put_number, put_text};
 impl Ctx {
     // `if (std::res::is_err(temp)) { return temp }`
     fn skip_err(self, scratch: &mut [u8], waiting: &mut [u16], temp: &[u8]) -> Ctx
-        ensures { (im : Image) → Gathers im 0 (skipErr temp.now) (at self scratch.old waiting.old) (at result scratch.new waiting.new) }
+        ensures { (im : Image) → Gathers im 0 (skip_err temp.now) (at self scratch.old waiting.old) (at result scratch.new waiting.new) }
     {
         let node = self.ident(scratch, temp);
         let check = node.ctx.is_err_call(scratch, waiting, node.index);
@@ -28,7 +28,7 @@ impl Ctx {
 
     // Of a result function only.
     fn skip_of(self, scratch: &mut [u8], waiting: &mut [u16], temp: &[u8], is_result: bool) -> Ctx
-        ensures { (im : Image) → Gathers im 0 (cond is_result (skipErr temp.now) (give [])) (at self scratch.old waiting.old) (at result scratch.new waiting.new) }
+        ensures { (im : Image) → Gathers im 0 (cond is_result (skip_err temp.now) (give [])) (at self scratch.old waiting.old) (at result scratch.new waiting.new) }
     {
         if is_result {
             return self.skip_err(scratch, waiting, temp);
@@ -62,7 +62,7 @@ impl Ctx {
         value: u16,
         ensured: Interval,
     ) -> Ctx
-        ensures { rows.now ≡ table → ConditionsIn (imageFound image.now starts.now counts) ensured counts.expressions → Gathers (imageFound image.now starts.now counts) 1 (wrapAs temp.now is_result value (clausesIn (imageFound image.now starts.now counts) ensured)) (at self scratch.old waiting.old) (at result scratch.new waiting.new) }
+        ensures { rows.now ≡ table → ConditionsIn (image_found image.now starts.now counts) ensured counts.expressions → Gathers (image_found image.now starts.now counts) 1 (wrap_as temp.now is_result value (clauses_in (image_found image.now starts.now counts) ensured)) (at self scratch.old waiting.old) (at result scratch.new waiting.new) }
     {
         let dec = self.declare(scratch, temp, value);
         let declared = dec.ctx.push(waiting, dec.index);
@@ -95,7 +95,7 @@ impl Ctx {
         value: u16,
         ensured: Interval,
     ) -> Ctx
-        ensures { rows.now ≡ table → ConditionsIn (imageFound image.now starts.now counts) ensured counts.expressions → Gathers (imageFound image.now starts.now counts) 0 (wrapReturn value (clausesIn (imageFound image.now starts.now counts) ensured)) (at self scratch.old waiting.old) (at result scratch.new waiting.new) }
+        ensures { rows.now ≡ table → ConditionsIn (image_found image.now starts.now counts) ensured counts.expressions → Gathers (image_found image.now starts.now counts) 0 (wrap_return value (clauses_in (image_found image.now starts.now counts) ensured)) (at self scratch.old waiting.old) (at result scratch.new waiting.new) }
     {
         let mut room = [0u8; 33];
         let start = put_text(&mut room, 0, b"__ensure_ret_");

@@ -1,8 +1,8 @@
 // Numbers and records as the bytes of an image.
 ghost use Rattle.std.specs.Prelude.{◌≡◌, ◌∷◌, ◌+◌, ◌≤◌, length};
-ghost use Rattle.rl_spec.specs.Image.{bytes_of, encodeFields};
+ghost use Rattle.rl_spec.specs.Image.{bytes_of, encode_fields};
 ghost use Rattle.rl_schema.specs.Codes.{codes};
-ghost use Rattle.rl_encode.specs.Words.{wordFields, over};
+ghost use Rattle.rl_encode.specs.Words.{word_fields, over};
 
 use rl_bytes::long_at;
 use rl_schema::{sort_of, width_of};
@@ -23,9 +23,9 @@ pub fn put_number(out: &mut [u8], at: usize, n: u64, width: usize)
 
 // The fields of a row of the schema, from words; answers the place after them.
 fn put_fields(out: &mut [u8], at: usize, row: u64, words: &[u64]) -> usize
-    requires { at + length (encodeFields (codes row) (wordFields (codes row) words.now 0)) ≤ length out.old }
-    ensures value { result ≡ at + length (encodeFields (codes row) (wordFields (codes row) words.now 0)) }
-    ensures out_after { out.new ≡ over out.old at (encodeFields (codes row) (wordFields (codes row) words.now 0)) }
+    requires { at + length (encode_fields (codes row) (word_fields (codes row) words.now 0)) ≤ length out.old }
+    ensures value { result ≡ at + length (encode_fields (codes row) (word_fields (codes row) words.now 0)) }
+    ensures out_after { out.new ≡ over out.old at (encode_fields (codes row) (word_fields (codes row) words.now 0)) }
 {
     let mut rest = row;
     let mut place = at;
@@ -42,9 +42,9 @@ fn put_fields(out: &mut [u8], at: usize, row: u64, words: &[u64]) -> usize
 
 // A record of a kind, whose row of the schema is given; answers the place after it.
 pub fn put_record(out: &mut [u8], at: usize, kind: u8, row: u64, words: &[u64]) -> usize
-    requires { at + length (kind ∷ encodeFields (codes row) (wordFields (codes row) words.now 0)) ≤ length out.old }
-    ensures value { result ≡ at + length (kind ∷ encodeFields (codes row) (wordFields (codes row) words.now 0)) }
-    ensures out_after { out.new ≡ over out.old at (kind ∷ encodeFields (codes row) (wordFields (codes row) words.now 0)) }
+    requires { at + length (kind ∷ encode_fields (codes row) (word_fields (codes row) words.now 0)) ≤ length out.old }
+    ensures value { result ≡ at + length (kind ∷ encode_fields (codes row) (word_fields (codes row) words.now 0)) }
+    ensures out_after { out.new ≡ over out.old at (kind ∷ encode_fields (codes row) (word_fields (codes row) words.now 0)) }
 {
     put_number(out, at, kind as u64, 1);
     put_fields(out, at + 1, row, words)

@@ -3,11 +3,11 @@
 use Rattle.std.specs.Prelude.{ℕ, ◌/◌, ◌%◌, List, [], ◌∷◌, ◌++◌, map}
 use Rattle.rl_spec.specs.declared.Answer.{Answer}
 use Rattle.rl_spec.specs.declared.Answer.TheVariants.{Accepted, Refused}
-use Rattle.rl_spec.specs.Schema.{limits, sections, inSection, sortOf, fields_of, fieldsIn, schema}
-use Rattle.rl_spec.specs.Utf8.{within, utf8Char, begins, width_by, charWidth, octets, utf8, is_scalar}
-use Rattle.rl_spec.specs.Bytes.{num_at, u16At, u32_at, past}
-use Rattle.rl_spec.specs.Fields.{zeros, kindOfStatement, allowed, childHeight, entry_at, range_of, part_of, byteIn, operandSortOf, referTo, referOrNone, entriesFrom, list_of, operandOf, value_of, field_at, fieldsFrom, recordAt}
-use Rattle.rl_spec.specs.Read.{number_of, countsOf, countsFrom, headerOf, recordsFrom, sectionsFrom, end_of, body_of, read_of, answer_of}
+use Rattle.rl_spec.specs.Schema.{limits, sections, in_section, sort_of, fields_of, fields_in_lem, schema}
+use Rattle.rl_spec.specs.Utf8.{within, utf8_char, begins, width_by, char_width, octets, utf8, is_scalar}
+use Rattle.rl_spec.specs.Bytes.{num_at, u16_at, u32_at, past}
+use Rattle.rl_spec.specs.Fields.{zeros, kind_of_statement, allowed, child_height, entry_at, range_of, part_of, byte_in, operand_sort_of, refer_to, refer_or_none, entries_from, list_of, operand_of, value_of, field_at, fields_from, record_at}
+use Rattle.rl_spec.specs.Read.{number_of, counts_of, counts_from, header_of, records_from, sections_from, end_of, body_of, read_of, answer_of}
 
 -- ---- bytes
 
@@ -53,5 +53,5 @@ expected r = (r.number, r.place)
 
 -- what computation opens
 unfoldable pub reading : Unit {0}
-unfolding joined limits sortOf fields_of fieldsIn schema answer_of read_of headerOf countsFrom countsOf body_of end_of sectionsFrom sections recordsFrom recordAt inSection fieldsFrom field_at value_of referTo referOrNone allowed kindOfStatement childHeight entry_at entriesFrom list_of range_of part_of byteIn operandSortOf operandOf zeros past u16At u32_at num_at utf8 octets charWidth width_by begins utf8Char within is_scalar
+unfolding joined limits sort_of fields_of fields_in_lem schema answer_of read_of header_of counts_from counts_of body_of end_of sections_from sections records_from record_at in_section fields_from field_at value_of refer_to refer_or_none allowed kind_of_statement child_height entry_at entries_from list_of range_of part_of byte_in operand_sort_of operand_of zeros past u16_at u32_at num_at utf8 octets char_width width_by begins utf8_char within is_scalar
 reading = tt

@@ -9,12 +9,12 @@ use Rattle.rl_spec.specs.declared.Plain.TheVariants.{Null, Const}
 use Rattle.rl_spec.specs.declared.RunAnswer.{RunAnswer}
 use Rattle.rl_spec.specs.declared.RunAnswer.TheVariants.{Ran, Refused}
 use Rattle.rl_spec.specs.declared.Value.TheVariants.{Plain as Bare}
-use Rattle.rl_spec.specs.Image.{num, pair, Image, encode, image_of, sectionsIn, recordsIn, recordIn, next_at, end_at, fields_at, widthsOf}
+use Rattle.rl_spec.specs.Image.{num, pair, Image, encode, image_of, sections_in, records_in, record_in, next_at, end_at, fields_at, widths_of}
 use Rattle.rl_spec.specs.Tree.{ascii}
 use Rattle.rl_spec.specs.Ranges.{up_from}
-use Rattle.rl_spec.specs.Prove.{reportEntries, callEntries}
-use Rattle.rl_spec.specs.Runner.{allHave, run_of, runNumber}
-use Rattle.rl_examples.specs.MarkedImages.{made, string, bool, identifier, binary, bangEqual, parameter, refined, clause, function, call, build}
+use Rattle.rl_spec.specs.Prove.{report_entries, call_entries}
+use Rattle.rl_spec.specs.Runner.{all_have_lem, run_of, run_number}
+use Rattle.rl_examples.specs.MarkedImages.{made, string, bool, identifier, binary, bang_equal, parameter, refined, clause, function, call, build}
 use Rattle.rl_examples.specs.LowerExamples.{lowering, decoding, running}
 use Rattle.rl_examples.specs.NodeRows.{number, folding, evaluating}
 use Rattle.rl_examples.specs.ContractRows.{whole, argument, reported, proving}
@@ -24,15 +24,15 @@ use Rattle.rl_examples.specs.ContractRows.{whole, argument, reported, proving}
 -- f(x > 9), f(x > 1), f(x); g(x) requires x != 5, g(x) ensures false; h(x > 9, y > 1); k(x); l(x, y > 1); n(x, x) and p(y, x) require
 -- x != 5; each else "five". q() requires false; r() requires 5; t() requires false else Err("five"); u() requires both. The calls' names,
 -- but for the last four, are texts of their own
-abbrev pub named-alike : Image
-named-alike =
+abbrev pub named_alike : Image
+named_alike =
     build
     record {
       texts =
           "f" ∷ "g" ∷ "h" ∷ "k" ∷ "l" ∷ "n" ∷ "p" ∷ "x" ∷ "y" ∷ "five" ∷ "f" ∷ "g" ∷ "h" ∷ "k" ∷ "l" ∷ "n" ∷ "p" ∷ "m" ∷ "q" ∷ "r" ∷ "t"
           ∷ "u" ∷ [];
       lists = 0 ∷ 1 ∷ 1 ∷ 1 ∷ 0 ∷ 2 ∷ 0 ∷ [];
-      expressions = number 5 ∷ number 0 ∷ identifier 8 ∷ identifier 7 ∷ binary 3 bangEqual 0 ∷ string 9 ∷ bool 0 ∷ made 50 (num 2 ∷ num 5 ∷ []) ∷ [];
+      expressions = number 5 ∷ number 0 ∷ identifier 8 ∷ identifier 7 ∷ binary 3 bang_equal 0 ∷ string 9 ∷ bool 0 ∷ made 50 (num 2 ∷ num 5 ∷ []) ∷ [];
       statements = [];
       parameters =
           refined 7 1 (pos 9) ∷ refined 7 1 (pos 1) ∷ parameter 7 ∷ refined 7 1 (pos 9) ∷ refined 8 1 (pos 1) ∷ parameter 7
@@ -89,14 +89,14 @@ callees =
     ∷ []
 
 -- THEOREM: the calls are reported so
-pub callees-so : map (reported named-alike) (up_from 0 19) ≡ map (map ascii) callees
+pub callees_so : map (reported named_alike) (up_from 0 19) ≡ map (map ascii) callees
 unfolding lowering running folding proving callees
-callees-so = refl
+callees_so = refl
 
 -- the entries of the last: call, span, 1 for requires, and the clause's number
-pub entries-so : callEntries named-alike 18 ≡ 18 ∷ 10 ∷ 1 ∷ 1 ∷ []
-unfolding lowering running folding proving reportEntries callEntries
-entries-so = refl
+pub entries_so : call_entries named_alike 18 ≡ 18 ∷ 10 ∷ 1 ∷ 1 ∷ []
+unfolding lowering running folding proving report_entries call_entries
+entries_so = refl
 
 -- ---- values: as many as parameters, and sixteen at most
 
@@ -128,7 +128,7 @@ abbrev of : ℕ → ℕ → ℕ → RunAnswer → Values
 of f n number answer = record { function = f; count = n; number = number; answer = answer }
 
 abbrev pub answered : RunAnswer → ℕ × RunAnswer
-answered a = (runNumber a, a)
+answered a = (run_number a, a)
 
 abbrev pub run : Values → RunAnswer
 run v =
@@ -147,6 +147,6 @@ values =
     ∷ []
 
 -- THEOREM: they are run so, or refused
-pub values-so : map (λ v. answered (run v)) values ≡ map (λ (v : Values). (v.number, v.answer)) values
-unfolding lowering decoding running evaluating image_of sectionsIn recordsIn recordIn next_at end_at fields_at widthsOf allHave run_of values
-values-so = refl
+pub values_so : map (λ v. answered (run v)) values ≡ map (λ (v : Values). (v.number, v.answer)) values
+unfolding lowering decoding running evaluating image_of sections_in records_in record_in next_at end_at fields_at widths_of all_have_lem run_of values
+values_so = refl

@@ -12,13 +12,13 @@ use Rattle.rl_spec.specs.declared.RunAnswer.TheVariants.{Ran, Refused}
 use Rattle.rl_spec.specs.declared.Value.TheVariants.{Plain as Bare}
 use Rattle.rl_spec.specs.Image.{Rec, Image}
 use Rattle.rl_spec.specs.Records.{call_at}
-use Rattle.rl_spec.specs.Contracts.{isCallee, calleeAmong, callee_of, argumentsOf}
-use Rattle.rl_spec.specs.Prove.{bindArguments, refineBound, refutes, failsAt, failedRefinements, failedRequires, proveCall, violationsOf}
-use Rattle.rl_spec.specs.Message.{messageBy, opening, messageOf}
+use Rattle.rl_spec.specs.FnContracts.{is_callee, callee_among, callee_of, arguments_of}
+use Rattle.rl_spec.specs.Prove.{bind_arguments, refine_bound, refutes, fails_at, failed_refinements, failed_requires, prove_call, violations_of}
+use Rattle.rl_spec.specs.Message.{message_by, opening, message_of}
 use Rattle.rl_spec.specs.Run.{Outcome, fault}
 use Rattle.rl_spec.specs.Mapped.{Text}
-use Rattle.rl_spec.specs.Functions.{readingIn}
-use Rattle.rl_spec.specs.Runner.{outcomeIn, values_of, ranIn}
+use Rattle.rl_spec.specs.Functions.{reading_in}
+use Rattle.rl_spec.specs.Runner.{outcome_in, values_of, ran_in}
 use Rattle.rl_spec.specs.Lower.{lowered}
 use Rattle.rl_examples.specs.NodeRows.{literal, number, negative}
 
@@ -61,27 +61,27 @@ pub record Call : Type 0 where
 
 -- the texts of the reports of the k-th call of an image
 abbrev pub reported : Image → ℕ → List Text
-reported im k = map (messageOf im k) (violationsOf im k)
+reported im k = map (message_of im k) (violations_of im k)
 
 -- for a budget: the reading, and the run in the image that lowering made
-abbrev pub readAs : Image → List Argument → ℕ → Ends
-readAs im vs budget = readingIn im 0 (values_of vs) budget
+abbrev pub read_as : Image → List Argument → ℕ → Ends
+read_as im vs budget = reading_in im 0 (values_of vs) budget
 
-abbrev ranAs : Image → RunAnswer → Ends
-ranAs im (Ran o n) = (outcomeIn im o, n)
-ranAs im (Refused q n) = (fault 0, n)
+abbrev ran_as : Image → RunAnswer → Ends
+ran_as im (Ran o n) = (outcome_in im o, n)
+ran_as im (Refused q n) = (fault 0, n)
 
-abbrev pub loweredAs : Option Image → List Argument → ℕ → Ends
-loweredAs none vs budget = (fault 0, 0)
-loweredAs (some im) vs budget = ranAs im (ranIn im 0 vs budget)
+abbrev pub lowered_as : Option Image → List Argument → ℕ → Ends
+lowered_as none vs budget = (fault 0, 0)
+lowered_as (some im) vs budget = ran_as im (ran_in im 0 vs budget)
 
-abbrev callSeen : Image → Option Image → ℕ → List Argument → List Text × (Ends × Ends)
-callSeen im im' k vs = (reported im k, (readAs im vs 1000, loweredAs im' vs 1000))
+abbrev call_seen : Image → Option Image → ℕ → List Argument → List Text × (Ends × Ends)
+call_seen im im' k vs = (reported im k, (read_as im vs 1000, lowered_as im' vs 1000))
 
 -- the calls from the k-th on
-unfoldable pub callsSeen : Image → Option Image → ℕ → List Call → List (List Text × (Ends × Ends))
-callsSeen im im' k [] = []
-callsSeen im im' k (c ∷ cs) = callSeen im im' k (map argument c.given) ∷ callsSeen im im' (k + 1) cs
+unfoldable pub calls_seen : Image → Option Image → ℕ → List Call → List (List Text × (Ends × Ends))
+calls_seen im im' k [] = []
+calls_seen im im' k (c ∷ cs) = call_seen im im' k (map argument c.given) ∷ calls_seen im im' (k + 1) cs
 
 -- ---- a row: an image, and its calls in order
 
@@ -90,12 +90,12 @@ pub record Row : Type 0 where
   pub calls : List Call
 
 abbrev pub actual : Row → List (List Text × (Ends × Ends))
-actual r = callsSeen r.image (lowered r.image 0) 0 r.calls
+actual r = calls_seen r.image (lowered r.image 0) 0 r.calls
 
 abbrev pub expected : Row → List (List Text × (Ends × Ends))
 expected r = map (λ (c : Call). (c.reports, (c.ends, c.ends))) r.calls
 
 -- what computation opens of proving a call, of reading, and of running
 unfoldable pub proving : Unit {0}
-unfolding call_at isCallee calleeAmong callee_of argumentsOf bindArguments refineBound refutes failsAt failedRefinements failedRequires proveCall violationsOf messageBy opening messageOf readingIn callsSeen
+unfolding call_at is_callee callee_among callee_of arguments_of bind_arguments refine_bound refutes fails_at failed_refinements failed_requires prove_call violations_of message_by opening message_of reading_in calls_seen
 proving = tt

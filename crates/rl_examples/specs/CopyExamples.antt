@@ -6,13 +6,13 @@ use Rattle.rl_spec.specs.Tree.{ascii}
 use Rattle.rl_spec.specs.Make.{made}
 use Rattle.rl_spec.specs.Lower.{lowered}
 use Rattle.rl_examples.specs.MarkedImages.{identifier, clause, build}
-use Rattle.rl_examples.specs.LowerExamples.{new, function, image, under-ensures, requires-map, textsFrom, nodesFrom, entriesFrom, lowering}
+use Rattle.rl_examples.specs.LowerExamples.{new, function, image, under_ensures, requires_map, texts_from, nodes_from, entries_from, lowering}
 
 -- ---- the images; requires-map is in LowerExamples
 
 -- a MethodCall on a Call, both on an Identifier and a ResolvedLambda
-abbrev pub requires-method : Image
-requires-method =
+abbrev pub requires_method : Image
+requires_method =
     image
     ("f" ∷ "a" ∷ "b" ∷ [])
     (1 ∷ 2 ∷ 0 ∷ 1 ∷ [])
@@ -23,12 +23,12 @@ requires-method =
     (function 0 (pair 0 0) (pair 0 1) (pair 0 0))
 
 -- three returns
-abbrev pub three-returns : Image
-three-returns = under-ensures (made 66 (num 5 ∷ num 0 ∷ []) ∷ []) (0 ∷ 0 ∷ 0 ∷ []) (pair 0 3)
+abbrev pub three_returns : Image
+three_returns = under_ensures (made 66 (num 5 ∷ num 0 ∷ []) ∷ []) (0 ∷ 0 ∷ 0 ∷ []) (pair 0 3)
 
 -- f(x == "t", y != x)
-abbrev pub refined-by-texts : Image
-refined-by-texts =
+abbrev pub refined_by_texts : Image
+refined_by_texts =
     build
     record {
       texts = "f" ∷ "x" ∷ "t" ∷ "y" ∷ [];
@@ -47,27 +47,27 @@ refined-by-texts =
 pub record Copies : Type 0 where
   -- requires-map: the Identifier twice, for it stands for copies; the Lambda's id and the fields' names in the new list; the spans of the
   -- originals
-  pub copied-map : nodesFrom 4 (lowered requires-map 0)
+  pub copied_map : nodes_from 4 (lowered requires_map 0)
       ≡ identifier 1 ∷ identifier 1 ∷ made 52 (num 4 ∷ num 0 ∷ pair 6 4 ∷ []) ∷ made 36 (num 5 ∷ pair 10 2 ∷ [])
       ∷ new 33 (num 5 ∷ num 7 ∷ []) ∷ new 50 (num 0 ∷ []) ∷ new 41 (pair 12 3 ∷ pair 15 1 ∷ []) ∷ []
-  pub copied-lists : entriesFrom 6 (lowered requires-map 0)
+  pub copied_lists : entries_from 6 (lowered requires_map 0)
       ≡ 1 ∷ 5 ∷ 2 ∷ 1 ∷ 4 ∷ 6 ∷ 3 ∷ 4 ∷ 5 ∷ 9 ∷ 0 ∷ 2 ∷ []
   -- requires-method: the path, the method and the lambda's id are kept
-  pub copied-method : nodesFrom 4 (lowered requires-method 0)
+  pub copied_method : nodes_from 4 (lowered requires_method 0)
       ≡ identifier 1 ∷ made 41 (num 4 ∷ pair 0 2 ∷ pair 4 2 ∷ []) ∷ identifier 1 ∷ made 43 (num 5 ∷ num 5 ∷ pair 0 2 ∷ pair 6 2 ∷ [])
       ∷ new 33 (num 5 ∷ num 7 ∷ []) ∷ new 50 (num 0 ∷ []) ∷ new 41 (pair 8 3 ∷ pair 11 1 ∷ []) ∷ []
-  pub copied-arguments : entriesFrom 4 (lowered requires-method 0) ≡ 4 ∷ 1 ∷ 6 ∷ 1 ∷ 3 ∷ 4 ∷ 5 ∷ 9 ∷ 0 ∷ 2 ∷ []
+  pub copied_arguments : entries_from 4 (lowered requires_method 0) ≡ 4 ∷ 1 ∷ 6 ∷ 1 ∷ 3 ∷ 4 ∷ 5 ∷ 9 ∷ 0 ∷ 2 ∷ []
   -- each return has a temporary of its own
-  pub three-temporaries : textsFrom 2 (lowered three-returns 0)
-      ≡ map ascii ("__ensure_ret_0" ∷ "__ensure_ret_0" ∷ "ret" ∷ "std" ∷ "res" ∷ "result_unwrap" ∷ "__ensure_ret_0"
-      ∷ "__ensure_ret_1" ∷ "__ensure_ret_1" ∷ "ret" ∷ "std" ∷ "res" ∷ "result_unwrap" ∷ "__ensure_ret_1"
-      ∷ "__ensure_ret_2" ∷ "__ensure_ret_2" ∷ "ret" ∷ "std" ∷ "res" ∷ "result_unwrap" ∷ "__ensure_ret_2" ∷ [])
+  pub three_temporaries : texts_from 2 (lowered three_returns 0)
+      ≡ map ascii ("__ensure_ret_0" ∷ "__ensure_ret_0" ∷ "ret" ∷ "std" ∷ "res" ∷ "result_unwrap_lem" ∷ "__ensure_ret_0"
+      ∷ "__ensure_ret_1" ∷ "__ensure_ret_1" ∷ "ret" ∷ "std" ∷ "res" ∷ "result_unwrap_lem" ∷ "__ensure_ret_1"
+      ∷ "__ensure_ret_2" ∷ "__ensure_ret_2" ∷ "ret" ∷ "std" ∷ "res" ∷ "result_unwrap_lem" ∷ "__ensure_ret_2" ∷ [])
   -- each operand's text is new, even one that the image has
-  pub operands-texts : textsFrom 4 (lowered refined-by-texts 0)
-      ≡ map ascii ("t" ∷ "x" ∷ "refinement failed: x == \"t\"" ∷ "std" ∷ "res" ∷ "result_unwrap"
-      ∷ "x" ∷ "y" ∷ "refinement failed: y != x" ∷ "std" ∷ "res" ∷ "result_unwrap" ∷ [])
+  pub operands_texts : texts_from 4 (lowered refined_by_texts 0)
+      ≡ map ascii ("t" ∷ "x" ∷ "refinement failed: x == \"t\"" ∷ "std" ∷ "res" ∷ "result_unwrap_lem"
+      ∷ "x" ∷ "y" ∷ "refinement failed: y != x" ∷ "std" ∷ "res" ∷ "result_unwrap_lem" ∷ [])
 
 -- THEOREM
-pub copies-so : Copies
+pub copies_so : Copies
 unfolding lowering
-copies-so = record { copied-map = refl; copied-lists = refl; copied-method = refl; copied-arguments = refl; three-temporaries = refl; operands-texts = refl }
+copies_so = record { copied_map = refl; copied_lists = refl; copied_method = refl; copied_arguments = refl; three_temporaries = refl; operands_texts = refl }

@@ -2,12 +2,12 @@
 -- Assumes nothing.
 use Rattle.std.specs.Prelude.{◌≡◌, ℕ, zero, suc, List, [], ◌∷◌, ◌++◌, map, replicate, refl}
 use Rattle.rl_examples.specs.ByteRows.{Row, actual, expected, reading}
-use Rattle.rl_examples.specs.FieldRows.{anExpression, aStatement, aParameter, aClause, aFunction, aCall, Field, field, cut, changed, kind, u32, raw, set, flag, operator, scalar, t, n, nOrNone, s, branch, elseBranch, l, lOfT, pairsNN, pairsTN, body, arms, parameters, clauses}
+use Rattle.rl_examples.specs.FieldRows.{an_expression, a_statement, a_parameter, a_clause, a_function, a_call, Field, field, cut, changed, kind, u32, raw, set, flag, operator, scalar, t, n, n_or_none, s, branch, else_branch, l, l_of_t, pairsNN, pairsTN, body, arms, parameters, clauses}
 
 -- ---- expressions and statements, with their span
 
 abbrev node : ℕ → List Field → List Row
-node k fs = kind anExpression k (u32 ∷ fs)
+node k fs = kind an_expression k (u32 ∷ fs)
 
 unfoldable pub expressions : List (List Row)
 expressions =
@@ -41,9 +41,9 @@ expressions =
     ∷ node 39 (t ∷ n ∷ [])
     ∷ node 40 (t ∷ u32 ∷ u32 ∷ n ∷ [])
     -- 41 Call l of t, l; 42 CallExpr n l; 43 MethodCall n, l of t, l; 44 Index n n; 45 IndexAssign n n n; 46 Cast n h; 47 Is n h
-    ∷ node 41 (lOfT ∷ l ∷ [])
+    ∷ node 41 (l_of_t ∷ l ∷ [])
     ∷ node 42 (n ∷ l ∷ [])
-    ∷ node 43 (n ∷ lOfT ∷ l ∷ [])
+    ∷ node 43 (n ∷ l_of_t ∷ l ∷ [])
     ∷ node 44 (n ∷ n ∷ [])
     ∷ node 45 (n ∷ n ∷ n ∷ [])
     ∷ node 46 (n ∷ u32 ∷ [])
@@ -63,12 +63,12 @@ expressions =
     ∷ []
 
 -- THEOREM: they are answered so
-pub expressions-so : map (map actual) expressions ≡ map (map expected) expressions
+pub expressions_so : map (map actual) expressions ≡ map (map expected) expressions
 unfolding reading expressions cut changed
-expressions-so = refl
+expressions_so = refl
 
 abbrev statement : ℕ → List Field → List Row
-statement k fs = kind aStatement k (u32 ∷ fs)
+statement k fs = kind a_statement k (u32 ∷ fs)
 
 unfoldable pub statements : List (List Row)
 statements =
@@ -78,8 +78,8 @@ statements =
     ∷ statement 66 (n ∷ [])
     ∷ statement 67 []
     -- 68 Conditional s (a 69), s (69, 68 or none); 69 ConditionalBranch n or none, l, needs_scope (0, 1); 70 While n l; 71 Loop l
-    ∷ statement 68 (branch ∷ elseBranch ∷ [])
-    ∷ statement 69 (nOrNone ∷ body ∷ flag ∷ [])
+    ∷ statement 68 (branch ∷ else_branch ∷ [])
+    ∷ statement 69 (n_or_none ∷ body ∷ flag ∷ [])
     ∷ statement 70 (n ∷ body ∷ [])
     ∷ statement 71 (body ∷ [])
     -- 72 For s n n l; 73 ForRange t s l; 74 ForEach t n l; 75 Match n, l of 76; 76 arm: n or none, l; 77 Break; 78 Continue; 79 h
@@ -87,16 +87,16 @@ statements =
     ∷ statement 73 (t ∷ s ∷ body ∷ [])
     ∷ statement 74 (t ∷ n ∷ body ∷ [])
     ∷ statement 75 (n ∷ arms ∷ [])
-    ∷ statement 76 (nOrNone ∷ body ∷ [])
+    ∷ statement 76 (n_or_none ∷ body ∷ [])
     ∷ statement 77 []
     ∷ statement 78 []
     ∷ statement 79 (u32 ∷ [])
     ∷ []
 
 -- THEOREM: they are answered so
-pub statements-so : map (map actual) statements ≡ map (map expected) statements
+pub statements_so : map (map actual) statements ≡ map (map expected) statements
 unfolding reading statements cut changed
-statements-so = refl
+statements_so = refl
 
 -- ---- parameters, clauses, functions, calls
 
@@ -112,31 +112,31 @@ operand good also bad unused =
     (map (λ (b : ℕ × List ℕ). (b.0, b.1 ++ replicate unused 0)) bad ++ map (λ s. (7, good ++ s)) (spoiled unused))
 
 -- a text that is not there is 8, as in any other field
-abbrev aText : Field
-aText = operand (1 ∷ 0 ∷ []) ((0 ∷ 0 ∷ []) ∷ []) ((8, 2 ∷ 0 ∷ []) ∷ (8, 255 ∷ 255 ∷ []) ∷ []) 6
+abbrev a_text : Field
+a_text = operand (1 ∷ 0 ∷ []) ((0 ∷ 0 ∷ []) ∷ []) ((8, 2 ∷ 0 ∷ []) ∷ (8, 255 ∷ 255 ∷ []) ∷ []) 6
 
 unfoldable pub others : List (List Row)
 others =
     -- Parameter 80: t, h, refinement, operand sort, 8 bytes. Refinement 0 with operand sort 0, and with no other one
-    kind aParameter 80 (t ∷ u32 ∷ set 0 [] (7 ∷ 255 ∷ []) ∷ set 0 [] (1 ∷ 2 ∷ 3 ∷ 4 ∷ 5 ∷ []) ∷ operand [] [] [] 8 ∷ [])
+    kind a_parameter 80 (t ∷ u32 ∷ set 0 [] (7 ∷ 255 ∷ []) ∷ set 0 [] (1 ∷ 2 ∷ 3 ∷ 4 ∷ 5 ∷ []) ∷ operand [] [] [] 8 ∷ [])
     -- refinements 1 to 6 with operand sorts 1 to 4; 1, an i64
-    ∷ kind aParameter 80
+    ∷ kind a_parameter 80
     (t ∷ u32 ∷ set 1 (2 ∷ 3 ∷ 4 ∷ 5 ∷ 6 ∷ []) (7 ∷ []) ∷ set 1 (2 ∷ 3 ∷ 4 ∷ []) (0 ∷ 5 ∷ 255 ∷ [])
     ∷ field (replicate 8 0) (replicate 8 255 ∷ []) [] ∷ [])
     -- 2, a text; 3, 0 or 1; 4, a text
-    ∷ kind aParameter 80 (t ∷ u32 ∷ set 6 [] (7 ∷ []) ∷ set 2 [] (0 ∷ 5 ∷ []) ∷ aText ∷ [])
-    ∷ kind aParameter 80
+    ∷ kind a_parameter 80 (t ∷ u32 ∷ set 6 [] (7 ∷ []) ∷ set 2 [] (0 ∷ 5 ∷ []) ∷ a_text ∷ [])
+    ∷ kind a_parameter 80
     (t ∷ u32 ∷ set 6 [] (7 ∷ []) ∷ set 3 [] (0 ∷ 5 ∷ [])
     ∷ operand (1 ∷ []) ((0 ∷ []) ∷ []) ((7, 2 ∷ []) ∷ (7, 255 ∷ []) ∷ []) 7 ∷ [])
-    ∷ kind aParameter 80 (t ∷ u32 ∷ set 6 [] (7 ∷ []) ∷ set 4 [] (0 ∷ 5 ∷ []) ∷ aText ∷ [])
+    ∷ kind a_parameter 80 (t ∷ u32 ∷ set 6 [] (7 ∷ []) ∷ set 4 [] (0 ∷ 5 ∷ []) ∷ a_text ∷ [])
     -- Clause 81: n, message n or none. Function 82: t, span u32, parameters, result flag (0, 1), body l, requires and ensures. Call 83:
     -- callee t, span u32, l
-    ∷ kind aClause 81 (n ∷ nOrNone ∷ [])
-    ∷ kind aFunction 82 (t ∷ u32 ∷ parameters ∷ flag ∷ body ∷ clauses ∷ clauses ∷ [])
-    ∷ kind aCall 83 (t ∷ u32 ∷ l ∷ [])
+    ∷ kind a_clause 81 (n ∷ n_or_none ∷ [])
+    ∷ kind a_function 82 (t ∷ u32 ∷ parameters ∷ flag ∷ body ∷ clauses ∷ clauses ∷ [])
+    ∷ kind a_call 83 (t ∷ u32 ∷ l ∷ [])
     ∷ []
 
 -- THEOREM: they are answered so
-pub others-so : map (map actual) others ≡ map (map expected) others
+pub others_so : map (map actual) others ≡ map (map expected) others
 unfolding reading others spoiled cut changed
-others-so = refl
+others_so = refl

@@ -25,31 +25,31 @@ statements =
     (69 ∷ 1 ∷ 2 ∷ 3 ∷ 4 ∷ 255 ∷ 255 ∷ 0 ∷ 0 ∷ 0 ∷ 0 ∷ 0 ∷ []) ++ (68 ∷ 1 ∷ 2 ∷ 3 ∷ 4 ∷ 0 ∷ 0 ∷ 255 ∷ 255 ∷ [])
     ++ (76 ∷ 1 ∷ 2 ∷ 3 ∷ 4 ∷ 255 ∷ 255 ∷ 0 ∷ 0 ∷ 0 ∷ 0 ∷ []) ++ (70 ∷ 1 ∷ 2 ∷ 3 ∷ 4 ∷ 0 ∷ 0 ∷ 0 ∷ 0 ∷ 0 ∷ 0 ∷ [])
 
-abbrev parametersAndClause : List ℕ
-parametersAndClause = joined (replicate 2 (80 ∷ replicate 16 0)) ++ 81 ∷ 0 ∷ 0 ∷ 0 ∷ 0 ∷ []
+abbrev parameters_and_clause : List ℕ
+parameters_and_clause = joined (replicate 2 (80 ∷ replicate 16 0)) ++ 81 ∷ 0 ∷ 0 ∷ 0 ∷ 0 ∷ []
 
-abbrev pub anExpression : Place
-anExpression = record { before = header (0 ∷ 2 ∷ 8 ∷ 2 ∷ 0 ∷ 0 ∷ 0 ∷ 0 ∷ 0 ∷ []) ++ texts ++ lists ++ null; kind_at = 62 }
+abbrev pub an_expression : Place
+an_expression = record { before = header (0 ∷ 2 ∷ 8 ∷ 2 ∷ 0 ∷ 0 ∷ 0 ∷ 0 ∷ 0 ∷ []) ++ texts ++ lists ++ null; kind_at = 62 }
 
-abbrev pub aStatement : Place
-aStatement =
+abbrev pub a_statement : Place
+a_statement =
     record { before = header (0 ∷ 2 ∷ 8 ∷ 1 ∷ 5 ∷ 0 ∷ 0 ∷ 0 ∷ 0 ∷ []) ++ texts ++ lists ++ null ++ statements; kind_at = 105 }
 
-abbrev pub aParameter : Place
-aParameter = record { before = header (0 ∷ 2 ∷ 0 ∷ 0 ∷ 0 ∷ 1 ∷ 0 ∷ 0 ∷ 0 ∷ []) ++ texts; kind_at = 33 }
+abbrev pub a_parameter : Place
+a_parameter = record { before = header (0 ∷ 2 ∷ 0 ∷ 0 ∷ 0 ∷ 1 ∷ 0 ∷ 0 ∷ 0 ∷ []) ++ texts; kind_at = 33 }
 
-abbrev pub aClause : Place
-aClause = record { before = header (0 ∷ 0 ∷ 0 ∷ 1 ∷ 0 ∷ 0 ∷ 1 ∷ 0 ∷ 0 ∷ []) ++ null; kind_at = 28 }
+abbrev pub a_clause : Place
+a_clause = record { before = header (0 ∷ 0 ∷ 0 ∷ 1 ∷ 0 ∷ 0 ∷ 1 ∷ 0 ∷ 0 ∷ []) ++ null; kind_at = 28 }
 
-abbrev pub aFunction : Place
-aFunction =
+abbrev pub a_function : Place
+a_function =
     record {
-      before = header (0 ∷ 2 ∷ 8 ∷ 1 ∷ 4 ∷ 2 ∷ 1 ∷ 1 ∷ 0 ∷ []) ++ texts ++ lists ++ null ++ statements ++ parametersAndClause;
+      before = header (0 ∷ 2 ∷ 8 ∷ 1 ∷ 4 ∷ 2 ∷ 1 ∷ 1 ∷ 0 ∷ []) ++ texts ++ lists ++ null ++ statements ++ parameters_and_clause;
       kind_at = 144;
     }
 
-abbrev pub aCall : Place
-aCall = record { before = header (0 ∷ 2 ∷ 8 ∷ 1 ∷ 0 ∷ 0 ∷ 0 ∷ 0 ∷ 1 ∷ []) ++ texts ++ lists ++ null; kind_at = 62 }
+abbrev pub a_call : Place
+a_call = record { before = header (0 ∷ 2 ∷ 8 ∷ 1 ∷ 0 ∷ 0 ∷ 0 ∷ 0 ∷ 1 ∷ []) ++ texts ++ lists ++ null; kind_at = 62 }
 
 -- ---- rows of a record
 
@@ -124,8 +124,8 @@ t = refer 1 (0 ∷ []) (2 ∷ 65535 ∷ [])
 abbrev pub n : Field
 n = refer 0 [] (1 ∷ 2 ∷ 65535 ∷ [])
 
-abbrev pub nOrNone : Field
-nOrNone = refer 0 (65535 ∷ []) (1 ∷ 65534 ∷ [])
+abbrev pub n_or_none : Field
+n_or_none = refer 0 (65535 ∷ []) (1 ∷ 65534 ∷ [])
 
 -- of the earlier statements, a 69, a 68, a 76 and a 70: none that is an arm, nor the record itself
 abbrev pub s : Field
@@ -135,8 +135,8 @@ s = refer 3 (0 ∷ 1 ∷ []) (2 ∷ 4 ∷ 65535 ∷ [])
 abbrev pub branch : Field
 branch = refer 0 [] (1 ∷ 2 ∷ 3 ∷ 4 ∷ 65535 ∷ [])
 
-abbrev pub elseBranch : Field
-elseBranch = refer 1 (0 ∷ 65535 ∷ []) (2 ∷ 3 ∷ 4 ∷ 65534 ∷ [])
+abbrev pub else_branch : Field
+else_branch = refer 1 (0 ∷ 65535 ∷ []) (2 ∷ 3 ∷ 4 ∷ 65534 ∷ [])
 
 -- a list or a range by first and count: one, others, and those that are refused
 abbrev some : List ℕ → List (List ℕ) → List (List ℕ) → Field
@@ -144,32 +144,32 @@ some good also bad = field good also (map (λ b. (8, b)) bad)
 
 -- the entries are 0, 0, 1, 0, 2, 0, 3, 4, and what follows them reads like one more 0. Each list may be empty at the end of its section;
 -- none is empty or ends past it
-abbrev atEnd : List ℕ
-atEnd = two 8 0
+abbrev at_end : List ℕ
+at_end = two 8 0
 
 abbrev past : List (List ℕ)
 past = two 9 0 ∷ two 65535 2 ∷ []
 
 -- l: not the record itself, nor a later one
 abbrev pub l : Field
-l = some (two 0 2) (two 5 1 ∷ atEnd ∷ []) (two 2 1 ∷ two 1 2 ∷ two 4 1 ∷ two 8 1 ∷ past)
+l = some (two 0 2) (two 5 1 ∷ at_end ∷ []) (two 2 1 ∷ two 1 2 ∷ two 4 1 ∷ two 8 1 ∷ past)
 
-abbrev pub lOfT : Field
-lOfT = some (two 2 1) (two 0 4 ∷ atEnd ∷ []) (two 4 1 ∷ two 3 2 ∷ two 8 1 ∷ past)
+abbrev pub l_of_t : Field
+l_of_t = some (two 2 1) (two 0 4 ∷ at_end ∷ []) (two 4 1 ∷ two 3 2 ∷ two 8 1 ∷ past)
 
 -- l of pairs n n, and of pairs t n: an even number
 abbrev pub pairsNN : Field
-pairsNN = some (two 0 2) (atEnd ∷ []) (two 0 1 ∷ two 1 2 ∷ two 2 2 ∷ two 8 2 ∷ past)
+pairsNN = some (two 0 2) (at_end ∷ []) (two 0 1 ∷ two 1 2 ∷ two 2 2 ∷ two 8 2 ∷ past)
 
 abbrev pub pairsTN : Field
-pairsTN = some (two 2 2) (two 0 4 ∷ atEnd ∷ []) (two 2 1 ∷ two 0 3 ∷ two 1 2 ∷ two 4 2 ∷ two 8 2 ∷ past)
+pairsTN = some (two 2 2) (two 0 4 ∷ at_end ∷ []) (two 2 1 ∷ two 0 3 ∷ two 1 2 ∷ two 4 2 ∷ two 8 2 ∷ past)
 
 -- statements, none of them an arm; arms and nothing else
 abbrev pub body : Field
-body = some (two 6 1) (two 0 3 ∷ atEnd ∷ []) (two 4 1 ∷ two 3 2 ∷ two 7 1 ∷ two 8 1 ∷ past)
+body = some (two 6 1) (two 0 3 ∷ at_end ∷ []) (two 4 1 ∷ two 3 2 ∷ two 7 1 ∷ two 8 1 ∷ past)
 
 abbrev pub arms : Field
-arms = some (two 4 1) (atEnd ∷ []) (two 0 1 ∷ two 2 1 ∷ two 6 1 ∷ two 7 1 ∷ two 4 2 ∷ past)
+arms = some (two 4 1) (at_end ∷ []) (two 0 1 ∷ two 2 1 ∷ two 6 1 ∷ two 7 1 ∷ two 4 2 ∷ past)
 
 -- of two parameters; of one clause
 abbrev pub parameters : Field

@@ -3,24 +3,24 @@
 use Rattle.std.specs.Prelude.{◌≡◌, List, [], ◌∷◌, map, refl}
 use Rattle.std.proofs.Math.Option.{none}
 use Rattle.rl_examples.specs.MarkedImages.{float}
-use Rattle.rl_examples.specs.NodeRows.{aFloat, aNan, Row, binaries, unaries, actual, expected, literal, number, negative, bits, notANumber, folds, less, same, greater, incomparable, noArithmetic, folding, evaluating}
+use Rattle.rl_examples.specs.NodeRows.{a_float, a_nan, Row, binaries, unaries, actual, expected, literal, number, negative, bits, notANumber, folds, less, same, greater, incomparable, no_arithmetic, folding, evaluating}
 
 -- above two of them: sum, difference, product and quotient
 unfoldable pub rows : List Row
 rows =
     -- a NaN has no verdict and no sum
     -- NaN and NaN
-    binaries (float 0x7FF8000000000000) (float 0x7FF8000000000000) noArithmetic incomparable
+    binaries (float 0x7FF8000000000000) (float 0x7FF8000000000000) no_arithmetic incomparable
     -- NaN and 1.0
-    ∷ binaries (float 0x7FF8000000000000) (float 0x3FF0000000000000) noArithmetic incomparable
+    ∷ binaries (float 0x7FF8000000000000) (float 0x3FF0000000000000) no_arithmetic incomparable
     -- 1.0 and NaN
-    ∷ binaries (float 0x3FF0000000000000) (float 0x7FF8000000000000) noArithmetic incomparable
+    ∷ binaries (float 0x3FF0000000000000) (float 0x7FF8000000000000) no_arithmetic incomparable
     -- NaN and inf
-    ∷ binaries (float 0x7FF8000000000000) (float 0x7FF0000000000000) noArithmetic incomparable
+    ∷ binaries (float 0x7FF8000000000000) (float 0x7FF0000000000000) no_arithmetic incomparable
     -- NaN and 1
-    ∷ binaries (float 0x7FF8000000000000) (number 1) noArithmetic incomparable
+    ∷ binaries (float 0x7FF8000000000000) (number 1) no_arithmetic incomparable
     -- 1 and NaN
-    ∷ binaries (number 1) (float 0x7FF8000000000000) noArithmetic incomparable
+    ∷ binaries (number 1) (float 0x7FF8000000000000) no_arithmetic incomparable
     -- no quotient by zero; zeros and their signs
     -- 1.0 and 0.0: 1.0, 1.0, 0.0, none
     ∷ binaries (float 0x3FF0000000000000) (float 0) (bits 0x3FF0000000000000 ∷ bits 0x3FF0000000000000 ∷ bits 0 ∷ none ∷ []) greater
@@ -104,18 +104,18 @@ rows =
     ∷ unaries (float 0x8000000000000000) (bits 0) none
     ∷ unaries (float 0x1) (bits 0x8000000000000001) none
     -- SFloats alone: 0.1f, the least, the largest subnormal, the least normal, the largest, infinities, -0.0, a NaN
-    ∷ folds (literal 28 0x3DCCCCCD) (aFloat 0x3FB99999A0000000)
-    ∷ folds (literal 28 0x1) (aFloat 0x36A0000000000000)
-    ∷ folds (literal 28 0x7FFFFF) (aFloat 0x380FFFFFC0000000)
-    ∷ folds (literal 28 0x800000) (aFloat 0x3810000000000000)
-    ∷ folds (literal 28 0x7F7FFFFF) (aFloat 0x47EFFFFFE0000000)
-    ∷ folds (literal 28 0x7F800000) (aFloat 0x7FF0000000000000)
-    ∷ folds (literal 28 0xFF800000) (aFloat 0xFFF0000000000000)
-    ∷ folds (literal 28 0x80000000) (aFloat 0x8000000000000000)
-    ∷ folds (literal 28 0x7FC00000) aNan
+    ∷ folds (literal 28 0x3DCCCCCD) (a_float 0x3FB99999A0000000)
+    ∷ folds (literal 28 0x1) (a_float 0x36A0000000000000)
+    ∷ folds (literal 28 0x7FFFFF) (a_float 0x380FFFFFC0000000)
+    ∷ folds (literal 28 0x800000) (a_float 0x3810000000000000)
+    ∷ folds (literal 28 0x7F7FFFFF) (a_float 0x47EFFFFFE0000000)
+    ∷ folds (literal 28 0x7F800000) (a_float 0x7FF0000000000000)
+    ∷ folds (literal 28 0xFF800000) (a_float 0xFFF0000000000000)
+    ∷ folds (literal 28 0x80000000) (a_float 0x8000000000000000)
+    ∷ folds (literal 28 0x7FC00000) a_nan
     ∷ []
 
 -- THEOREM: they are folded and run so
-pub floats-so : map actual rows ≡ map expected rows
+pub floats_so : map actual rows ≡ map expected rows
 unfolding folding evaluating rows
-floats-so = refl
+floats_so = refl

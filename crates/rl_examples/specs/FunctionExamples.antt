@@ -4,15 +4,15 @@ use Rattle.std.specs.Prelude.{◌≡◌, ℕ, true, false, List, [], ◌∷◌, 
 use Rattle.rl_spec.specs.Image.{num, pair, Rec, Image, text_of}
 use Rattle.rl_spec.specs.Tree.{ascii}
 use Rattle.rl_spec.specs.Ranges.{up_from}
-use Rattle.rl_spec.specs.Records.{param_at, functionAt}
-use Rattle.rl_spec.specs.Contracts.{paramOf, contractsOf}
+use Rattle.rl_spec.specs.Records.{param_at, function_at}
+use Rattle.rl_spec.specs.FnContracts.{param_of, contracts_of}
 use Rattle.rl_spec.specs.Make.{made}
 use Rattle.rl_spec.specs.Mapped.{Text}
-use Rattle.rl_spec.specs.Functions.{plainFunction, contractFunction}
-use Rattle.rl_examples.specs.MarkedImages.{parameter, function, textBytes, textRecords, build}
+use Rattle.rl_spec.specs.Functions.{plain_function, contract_function}
+use Rattle.rl_examples.specs.MarkedImages.{parameter, function, text_bytes, text_records, build}
 
-abbrev resultFunction : Rec
-resultFunction = made 82 (num 0 ∷ num 0 ∷ pair 1 2 ∷ num 1 ∷ pair 0 0 ∷ pair 0 0 ∷ pair 0 0 ∷ [])
+abbrev result_function : Rec
+result_function = made 82 (num 0 ∷ num 0 ∷ pair 1 2 ∷ num 1 ∷ pair 0 0 ∷ pair 0 0 ∷ pair 0 0 ∷ [])
 
 -- g(x), then f(y, x), a result function
 abbrev pub two : Image
@@ -25,7 +25,7 @@ two =
       statements = [];
       parameters = parameter 2 ∷ parameter 3 ∷ parameter 2 ∷ [];
       clauses = [];
-      functions = function 1 0 (pair 0 1) (pair 0 0) (pair 0 0) (pair 0 0) ∷ resultFunction ∷ [];
+      functions = function 1 0 (pair 0 1) (pair 0 0) (pair 0 0) (pair 0 0) ∷ result_function ∷ [];
       calls = [];
     }
 
@@ -36,19 +36,19 @@ abbrev pub expected : List (List Text)
 expected = (ascii "g" ∷ ascii "x" ∷ []) ∷ (ascii "f" ∷ ascii "y" ∷ ascii "x" ∷ []) ∷ []
 
 -- as their contracts are read
-pub read_names : named (λ f. (contractFunction two f).name) (λ f. (contractFunction two f).params) ≡ expected
-unfolding contractFunction contractsOf functionAt paramOf param_at up_from textBytes textRecords ascii
+pub read_names : named (λ f. (contract_function two f).name) (λ f. (contract_function two f).params) ≡ expected
+unfolding contract_function contracts_of function_at param_of param_at up_from text_bytes text_records ascii
 read_names = refl
 
-pub read-results : (contractFunction two 0).isResult ∷ (contractFunction two 1).isResult ∷ [] ≡ false ∷ true ∷ []
-unfolding contractFunction functionAt
-read-results = refl
+pub read_results : (contract_function two 0).is_result ∷ (contract_function two 1).is_result ∷ [] ≡ false ∷ true ∷ []
+unfolding contract_function function_at
+read_results = refl
 
 -- as the runner runs them
-pub run-names : named (λ f. text_of two (plainFunction two f).name) (λ f. map (text_of two) (plainFunction two f).params) ≡ expected
-unfolding plainFunction functionAt param_at up_from textBytes textRecords ascii
-run-names = refl
+pub run_names : named (λ f. text_of two (plain_function two f).name) (λ f. map (text_of two) (plain_function two f).params) ≡ expected
+unfolding plain_function function_at param_at up_from text_bytes text_records ascii
+run_names = refl
 
-pub run-results : (plainFunction two 0).isResult ∷ (plainFunction two 1).isResult ∷ [] ≡ false ∷ true ∷ []
-unfolding plainFunction functionAt
-run-results = refl
+pub run_results : (plain_function two 0).is_result ∷ (plain_function two 1).is_result ∷ [] ≡ false ∷ true ∷ []
+unfolding plain_function function_at
+run_results = refl

@@ -12,7 +12,7 @@ use Rattle.rl_examples.specs.MarkedImages.{made, integer, build}
 -- ---- the texts of each image, and their numbers; two of them stand there twice
 
 abbrev texts : List String
-texts = "f" ∷ "x" ∷ "y" ∷ "ret" ∷ "no" ∷ "x" ∷ "no" ∷ "std" ∷ "res" ∷ "is_err" ∷ "result_unwrap" ∷ "__ensure_ret_0" ∷ []
+texts = "f" ∷ "x" ∷ "y" ∷ "ret" ∷ "no" ∷ "x" ∷ "no" ∷ "std" ∷ "res" ∷ "is_err_lem" ∷ "result_unwrap_lem" ∷ "__ensure_ret_0" ∷ []
 
 abbrev pub x : ℕ
 x = 1
@@ -26,11 +26,11 @@ ret = 3
 abbrev pub no : ℕ
 no = 4
 
-abbrev pub otherX : ℕ
-otherX = 5
+abbrev pub other_x : ℕ
+other_x = 5
 
-abbrev pub otherNo : ℕ
-otherNo = 6
+abbrev pub other_no : ℕ
+other_no = 6
 
 abbrev pub temporary : ℕ
 temporary = 11
@@ -56,21 +56,21 @@ number n = integer (pos n)
 abbrev pub assign : ℕ → ℕ → Rec
 assign t n = made 39 (num 2 ∷ num t ∷ num n ∷ [])
 
-abbrev pub okLiteral : ℕ → Rec
-okLiteral n = made 49 (num 2 ∷ num n ∷ [])
+abbrev pub ok_literal : ℕ → Rec
+ok_literal n = made 49 (num 2 ∷ num n ∷ [])
 
-abbrev pub errLiteral : ℕ → Rec
-errLiteral n = made 50 (num 2 ∷ num n ∷ [])
+abbrev pub err_literal : ℕ → Rec
+err_literal n = made 50 (num 2 ∷ num n ∷ [])
 
 -- a Call of a path on arguments
 abbrev pub call_of : Field → Field → Rec
 call_of path args = made 41 (num 2 ∷ path ∷ args ∷ [])
 
-abbrev pub isErr : ℕ → Rec
-isErr n = call_of (pair 0 3) (from n 1)
+abbrev pub is_err_lem : ℕ → Rec
+is_err_lem n = call_of (pair 0 3) (from n 1)
 
-abbrev pub resultUnwrap : ℕ → Rec
-resultUnwrap n = call_of (pair 3 3) (from n 1)
+abbrev pub result_unwrap_lem : ℕ → Rec
+result_unwrap_lem n = call_of (pair 3 3) (from n 1)
 
 -- ---- statements
 
@@ -86,19 +86,19 @@ bare n = made 65 (num 3 ∷ num n ∷ [])
 abbrev pub return : ℕ → Rec
 return n = made 66 (num 3 ∷ num n ∷ [])
 
-abbrev pub returnAlone : Rec
-returnAlone = made 67 (num 3 ∷ [])
+abbrev pub return_alone : Rec
+return_alone = made 67 (num 3 ∷ [])
 
 -- a branch, and the else branch or none
 abbrev pub conditional : ℕ → ℕ → Rec
 conditional b e = made 68 (num 3 ∷ num b ∷ num e ∷ [])
 
 -- a condition or none, and needs_scope
-abbrev pub branchBy : ℕ → ℕ → Field → Rec
-branchBy scope n list = made 69 (num 3 ∷ num n ∷ list ∷ num scope ∷ [])
+abbrev pub branch_by : ℕ → ℕ → Field → Rec
+branch_by scope n list = made 69 (num 3 ∷ num n ∷ list ∷ num scope ∷ [])
 
 abbrev pub branch : ℕ → Field → Rec
-branch n list = branchBy 0 n list
+branch n list = branch_by 0 n list
 
 abbrev pub while : ℕ → Field → Rec
 while n list = made 70 (num 3 ∷ num n ∷ list ∷ [])
@@ -127,8 +127,8 @@ truth b = plain (folded (value.bool b))
 abbrev pub str : {T : Type 0} → T → Value T
 str t = plain (folded (value.str t))
 
-abbrev pub returnedNull : {T : Type 0} → Outcome T
-returnedNull = returned (plain nothing)
+abbrev pub returned_null : {T : Type 0} → Outcome T
+returned_null = returned (plain nothing)
 
 abbrev pub five : {T : Type 0} → Plain T
 five = folded (value.int (pos 5))
@@ -150,8 +150,8 @@ contract result params requires ensures =
     record { result = result; params = params; requires = requires; ensures = ensures }
 
 -- with this body, of these nodes and statements; the list entries of each image and more
-abbrev pub withBody : Contract → List Rec → List Rec → List ℕ → Field → Image
-withBody c nodes statements more body =
+abbrev pub with_body : Contract → List Rec → List Rec → List ℕ → Field → Image
+with_body c nodes statements more body =
     build
     record {
       texts = texts;
@@ -170,11 +170,11 @@ withBody c nodes statements more body =
 
 -- the last n of the statements are its body
 abbrev pub of : Contract → List Rec → List Rec → ℕ → Image
-of c nodes statements n = withBody c nodes statements [] (from (length statements - n) n)
+of c nodes statements n = with_body c nodes statements [] (from (length statements - n) n)
 
 -- its body is a list of statements by their numbers
 abbrev pub listed : Contract → List Rec → List Rec → List ℕ → Image
-listed c nodes statements list = withBody c nodes statements list (pair (length entries) (length list))
+listed c nodes statements list = with_body c nodes statements list (pair (length entries) (length list))
 
 -- ---- rows
 
@@ -197,8 +197,8 @@ ends im vs o u =
     record { image = im; function = 0; values = vs; outcome = o; steps = u; budgets = up_from 0 (u + 1) ++ 2000 ∷ [] }
 
 -- of many steps: tried with the budgets next to them
-abbrev pub endsLate : Image → List (Value ℕ) → Outcome Text → ℕ → Row
-endsLate im vs o u =
+abbrev pub ends_late : Image → List (Value ℕ) → Outcome Text → ℕ → Row
+ends_late im vs o u =
     record { image = im; function = 0; values = vs; outcome = o; steps = u; budgets = (u - 1) ∷ u ∷ 2000 ∷ [] }
 
 -- Spent with every budget, here those below 20
@@ -206,8 +206,8 @@ abbrev pub endless : Image → List (Value ℕ) → Row
 endless im vs = record { image = im; function = 0; values = vs; outcome = spent; steps = 20; budgets = up_from 0 20 }
 
 -- of the k-th function
-abbrev pub ofFunction : ℕ → Row → Row
-ofFunction k r =
+abbrev pub of_function : ℕ → Row → Row
+of_function k r =
     record {
       image = r.image;
       function = k;

@@ -4,8 +4,8 @@
 use Rattle.std.specs.Prelude.{◌≡◌, ℕ, List, [], ◌∷◌, ◌++◌, map, replicate, refl}
 use Rattle.rl_spec.specs.declared.Answer.TheVariants.{Accepted}
 use Rattle.rl_spec.specs.declared.Section.TheVariants.{Expressions, Statements}
-use Rattle.rl_spec.specs.Read.{answer_of, workOf}
-use Rattle.rl_spec.specs.Image.{num, pair, Rec, Image, bytes_of, encodeFields, encodeRecord, encodeRecords, encodeSections, encodeCounts, encode, image_of, sectionsIn, recordsIn, recordIn, next_at, end_at, fields_at, widthsOf, heights, heightsFrom, tallestChild, tallestEntry}
+use Rattle.rl_spec.specs.Read.{answer_of, work_of}
+use Rattle.rl_spec.specs.Image.{num, pair, Rec, Image, bytes_of, encode_fields, encode_record, encode_records, encode_sections, encode_counts, encode, image_of, sections_in, records_in, record_in, next_at, end_at, fields_at, widths_of, heights, heights_from, tallest_child, tallest_entry}
 use Rattle.rl_examples.specs.MarkedImages.{made}
 use Rattle.rl_examples.specs.ByteRows.{joined, reading}
 
@@ -235,38 +235,38 @@ image =
     }
 
 -- THEOREM: it is accepted, with its arena number and its counts
-pub answer-so : answer_of bytes 8192
+pub answer_so : answer_of bytes 8192
     ≡ Accepted (record { 0 = 0x04030201 })
     (record { bytes = 5; texts = 3; lists = 11; expressions = 42; statements = 16; parameters = 5; clauses = 3; functions = 2; calls = 1 })
 unfolding reading bytes sections
-answer-so = refl
+answer_so = refl
 
 -- THEOREM: the records are these, and these are the image's bytes
-pub image-so : image_of bytes ≡ image
-unfolding reading bytes sections image_of sectionsIn recordsIn recordIn next_at end_at fields_at widthsOf
-image-so = refl
+pub image_so : image_of bytes ≡ image
+unfolding reading bytes sections image_of sections_in records_in record_in next_at end_at fields_at widths_of
+image_so = refl
 
-pub encode-so : encode image ≡ bytes
-unfolding reading bytes sections bytes_of encodeFields encodeRecord encodeRecords encodeSections encodeCounts encode
-encode-so = refl
+pub encode_so : encode image ≡ bytes
+unfolding reading bytes sections bytes_of encode_fields encode_record encode_records encode_sections encode_counts encode
+encode_so = refl
 
 -- ---- heights
 
-abbrev pub ofExpressions : List ℕ
-ofExpressions =
+abbrev pub of_expressions : List ℕ
+of_expressions =
     -- 16 to 31; 32, 33, 34; 35 to 48; 49, 50, 51; 52, 53, 54; 55, 56, 57
     replicate 16 1 ++ (2 ∷ 3 ∷ 4 ∷ []) ++ replicate 14 2 ++ (3 ∷ 4 ∷ 5 ∷ []) ++ (2 ∷ 3 ∷ 4 ∷ []) ++ 1 ∷ 1 ∷ 1 ∷ []
 
-abbrev pub ofStatements : List ℕ
-ofStatements =
+abbrev pub of_statements : List ℕ
+of_statements =
     -- 64 to 67; 69, 68; 70, 71; 72, 73; 74; 76, 75; 77, 78, 79
     1 ∷ 1 ∷ 1 ∷ 1 ∷ 2 ∷ 3 ∷ 2 ∷ 2 ∷ 3 ∷ 4 ∷ 2 ∷ 2 ∷ 3 ∷ 1 ∷ 1 ∷ 1 ∷ []
 
-pub heights-so : (heights image Expressions ≡ ofExpressions) × (heights image Statements ≡ ofStatements)
-unfolding reading sections heights heightsFrom tallestChild tallestEntry
-heights-so = (refl, refl)
+pub heights_so : (heights image Expressions ≡ of_expressions) × (heights image Statements ≡ of_statements)
+unfolding reading sections heights heights_from tallest_child tallest_entry
+heights_so = (refl, refl)
 
 -- THEOREM: the work slice has the heights of the expressions, then of the statements, then zeros
-pub work-so : workOf bytes 8192 ≡ ofExpressions ++ ofStatements ++ replicate 8134 0
-unfolding reading bytes sections workOf
-work-so = refl
+pub work_so : work_of bytes 8192 ≡ of_expressions ++ of_statements ++ replicate 8134 0
+unfolding reading bytes sections work_of
+work_so = refl

@@ -32,9 +32,9 @@ counts =
     ∷ []
 
 -- THEOREM: they are answered so
-pub counts-so : map actual counts ≡ map expected counts
+pub counts_so : map actual counts ≡ map expected counts
 unfolding reading counts
-counts-so = refl
+counts_so = refl
 
 -- ---- heights
 
@@ -91,6 +91,6 @@ heights =
     ∷ []
 
 -- THEOREM: they are answered so
-pub heights-so : map actual heights ≡ map expected heights
+pub heights_so : map actual heights ≡ map expected heights
 unfolding reading chain heights
-heights-so = refl
+heights_so = refl

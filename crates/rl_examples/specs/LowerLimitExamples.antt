@@ -2,10 +2,10 @@
 -- Assumes nothing.
 use Rattle.std.specs.Prelude.{◌≡◌, ℕ, true, false, [], ◌∷◌, replicate, refl}
 use Rattle.std.proofs.Math.Option.{Option, none, some}
-use Rattle.rl_spec.specs.Image.{num, pair, Image, noRecord}
+use Rattle.rl_spec.specs.Image.{num, pair, Image, no_record}
 use Rattle.rl_spec.specs.Tree.{ascii}
-use Rattle.rl_spec.specs.Contracts.{is_some}
-use Rattle.rl_spec.specs.Make.{Context, made, newText, newList, stmt}
+use Rattle.rl_spec.specs.FnContracts.{is_some}
+use Rattle.rl_spec.specs.Make.{Context, made, new_text, new_list, stmt}
 use Rattle.rl_spec.specs.Lower.{expr, fitting}
 use Rattle.rl_examples.specs.LowerExamples.{lowering}
 
@@ -19,12 +19,12 @@ filled bytes texts lists expressions statements =
             arena = 1;
             bytes = replicate bytes 65;
             records =
-                replicate texts noRecord ∷ replicate lists noRecord ∷ replicate expressions noRecord ∷ replicate statements noRecord
+                replicate texts no_record ∷ replicate lists no_record ∷ replicate expressions no_record ∷ replicate statements no_record
                 ∷ [] ∷ [] ∷ [] ∷ [] ∷ [];
           };
       span = 9;
-      isResult = false;
-      tempCounter = 0;
+      is_result = false;
+      temp_counter = 0;
       limited = true;
     }
 
@@ -34,18 +34,18 @@ answered none = none
 answered (some r) = some r.0
 
 -- the last of each that there is room for
-pub last-ones : (answered (newText (ascii "ab") (filled 16382 2047 0 0 0)) ≡ some 2047)
-    × (answered (newList (1 ∷ 2 ∷ []) (filled 0 0 4094 0 0)) ≡ some (pair 4094 2))
-    × (answered (newList [] (filled 0 0 4096 0 0)) ≡ some (pair 4096 0))
+pub last_ones : (answered (new_text (ascii "ab") (filled 16382 2047 0 0 0)) ≡ some 2047)
+    × (answered (new_list (1 ∷ 2 ∷ []) (filled 0 0 4094 0 0)) ≡ some (pair 4094 2))
+    × (answered (new_list [] (filled 0 0 4096 0 0)) ≡ some (pair 4096 0))
     × (answered (expr 16 [] (filled 0 0 0 4095 0)) ≡ some 4095)
     × (answered (stmt 77 9 [] (filled 0 0 0 0 2047)) ≡ some 2047)
 unfolding lowering
-last-ones = (refl, refl, refl, refl, refl)
+last_ones = (refl, refl, refl, refl, refl)
 
 -- and one too many
-pub too_many : (answered (newText (ascii "ab") (filled 16383 2047 0 0 0)) ≡ none)
-    × (answered (newText (ascii "ab") (filled 16382 2048 0 0 0)) ≡ none)
-    × (answered (newList (1 ∷ 2 ∷ []) (filled 0 0 4095 0 0)) ≡ none)
+pub too_many : (answered (new_text (ascii "ab") (filled 16383 2047 0 0 0)) ≡ none)
+    × (answered (new_text (ascii "ab") (filled 16382 2048 0 0 0)) ≡ none)
+    × (answered (new_list (1 ∷ 2 ∷ []) (filled 0 0 4095 0 0)) ≡ none)
     × (answered (expr 16 [] (filled 0 0 0 4096 0)) ≡ none)
     × (answered (stmt 77 9 [] (filled 0 0 0 0 2048)) ≡ none)
 unfolding lowering

@@ -4,18 +4,18 @@ use Rattle.std.specs.Prelude.{◌≡◌, ℕ, List, [], ◌∷◌, map, replicat
 use Prim.Native.String.{String}
 use Rattle.std.proofs.Math.Option.{Option, none, some}
 use Rattle.rl_spec.specs.declared.Section.TheVariants.{Statements}
-use Rattle.rl_spec.specs.Image.{Field, num, pair, Rec, Image, recordOf}
+use Rattle.rl_spec.specs.Image.{Field, num, pair, Rec, Image, record_of_lem}
 use Rattle.rl_spec.specs.Tree.{ascii}
 use Rattle.rl_spec.specs.Make.{made}
 use Rattle.rl_spec.specs.Lower.{lowered}
 use Rattle.rl_examples.specs.MarkedImages.{bool, identifier, clause, function, build}
-use Rattle.rl_examples.specs.LowerExamples.{new, image, under-ensures, statementsFrom, textsFrom, nodesFrom, lowering, decoding, read_by}
+use Rattle.rl_examples.specs.LowerExamples.{new, image, under_ensures, statements_from, texts_from, nodes_from, lowering, decoding, read_by}
 
 -- ---- the images
 
 -- two functions with the spans 9 and 4, of which the second has a requires, of an Identifier and without a message
-abbrev pub two-spans : Image
-two-spans =
+abbrev pub two_spans : Image
+two_spans =
     build
     record {
       texts = "f" ∷ "p" ∷ [];
@@ -30,12 +30,12 @@ two-spans =
     }
 
 -- twelve returns
-abbrev pub twelve-returns : Image
-twelve-returns = under-ensures (made 66 (num 5 ∷ num 0 ∷ []) ∷ []) (replicate 12 0) (pair 0 12)
+abbrev pub twelve_returns : Image
+twelve_returns = under_ensures (made 66 (num 5 ∷ num 0 ∷ []) ∷ []) (replicate 12 0) (pair 0 12)
 
 -- requires p, ensures ret, `return true`
-abbrev pub both-clauses : Image
-both-clauses =
+abbrev pub both_clauses : Image
+both_clauses =
     image
     ("f" ∷ "p" ∷ "ret" ∷ [])
     (0 ∷ [])
@@ -45,11 +45,11 @@ both-clauses =
     (function 0 9 (pair 0 0) (pair 0 1) (pair 0 1) (pair 1 1))
 
 -- what is made for requires comes before what is made for ensures
-abbrev pub both-lowered : Image
-both-lowered =
+abbrev pub both_lowered : Image
+both_lowered =
     image
-    ("f" ∷ "p" ∷ "ret" ∷ "requires violated" ∷ "std" ∷ "res" ∷ "result_unwrap" ∷ "__ensure_ret_0" ∷ "__ensure_ret_0" ∷ "ret"
-    ∷ "ensures violated" ∷ "std" ∷ "res" ∷ "result_unwrap" ∷ "__ensure_ret_0" ∷ [])
+    ("f" ∷ "p" ∷ "ret" ∷ "requires violated" ∷ "std" ∷ "res" ∷ "result_unwrap_lem" ∷ "__ensure_ret_0" ∷ "__ensure_ret_0" ∷ "ret"
+    ∷ "ensures violated" ∷ "std" ∷ "res" ∷ "result_unwrap_lem" ∷ "__ensure_ret_0" ∷ [])
     (0 ∷ 4 ∷ 5 ∷ 6 ∷ 6 ∷ 1 ∷ 11 ∷ 12 ∷ 13 ∷ 12 ∷ 6 ∷ 3 ∷ 4 ∷ 5 ∷ 8 ∷ 9 ∷ [])
     (identifier 1 ∷ identifier 2 ∷ bool 1
     -- the message, the copy, its negation, err(message), result_unwrap(err(message))
@@ -76,15 +76,15 @@ among statements lists body =
     (function 0 9 (pair 0 0) body (pair 0 0) (pair 0 1))
 
 -- a match on node 3, with a return in an arm whose pattern is node 4
-abbrev pub arm-of-pattern : Image
-arm-of-pattern =
+abbrev pub arm_of_pattern : Image
+arm_of_pattern =
     among
     (made 66 (num 5 ∷ num 0 ∷ []) ∷ made 76 (num 6 ∷ num 4 ∷ pair 0 1 ∷ []) ∷ made 75 (num 7 ∷ num 3 ∷ pair 1 1 ∷ []) ∷ [])
     (0 ∷ 1 ∷ 2 ∷ []) (pair 2 1)
 
 -- a return in a For, a ForRange and a ForEach, each with numbers of its own
-abbrev pub three-loops : Image
-three-loops =
+abbrev pub three_loops : Image
+three_loops =
     among
     (made 66 (num 5 ∷ num 0 ∷ []) ∷ made 77 (num 6 ∷ []) ∷ made 78 (num 7 ∷ [])
     ∷ made 72 (num 8 ∷ num 1 ∷ num 3 ∷ num 4 ∷ pair 0 1 ∷ []) ∷ made 73 (num 10 ∷ num 3 ∷ num 2 ∷ pair 0 1 ∷ [])
@@ -94,39 +94,39 @@ three-loops =
 -- ---- what is made of them
 
 -- the new texts of returns, by their temporaries
-unfoldable pub returnTexts : List String → List String
-returnTexts [] = []
-returnTexts (temp ∷ temps) = temp ∷ temp ∷ "ret" ∷ "std" ∷ "res" ∷ "result_unwrap" ∷ temp ∷ returnTexts temps
+unfoldable pub return_texts : List String → List String
+return_texts [] = []
+return_texts (temp ∷ temps) = temp ∷ temp ∷ "ret" ∷ "std" ∷ "res" ∷ "result_unwrap_lem" ∷ temp ∷ return_texts temps
 
-abbrev statementsAt : List ℕ → Option Image → List Rec
-statementsAt ns none = []
-statementsAt ns (some im) = map (recordOf im Statements) ns
+abbrev statements_at : List ℕ → Option Image → List Rec
+statements_at ns none = []
+statements_at ns (some im) = map (record_of_lem im Statements) ns
 
 pub record NewRecords : Type 0 where
   -- the reader accepts them all
-  pub accepted : map (λ im. read_by (some im)) (two-spans ∷ twelve-returns ∷ both-clauses ∷ arm-of-pattern ∷ three-loops ∷ [])
+  pub accepted : map (λ im. read_by (some im)) (two_spans ∷ twelve_returns ∷ both_clauses ∷ arm_of_pattern ∷ three_loops ∷ [])
       ≡ 0 ∷ 0 ∷ 0 ∷ 0 ∷ 0 ∷ []
   -- new records take the span of the function that is lowered; the copy keeps its own
-  pub second-nodes : nodesFrom 1 (lowered two-spans 1)
+  pub second_nodes : nodes_from 1 (lowered two_spans 1)
       ≡ made 25 (num 4 ∷ num 2 ∷ []) ∷ identifier 1 ∷ made 33 (num 4 ∷ num 5 ∷ num 2 ∷ []) ∷ made 50 (num 4 ∷ num 1 ∷ [])
       ∷ made 41 (num 4 ∷ pair 0 3 ∷ pair 3 1 ∷ []) ∷ []
-  pub second-statements : statementsFrom 0 (lowered two-spans 1)
+  pub second_statements : statements_from 0 (lowered two_spans 1)
       ≡ made 65 (num 4 ∷ num 5 ∷ []) ∷ made 69 (num 4 ∷ num 3 ∷ pair 4 1 ∷ num 0 ∷ []) ∷ made 68 (num 4 ∷ num 1 ∷ num 65535 ∷ []) ∷ []
   -- temporaries with two digits
-  pub twelve-temporaries : textsFrom 2 (lowered twelve-returns 0)
-      ≡ map ascii (returnTexts ("__ensure_ret_0" ∷ "__ensure_ret_1" ∷ "__ensure_ret_2" ∷ "__ensure_ret_3" ∷ "__ensure_ret_4"
+  pub twelve_temporaries : texts_from 2 (lowered twelve_returns 0)
+      ≡ map ascii (return_texts ("__ensure_ret_0" ∷ "__ensure_ret_1" ∷ "__ensure_ret_2" ∷ "__ensure_ret_3" ∷ "__ensure_ret_4"
       ∷ "__ensure_ret_5" ∷ "__ensure_ret_6" ∷ "__ensure_ret_7" ∷ "__ensure_ret_8" ∷ "__ensure_ret_9" ∷ "__ensure_ret_10"
       ∷ "__ensure_ret_11" ∷ []))
-  pub both-whole : lowered both-clauses 0 ≡ some both-lowered
+  pub both_whole : lowered both_clauses 0 ≡ some both_lowered
   -- the arm keeps its pattern, the match what it is on
-  pub pattern-kept : statementsFrom 9 (lowered arm-of-pattern 0)
+  pub pattern_kept : statements_from 9 (lowered arm_of_pattern 0)
       ≡ made 76 (num 6 ∷ num 4 ∷ pair 8 4 ∷ []) ∷ made 75 (num 7 ∷ num 3 ∷ pair 12 1 ∷ []) ∷ []
   -- a loop keeps its inner statement, its text and its nodes
-  pub loops-kept : statementsAt (12 ∷ 19 ∷ 26 ∷ []) (lowered three-loops 0)
+  pub loops_kept : statements_at (12 ∷ 19 ∷ 26 ∷ []) (lowered three_loops 0)
       ≡ made 72 (num 8 ∷ num 1 ∷ num 3 ∷ num 4 ∷ pair 9 4 ∷ []) ∷ made 73 (num 10 ∷ num 3 ∷ num 2 ∷ pair 18 4 ∷ [])
       ∷ made 74 (num 11 ∷ num 2 ∷ num 4 ∷ pair 27 4 ∷ []) ∷ []
 
 -- THEOREM
-pub new-records-so : NewRecords
-unfolding lowering decoding returnTexts
-new-records-so = record { accepted = refl; second-nodes = refl; second-statements = refl; twelve-temporaries = refl; both-whole = refl; pattern-kept = refl; loops-kept = refl }
+pub new_records_so : NewRecords
+unfolding lowering decoding return_texts
+new_records_so = record { accepted = refl; second_nodes = refl; second_statements = refl; twelve_temporaries = refl; both_whole = refl; pattern_kept = refl; loops_kept = refl }

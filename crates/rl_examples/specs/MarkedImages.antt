@@ -64,8 +64,8 @@ slash = 4
 abbrev pub compare : ℕ
 compare = 6
 
-abbrev pub bangEqual : ℕ
-bangEqual = 7
+abbrev pub bang_equal : ℕ
+bang_equal = 7
 
 abbrev pub less : ℕ
 less = 8
@@ -92,14 +92,14 @@ call t span args = made 83 (num t ∷ num span ∷ args ∷ [])
 -- ---- images
 
 -- texts one after the other in the text bytes, and their records, the first from a place on
-unfoldable pub textBytes : List String → List ℕ
-textBytes [] = []
-textBytes (t ∷ ts) = ascii t ++ textBytes ts
+unfoldable pub text_bytes : List String → List ℕ
+text_bytes [] = []
+text_bytes (t ∷ ts) = ascii t ++ text_bytes ts
 
-unfoldable pub textRecords : ℕ → List String → List Rec
-textRecords at [] = []
-textRecords at (t ∷ ts) =
-    made 2 (pair at (length (ascii t)) ∷ []) ∷ textRecords (at + length (ascii t)) ts
+unfoldable pub text_records : ℕ → List String → List Rec
+text_records at [] = []
+text_records at (t ∷ ts) =
+    made 2 (pair at (length (ascii t)) ∷ []) ∷ text_records (at + length (ascii t)) ts
 
 -- what an image is built from
 pub record Parts : Type 0 where
@@ -116,9 +116,9 @@ abbrev pub build : Parts → Image
 build p =
     record {
       arena = 1;
-      bytes = textBytes p.texts;
+      bytes = text_bytes p.texts;
       records =
-          textRecords 0 p.texts ∷ map (λ n. made 3 (num n ∷ [])) p.lists ∷ p.expressions ∷ p.statements
+          text_records 0 p.texts ∷ map (λ n. made 3 (num n ∷ [])) p.lists ∷ p.expressions ∷ p.statements
           ∷ p.parameters ∷ p.clauses ∷ p.functions ∷ p.calls ∷ [];
     }
 
@@ -138,18 +138,18 @@ nodes texts expressions =
     }
 
 -- the last node of an image
-abbrev pub lastNode : Image → Id
-lastNode im = record { arena = record { 0 = im.arena }; node = record { 0 = size_of im Expressions - 1 } }
+abbrev pub last_node : Image → Id
+last_node im = record { arena = record { 0 = im.arena }; node = record { 0 = size_of im Expressions - 1 } }
 
 -- f(1, a), parameters a and b; requires b != 1 else "b is 1", b == 1 else "b is another"
-abbrev pub named-before : Image
-named-before =
+abbrev pub named_before : Image
+named_before =
     build
     record {
       texts = "f" ∷ "a" ∷ "b" ∷ "b is 1" ∷ "b is another" ∷ [];
       lists = 0 ∷ 1 ∷ [];
       expressions =
-          integer (pos 1) ∷ identifier 1 ∷ identifier 2 ∷ binary 2 bangEqual 0 ∷ string 3 ∷ binary 2 compare 0 ∷ string 4 ∷ [];
+          integer (pos 1) ∷ identifier 1 ∷ identifier 2 ∷ binary 2 bang_equal 0 ∷ string 3 ∷ binary 2 compare 0 ∷ string 4 ∷ [];
       statements = [];
       parameters = parameter 1 ∷ parameter 2 ∷ [];
       clauses = clause 3 4 ∷ clause 5 6 ∷ [];
@@ -158,8 +158,8 @@ named-before =
     }
 
 -- f(y, 5), parameters x > 9 and y
-abbrev pub named-behind : Image
-named-behind =
+abbrev pub named_behind : Image
+named_behind =
     build
     record {
       texts = "f" ∷ "x" ∷ "y" ∷ [];
@@ -173,8 +173,8 @@ named-behind =
     }
 
 -- f(), whose body is `return true`, ensures `ret` without a message
-abbrev pub returns-true : Image
-returns-true =
+abbrev pub returns_true : Image
+returns_true =
     build
     record {
       texts = "f" ∷ "ret" ∷ [];

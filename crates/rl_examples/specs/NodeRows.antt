@@ -15,18 +15,18 @@ use Rattle.rl_spec.specs.declared.RunAnswer.{RunAnswer}
 use Rattle.rl_spec.specs.declared.RunAnswer.TheVariants.{Ran, Refused}
 use Rattle.rl_spec.specs.declared.Value.TheVariants.{Plain as Bare, Ok, Err}
 use Rattle.rl_spec.specs.Image.{num, pair, Rec, Image, text_of}
-use Rattle.rl_spec.specs.Values.{compareValues, compare_floats, compareBools, lessText, sameText, arithValues, bang, negate}
-use Rattle.rl_spec.specs.Folded.{asFolded}
-use Rattle.rl_spec.specs.Tree.{ascii, formBy, descendBy, descend, exprTree}
-use Rattle.rl_spec.specs.Fold.{unaryValue, unaryFolded, binaryValue, binaryFolded, lookup, constEval}
-use Rattle.rl_spec.specs.Records.{param_at, functionAt}
+use Rattle.rl_spec.specs.Values.{compare_values, compare_floats, compare_bools, less_text, same_text, arith_values, bang, negate}
+use Rattle.rl_spec.specs.Folded.{as_folded}
+use Rattle.rl_spec.specs.Tree.{ascii, form_by, descend_by, descend, expr_tree}
+use Rattle.rl_spec.specs.Fold.{unary_value, unary_folded, binary_value, binary_folded, lookup, const_eval}
+use Rattle.rl_spec.specs.Records.{param_at, function_at}
 use Rattle.rl_spec.specs.Ranges.{up_from}
-use Rattle.rl_spec.specs.Statement.{statementBy, itemTree}
+use Rattle.rl_spec.specs.Statement.{statement_by, item_tree}
 use Rattle.rl_spec.specs.Run.{find, eval}
-use Rattle.rl_spec.specs.Reading.{top, runFunction}
-use Rattle.rl_spec.specs.Functions.{plainFunction}
-use Rattle.rl_spec.specs.Runner.{ranIn}
-use Rattle.rl_examples.specs.MarkedImages.{made, binary, unary, function, textBytes, textRecords, build}
+use Rattle.rl_spec.specs.Reading.{top, run_function}
+use Rattle.rl_spec.specs.Functions.{plain_function}
+use Rattle.rl_spec.specs.Runner.{ran_in}
+use Rattle.rl_examples.specs.MarkedImages.{made, binary, unary, function, text_bytes, text_records, build}
 
 -- the texts "", "a", "ab", "b", "ab", and, by their bytes, "é" and "è"; the nodes; and a function without parameters whose body is the last node alone, a bare expression
 abbrev pub around : List Rec → Image
@@ -47,8 +47,8 @@ around nodes =
 
 pub data Seen : Type 0 where
   whole : ℤ → Seen
-  aFloat : ℕ → Seen
-  aNan : Seen
+  a_float : ℕ → Seen
+  a_nan : Seen
   text : ℕ → Seen
   truth : Bool → Seen
   null : Seen
@@ -61,34 +61,34 @@ pub data Ended : Type 0 where
 
 abbrev seen : ConstVal → Seen
 seen (Int z) = whole z
-seen (Float x) = cond (F.is_nan x) aNan (aFloat (F.to_bits binary64 x))
+seen (Float x) = cond (F.is_nan x) a_nan (a_float (F.to_bits binary64 x))
 seen (Str t) = text t
 seen (Truth b) = truth b
 
-abbrev seenFolded : Folded → Option Seen
-seenFolded (Value v) = some (seen v)
-seenFolded Nothing = none
+abbrev seen_folded : Folded → Option Seen
+seen_folded (Value v) = some (seen v)
+seen_folded Nothing = none
 
 -- the last node
-abbrev pub foldedTo : List Rec → Option Seen
-foldedTo nodes = seenFolded (asFolded (constEval (text_of (around nodes)) [] (exprTree (around nodes) (length nodes - 1))))
+abbrev pub folded_to : List Rec → Option Seen
+folded_to nodes = seen_folded (as_folded (const_eval (text_of (around nodes)) [] (expr_tree (around nodes) (length nodes - 1))))
 
-abbrev seenPlain : Plain → Seen
-seenPlain Null = null
-seenPlain (Const v) = seen v
+abbrev seen_plain : Plain → Seen
+seen_plain Null = null
+seen_plain (Const v) = seen v
 
-abbrev seenRun : RunAnswer → Ended × ℕ
-seenRun (Ran (Returned (Bare p)) n) = (gives (seenPlain p), n)
-seenRun (Ran (Returned (Ok p)) n) = (another, n)
-seenRun (Ran (Returned (Err p)) n) = (another, n)
-seenRun (Ran (Stopped p) n) = (another, n)
-seenRun (Ran (Fault k) n) = (faults k, n)
-seenRun (Ran Spent n) = (another, n)
-seenRun (Refused q n) = (another, 0)
+abbrev seen_run : RunAnswer → Ended × ℕ
+seen_run (Ran (Returned (Bare p)) n) = (gives (seen_plain p), n)
+seen_run (Ran (Returned (Ok p)) n) = (another, n)
+seen_run (Ran (Returned (Err p)) n) = (another, n)
+seen_run (Ran (Stopped p) n) = (another, n)
+seen_run (Ran (Fault k) n) = (faults k, n)
+seen_run (Ran Spent n) = (another, n)
+seen_run (Refused q n) = (another, 0)
 
 -- the function, with the steps
-abbrev pub ranTo : List Rec → Ended × ℕ
-ranTo nodes = seenRun (ranIn (around nodes) 0 [] 1000)
+abbrev pub ran_to : List Rec → Ended × ℕ
+ran_to nodes = seen_run (ran_in (around nodes) 0 [] 1000)
 
 -- ---- a row
 
@@ -104,24 +104,24 @@ pub data Row : Type 0 where
   -- nodes; what the last one folds to; what its run comes to, and its steps
   node : List Rec → Folds → Ended → ℕ → Row
 
-abbrev seenOf : List Rec → Folds × (Ended × ℕ)
-seenOf nodes = (foldedTo nodes, ranTo nodes)
+abbrev seen_of : List Rec → Folds × (Ended × ℕ)
+seen_of nodes = (folded_to nodes, ran_to nodes)
 
 abbrev pub actual : Row → List (Folds × (Ended × ℕ))
-actual (binaries l r arithmetic verdicts) = map (λ op. seenOf (l ∷ r ∷ binary 0 op 1 ∷ [])) (up_from 1 12)
-actual (unaries e negation bang) = map (λ op. seenOf (e ∷ unary op 0 ∷ [])) (up_from 1 12)
-actual (node nodes v o n) = seenOf nodes ∷ []
+actual (binaries l r arithmetic verdicts) = map (λ op. seen_of (l ∷ r ∷ binary 0 op 1 ∷ [])) (up_from 1 12)
+actual (unaries e negation bang) = map (λ op. seen_of (e ∷ unary op 0 ∷ [])) (up_from 1 12)
+actual (node nodes v o n) = seen_of nodes ∷ []
 
 -- it is run to what it folds to, in n steps; fault 4 where that is nothing
-abbrev alsoRun : ℕ → Folds → Folds × (Ended × ℕ)
-alsoRun n none = (none, (faults 4, n))
-alsoRun n (some v) = (some v, (gives v, n))
+abbrev also_run : ℕ → Folds → Folds × (Ended × ℕ)
+also_run n none = (none, (faults 4, n))
+also_run n (some v) = (some v, (gives v, n))
 
 -- a step for the statement and one for each node
 abbrev pub expected : Row → List (Folds × (Ended × ℕ))
-expected (binaries l r arithmetic verdicts) = map (alsoRun 4) (arithmetic ++ none ∷ verdicts ++ none ∷ [])
+expected (binaries l r arithmetic verdicts) = map (also_run 4) (arithmetic ++ none ∷ verdicts ++ none ∷ [])
 expected (unaries e negation bang) =
-    map (alsoRun 3) (none ∷ negation ∷ none ∷ none ∷ bang ∷ none ∷ none ∷ none ∷ none ∷ none ∷ none ∷ none ∷ [])
+    map (also_run 3) (none ∷ negation ∷ none ∷ none ∷ bang ∷ none ∷ none ∷ none ∷ none ∷ none ∷ none ∷ none ∷ [])
 expected (node nodes v o n) = (v, (o, n)) ∷ []
 
 -- ---- the literals of rows, and what is seen
@@ -142,11 +142,11 @@ abbrev pub minus : ℕ → Folds
 minus n = some (whole (negsuc (n - 1)))
 
 abbrev pub bits : ℕ → Folds
-bits n = some (aFloat n)
+bits n = some (a_float n)
 
 -- `inf - inf` is a value
 abbrev pub notANumber : Folds
-notANumber = some aNan
+notANumber = some a_nan
 
 abbrev pub yes : Folds
 yes = some (truth true)
@@ -181,15 +181,15 @@ unlike = no ∷ yes ∷ none ∷ none ∷ none ∷ none ∷ []
 abbrev pub incomparable : List Folds
 incomparable = none ∷ none ∷ none ∷ none ∷ none ∷ none ∷ []
 
-abbrev pub noArithmetic : List Folds
-noArithmetic = none ∷ none ∷ none ∷ none ∷ []
+abbrev pub no_arithmetic : List Folds
+no_arithmetic = none ∷ none ∷ none ∷ none ∷ []
 
 -- ---- what computation opens of folding a node and of running it
 
 unfoldable pub folding : Unit {0}
-unfolding textBytes textRecords ascii up_from formBy descendBy descend exprTree unaryValue unaryFolded binaryValue binaryFolded lookup constEval compareValues compare_floats compareBools lessText sameText arithValues bang negate F.of_int F.round F.of_bits F.of_fields F.to_bits F.odd F.units F.size F.climb F.span F.eq F.lt F.is_nan F.neg F.add F.sub F.mul F.div F.sum
+unfolding text_bytes text_records ascii up_from form_by descend_by descend expr_tree unary_value unary_folded binary_value binary_folded lookup const_eval compare_values compare_floats compare_bools less_text same_text arith_values bang negate F.of_int F.round F.of_bits F.of_fields F.to_bits F.odd F.units F.size F.climb F.span F.eq F.lt F.is_nan F.neg F.add F.sub F.mul F.div F.sum
 folding = tt
 
 unfoldable pub evaluating : Unit {0}
-unfolding param_at functionAt statementBy itemTree plainFunction find eval top runFunction ranIn
+unfolding param_at function_at statement_by item_tree plain_function find eval top run_function ran_in
 evaluating = tt

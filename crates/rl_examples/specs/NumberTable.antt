@@ -12,7 +12,7 @@ use Rattle.rl_spec.specs.Read.{number_of, packed}
 use Rattle.rl_spec.specs.Tree.{ascii}
 use Rattle.rl_spec.specs.Ranges.{up_from}
 use Rattle.rl_spec.specs.Words.{bits64}
-use Rattle.rl_spec.specs.Runner.{valueSort, valuePayload}
+use Rattle.rl_spec.specs.Runner.{value_sort, value_payload}
 
 -- from 1 on, in the table's words
 abbrev pub causes : List Cause
@@ -46,13 +46,13 @@ causes =
     ∷ BudgetOverLimit
     ∷ PagesTooShort ∷ []
 
-pub numbers-so : map number_of causes
+pub numbers_so : map number_of causes
     ≡ 1 ∷ 2 ∷ 3 ∷ 4 ∷ 5 ∷ 6 ∷ 7 ∷ 8 ∷ 9 ∷ 10 ∷ 11 ∷ 12 ∷ 13 ∷ 14 ∷ 15 ∷ 16 ∷ 17 ∷ 18 ∷ 19 ∷ 20 ∷ 21 ∷ 22 ∷ []
-numbers-so = refl
+numbers_so = refl
 
 -- 6 at the place 300: the number above the 32 low bits
-pub packed-so : packed (Refused BadText 300) ≡ 25769804076
-packed-so = refl
+pub packed_so : packed (Refused BadText 300) ≡ 25769804076
+packed_so = refl
 
 -- values with their two words: the sort, 0 Null, 1 Int, 3 Str, 4 Bool, 8 more in an Ok, 16 more in an Err; and the payload
 abbrev pub values : List Value
@@ -67,22 +67,22 @@ values =
     ∷ Ok (Const (Int (pos 5)))
     ∷ Err (Const (Str 7)) ∷ []
 
-pub sorts-so : map valueSort values ≡ 0 ∷ 1 ∷ 1 ∷ 3 ∷ 4 ∷ 4 ∷ 8 ∷ 9 ∷ 19 ∷ []
-sorts-so = refl
+pub sorts_so : map value_sort values ≡ 0 ∷ 1 ∷ 1 ∷ 3 ∷ 4 ∷ 4 ∷ 8 ∷ 9 ∷ 19 ∷ []
+sorts_so = refl
 
-pub payloads-so : map valuePayload values ≡ 0 ∷ 5 ∷ 18446744073709551615 ∷ 7 ∷ 1 ∷ 0 ∷ 0 ∷ 5 ∷ 7 ∷ []
-payloads-so = refl
+pub payloads_so : map value_payload values ≡ 0 ∷ 5 ∷ 18446744073709551615 ∷ 7 ∷ 1 ∷ 0 ∷ 0 ∷ 5 ∷ 7 ∷ []
+payloads_so = refl
 
 -- ---- what rows are written with: the bytes of a text, two's complement, and numbers in a row
 
-pub ascii-so : ascii "az AZ __ 09 >=<!: (i)" ≡ 97 ∷ 122 ∷ 32 ∷ 65 ∷ 90 ∷ 32 ∷ 95 ∷ 95 ∷ 32 ∷ 48 ∷ 57 ∷ 32 ∷ 62 ∷ 61 ∷ 60 ∷ 33 ∷ 58 ∷ 32 ∷ 40 ∷ 105 ∷ 41 ∷ []
+pub ascii_so : ascii "az AZ __ 09 >=<!: (i)" ≡ 97 ∷ 122 ∷ 32 ∷ 65 ∷ 90 ∷ 32 ∷ 95 ∷ 95 ∷ 32 ∷ 48 ∷ 57 ∷ 32 ∷ 62 ∷ 61 ∷ 60 ∷ 33 ∷ 58 ∷ 32 ∷ 40 ∷ 105 ∷ 41 ∷ []
 unfolding ascii
-ascii-so = refl
+ascii_so = refl
 
-pub bits-so : map bits64 (pos 0 ∷ pos 9223372036854775807 ∷ negsuc 0 ∷ negsuc 9223372036854775807 ∷ [])
+pub bits_so : map bits64 (pos 0 ∷ pos 9223372036854775807 ∷ negsuc 0 ∷ negsuc 9223372036854775807 ∷ [])
     ≡ 0 ∷ 9223372036854775807 ∷ 18446744073709551615 ∷ 9223372036854775808 ∷ []
-bits-so = refl
+bits_so = refl
 
-pub row-so : up_from 3 4 ≡ 3 ∷ 4 ∷ 5 ∷ 6 ∷ []
+pub row_so : up_from 3 4 ≡ 3 ∷ 4 ∷ 5 ∷ 6 ∷ []
 unfolding up_from
-row-so = refl
+row_so = refl

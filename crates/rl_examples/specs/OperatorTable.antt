@@ -7,11 +7,11 @@ use Rattle.rl_spec.specs.Image.{num, pair}
 use Rattle.rl_spec.specs.Ranges.{up_from}
 use Rattle.rl_spec.specs.Run.{update}
 use Rattle.rl_examples.specs.MarkedImages.{made, string, bool, float, binary, unary, grouping}
-use Rattle.rl_examples.specs.NodeRows.{whole, aFloat, aNan, text, truth, null, gives, faults, another, Row, binaries, unaries, node, actual, expected, literal, number, negative, int, minus, bits, yes, no, folds, lacks, less, same, greater, alike, unlike, incomparable, noArithmetic, folding, evaluating}
+use Rattle.rl_examples.specs.NodeRows.{whole, a_float, a_nan, text, truth, null, gives, faults, another, Row, binaries, unaries, node, actual, expected, literal, number, negative, int, minus, bits, yes, no, folds, lacks, less, same, greater, alike, unlike, incomparable, no_arithmetic, folding, evaluating}
 
 -- the operator bytes 13 to 63 have no value: of two numbers, of one, of a truth value
-abbrev pub otherTokens : List Row
-otherTokens =
+abbrev pub other_tokens : List Row
+other_tokens =
     map (λ op. node (number 1 ∷ number 2 ∷ binary 0 op 1 ∷ []) none (faults 4) 4) (up_from 13 51)
     ++ map (λ op. node (number 7 ∷ unary op 0 ∷ []) none (faults 4) 3) (up_from 13 51)
     ++ map (λ op. node (bool 1 ∷ unary op 0 ∷ []) none (faults 4) 3) (up_from 13 51)
@@ -57,42 +57,42 @@ rows =
     ∷ binaries (literal 22 0xF9) (literal 21 2) (minus 5 ∷ minus 9 ∷ minus 14 ∷ minus 3 ∷ []) less
     ∷ binaries (literal 24 0xFFFE) (literal 20 7) (int 5 ∷ minus 9 ∷ minus 14 ∷ int 0 ∷ []) less
     ∷ binaries (literal 23 3) (float 0x4004000000000000) (bits 0x4016000000000000 ∷ bits 0x3FE0000000000000 ∷ bits 0x401E000000000000 ∷ bits 0x3FF3333333333333 ∷ []) greater
-    ∷ binaries (literal 21 1) (bool 1) noArithmetic incomparable
+    ∷ binaries (literal 21 1) (bool 1) no_arithmetic incomparable
     -- two texts, one of them twice in the image
     -- "" and "b"
-    ∷ binaries (string 0) (string 3) noArithmetic less
+    ∷ binaries (string 0) (string 3) no_arithmetic less
     -- "a" and "ab"
-    ∷ binaries (string 1) (string 2) noArithmetic less
+    ∷ binaries (string 1) (string 2) no_arithmetic less
     -- "ab" and "ab"
-    ∷ binaries (string 2) (string 2) noArithmetic same
+    ∷ binaries (string 2) (string 2) no_arithmetic same
     -- "ab" and "ab"
-    ∷ binaries (string 2) (string 4) noArithmetic same
+    ∷ binaries (string 2) (string 4) no_arithmetic same
     -- "ab" and "a"
-    ∷ binaries (string 2) (string 1) noArithmetic greater
+    ∷ binaries (string 2) (string 1) no_arithmetic greater
     -- "ab" and "b"
-    ∷ binaries (string 2) (string 3) noArithmetic less
+    ∷ binaries (string 2) (string 3) no_arithmetic less
     -- "b" and ""
-    ∷ binaries (string 3) (string 0) noArithmetic greater
+    ∷ binaries (string 3) (string 0) no_arithmetic greater
     -- "é" and "b", "b" and "é", "è" and "é"
-    ∷ binaries (string 5) (string 3) noArithmetic greater
-    ∷ binaries (string 3) (string 5) noArithmetic less
-    ∷ binaries (string 6) (string 5) noArithmetic less
+    ∷ binaries (string 5) (string 3) no_arithmetic greater
+    ∷ binaries (string 3) (string 5) no_arithmetic less
+    ∷ binaries (string 6) (string 5) no_arithmetic less
     -- two truth values
-    ∷ binaries (bool 0) (bool 0) noArithmetic alike
-    ∷ binaries (bool 0) (bool 1) noArithmetic unlike
-    ∷ binaries (bool 1) (bool 0) noArithmetic unlike
-    ∷ binaries (bool 1) (bool 1) noArithmetic alike
+    ∷ binaries (bool 0) (bool 0) no_arithmetic alike
+    ∷ binaries (bool 0) (bool 1) no_arithmetic unlike
+    ∷ binaries (bool 1) (bool 0) no_arithmetic unlike
+    ∷ binaries (bool 1) (bool 1) no_arithmetic alike
     -- sorts that do not go together
-    ∷ binaries (number 7) (string 1) noArithmetic incomparable
-    ∷ binaries (string 1) (number 7) noArithmetic incomparable
-    ∷ binaries (number 1) (bool 1) noArithmetic incomparable
-    ∷ binaries (bool 1) (number 1) noArithmetic incomparable
-    ∷ binaries (float 0x4004000000000000) (string 1) noArithmetic incomparable
-    ∷ binaries (string 1) (float 0x4004000000000000) noArithmetic incomparable
-    ∷ binaries (float 0x3FF0000000000000) (bool 1) noArithmetic incomparable
-    ∷ binaries (bool 1) (float 0x3FF0000000000000) noArithmetic incomparable
-    ∷ binaries (string 1) (bool 1) noArithmetic incomparable
-    ∷ binaries (bool 1) (string 1) noArithmetic incomparable
+    ∷ binaries (number 7) (string 1) no_arithmetic incomparable
+    ∷ binaries (string 1) (number 7) no_arithmetic incomparable
+    ∷ binaries (number 1) (bool 1) no_arithmetic incomparable
+    ∷ binaries (bool 1) (number 1) no_arithmetic incomparable
+    ∷ binaries (float 0x4004000000000000) (string 1) no_arithmetic incomparable
+    ∷ binaries (string 1) (float 0x4004000000000000) no_arithmetic incomparable
+    ∷ binaries (float 0x3FF0000000000000) (bool 1) no_arithmetic incomparable
+    ∷ binaries (bool 1) (float 0x3FF0000000000000) no_arithmetic incomparable
+    ∷ binaries (string 1) (bool 1) no_arithmetic incomparable
+    ∷ binaries (bool 1) (string 1) no_arithmetic incomparable
     -- one: `-`, byte 2, and `!`, byte 5
     ∷ unaries (number 7) (minus 7) none
     ∷ unaries (negative 7) (int 7) none
@@ -147,10 +147,10 @@ rows =
     ∷ folds (literal 26 0) (truth false)
     ∷ folds (literal 26 1) (truth true)
     -- Float, SFloat: 2.5 and a NaN
-    ∷ folds (literal 27 0x4004000000000000) (aFloat 0x4004000000000000)
-    ∷ folds (literal 27 0x7FF0000000000001) aNan
-    ∷ folds (literal 28 0x40200000) (aFloat 0x4004000000000000)
-    ∷ folds (literal 28 0xFFC00000) aNan
+    ∷ folds (literal 27 0x4004000000000000) (a_float 0x4004000000000000)
+    ∷ folds (literal 27 0x7FF0000000000001) a_nan
+    ∷ folds (literal 28 0x40200000) (a_float 0x4004000000000000)
+    ∷ folds (literal 28 0xFFC00000) a_nan
     -- Character; Identifier, here of no name that is known; ResolvedIdentifier
     ∷ lacks (literal 29 65) 1
     ∷ lacks (literal 30 1) 3
@@ -172,9 +172,9 @@ rows =
     ∷ node (literal 29 65 ∷ number 1 ∷ binary 1 1 0 ∷ []) none (faults 1) 4
     ∷ node (literal 29 65 ∷ unary 2 0 ∷ []) none (faults 1) 3
     ∷ node (number 7 ∷ grouping 0 ∷ []) (int 7) (gives (whole (pos 7))) 3
-    ∷ otherTokens
+    ∷ other_tokens
 
 -- THEOREM: they are folded and run so
-pub operators-so : map actual rows ≡ map expected rows
+pub operators_so : map actual rows ≡ map expected rows
 unfolding folding evaluating update rows
-operators-so = refl
+operators_so = refl

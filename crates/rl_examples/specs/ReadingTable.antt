@@ -5,21 +5,21 @@ use Rattle.std.specs.Prelude.{◌≡◌, ℕ, Bool, true, false, not, List, [], 
 use Rattle.std.specs.Float.Ieee.{of_bits, of_fields}
 use Rattle.rl_spec.specs.Image.{num, pair, Rec, Image, text_of}
 use Rattle.rl_spec.specs.Values as value
-use Rattle.rl_spec.specs.Values.{sameText, compareValues, arithValues, bang, negate}
-use Rattle.rl_spec.specs.Tree.{ascii, formBy, callForm, isResPath, descendBy, descend, exprTree}
+use Rattle.rl_spec.specs.Values.{same_text, compare_values, arith_values, bang, negate}
+use Rattle.rl_spec.specs.Tree.{ascii, form_by, call_form, is_res_path, descend_by, descend, expr_tree}
 use Rattle.rl_spec.specs.Ranges.{up_from}
-use Rattle.rl_spec.specs.Records.{param_at, clauseAt, functionAt}
-use Rattle.rl_spec.specs.Contracts.{paramOf, clauseOf, contractsOf}
-use Rattle.rl_spec.specs.Fold.{unaryValue, binaryValue}
-use Rattle.rl_spec.specs.Statement.{statementBy, itemTree}
+use Rattle.rl_spec.specs.Records.{param_at, clause_at, function_at}
+use Rattle.rl_spec.specs.FnContracts.{param_of, clause_of, contracts_of}
+use Rattle.rl_spec.specs.Fold.{unary_value, binary_value}
+use Rattle.rl_spec.specs.Statement.{statement_by, item_tree}
 use Rattle.rl_spec.specs.Run.{nothing, folded, Value, plain, ok, err, Outcome, returned, stopped, fault, Result, got, ended, find, update, eval}
-use Rattle.rl_spec.specs.Reading.{checks, turns, stmt, body, branchOr, or_else, top, entering, reading}
-use Rattle.rl_spec.specs.Message.{decimalBy, decimal}
-use Rattle.rl_spec.specs.Mapped.{Text, mapValue, mapExpr, mapStmt, map_body, mapBranch, mapElse}
-use Rattle.rl_spec.specs.Functions.{refinementChecks, contractFunction, readingIn}
-use Rattle.rl_examples.specs.MarkedImages.{made, string, bool, identifier, binary, plus, compare, parameter, refined, clause, function, build, textBytes, textRecords}
-use Rattle.rl_examples.specs.FunctionRows.{x, y, ret, no, temporary, from, null, number, assign, okLiteral, errLiteral, none, declare, bare, return, returnAlone, conditional, branch, while, loop, int, truth, str, returnedNull, five, said, contract, of, listed, Row, expected, ends, endsLate, ofFunction}
-use Rattle.rl_examples.specs.RunnerRows.{half, firstRows}
+use Rattle.rl_spec.specs.Reading.{checks, turns, stmt, body, branch_or, or_else, top, entering, reading}
+use Rattle.rl_spec.specs.Message.{decimal_by, decimal}
+use Rattle.rl_spec.specs.Mapped.{Text, map_value, map_expr, map_stmt, map_body, map_branch, map_else}
+use Rattle.rl_spec.specs.Functions.{refinement_checks, contract_function, reading_in}
+use Rattle.rl_examples.specs.MarkedImages.{made, string, bool, identifier, binary, plus, compare, parameter, refined, clause, function, build, text_bytes, text_records}
+use Rattle.rl_examples.specs.FunctionRows.{x, y, ret, no, temporary, from, null, number, assign, ok_literal, err_literal, none, declare, bare, return, return_alone, conditional, branch, while, loop, int, truth, str, returned_null, five, said, contract, of, listed, Row, expected, ends, ends_late, of_function}
+use Rattle.rl_examples.specs.RunnerRows.{half, first_rows}
 use Rattle.rl_examples.specs.RunnerTable as RunnerTable
 
 -- ---- rows
@@ -45,24 +45,24 @@ above = made 80 (num x ∷ num 0 ∷ num 1 ∷ num 4 ∷ num y ∷ [])
 -- checks that hold
 abbrev pub held : List Row
 held =
-    entry 0 [] [] [] [] returnedNull 0
-    ∷ entry 0 (parameter x ∷ []) [] (int 0 ∷ []) [] returnedNull 0
-    ∷ entry 0 (positive x ∷ []) [] (int 5 ∷ []) [] returnedNull 5
-    ∷ entry 0 (positive x ∷ positive y ∷ []) [] (int 5 ∷ int 5 ∷ []) [] returnedNull 10
-    ∷ entry 0 (above ∷ parameter y ∷ []) [] (int 2 ∷ int 1 ∷ []) [] returnedNull 5
+    entry 0 [] [] [] [] returned_null 0
+    ∷ entry 0 (parameter x ∷ []) [] (int 0 ∷ []) [] returned_null 0
+    ∷ entry 0 (positive x ∷ []) [] (int 5 ∷ []) [] returned_null 5
+    ∷ entry 0 (positive x ∷ positive y ∷ []) [] (int 5 ∷ int 5 ∷ []) [] returned_null 10
+    ∷ entry 0 (above ∷ parameter y ∷ []) [] (int 2 ∷ int 1 ∷ []) [] returned_null 5
     -- the latest x
-    ∷ entry 0 (positive x ∷ parameter x ∷ []) [] (int 0 ∷ int 5 ∷ []) [] returnedNull 5
+    ∷ entry 0 (positive x ∷ parameter x ∷ []) [] (int 0 ∷ int 5 ∷ []) [] returned_null 5
     -- requires true; the message is not evaluated. requires x; requires (x = true) and x
-    ∷ entry 0 [] (clause 0 1 ∷ []) [] (bool 1 ∷ identifier y ∷ []) returnedNull 3
-    ∷ entry 0 (parameter x ∷ []) (clause 0 none ∷ []) (truth true ∷ []) (identifier x ∷ []) returnedNull 3
+    ∷ entry 0 [] (clause 0 1 ∷ []) [] (bool 1 ∷ identifier y ∷ []) returned_null 3
+    ∷ entry 0 (parameter x ∷ []) (clause 0 none ∷ []) (truth true ∷ []) (identifier x ∷ []) returned_null 3
     ∷ entry 0 (parameter x ∷ []) (clause 1 none ∷ clause 2 none ∷ []) (truth false ∷ []) (bool 1 ∷ assign x 0 ∷ identifier x ∷ [])
-    returnedNull 7
-    ∷ entry 1 (positive x ∷ []) (clause 0 none ∷ clause 0 none ∷ []) (int 5 ∷ []) (bool 1 ∷ []) returnedNull 11
+    returned_null 7
+    ∷ entry 1 (positive x ∷ []) (clause 0 none ∷ clause 0 none ∷ []) (int 5 ∷ []) (bool 1 ∷ []) returned_null 11
     ∷ []
 
 -- "not Bool is fault 4;" a condition without a value, and one that faults
-abbrev notBool : List Row
-notBool =
+abbrev not_bool : List Row
+not_bool =
     map (λ v. entry 0 (parameter x ∷ []) (clause 0 none ∷ []) (v ∷ []) (identifier x ∷ []) (fault 4) 3)
     (int 1 ∷ half ∷ str no ∷ plain nothing ∷ ok (folded (value.bool true)) ∷ err (folded (value.bool true)) ∷ [])
     ++ entry 1 (parameter x ∷ []) (clause 0 none ∷ []) (int 1 ∷ []) (identifier x ∷ []) (fault 4) 3
@@ -121,7 +121,7 @@ within nodes statements n o u = ensured 0 (clause 0 1 ∷ []) (bool 0 ∷ string
 abbrev enclosers : List Row
 enclosers =
     within [] (return 2 ∷ []) 1 (stopped (said "no")) 11
-    ∷ within [] (returnAlone ∷ []) 1 (stopped (said "no")) 11
+    ∷ within [] (return_alone ∷ []) 1 (stopped (said "no")) 11
     -- if { return 5 }; if false {} else { return 5 }; while true { return 5 }; loop { return 5 }
     ∷ within [] (return 2 ∷ branch none (from 0 1) ∷ conditional 1 none ∷ []) 1 (stopped (said "no")) 12
     ∷ within [] (return 2 ∷ branch 0 (from 0 0) ∷ branch none (from 0 1) ∷ conditional 1 2 ∷ []) 1 (stopped (said "no")) 13
@@ -151,9 +151,9 @@ enclosers =
     ∷ within [] (bare 2 ∷ []) 1 (stopped (said "no")) 11
     ∷ within [] (declare x 2 ∷ bare 2 ∷ []) 2 (returned (int 5)) 4
     ∷ within [] (bare 2 ∷ bare 2 ∷ []) 2 (returned (int 5)) 4
-    ∷ within [] (bare 2 ∷ branch none (from 0 1) ∷ conditional 1 none ∷ []) 1 returnedNull 3
-    ∷ within [] (declare x 2 ∷ []) 1 returnedNull 2
-    ∷ within [] [] 0 returnedNull 0
+    ∷ within [] (bare 2 ∷ branch none (from 0 1) ∷ conditional 1 none ∷ []) 1 returned_null 3
+    ∷ within [] (declare x 2 ∷ []) 1 returned_null 2
+    ∷ within [] [] 0 returned_null 0
     -- 72 to 75 are forms not taken
     ∷ within [] (return 2 ∷ made 72 (num 3 ∷ num 0 ∷ num 0 ∷ num 0 ∷ from 0 1 ∷ []) ∷ []) 1 (fault 1) 1
     ∷ within [] (return 2 ∷ made 73 (num 3 ∷ num x ∷ num 0 ∷ from 0 1 ∷ []) ∷ []) 1 (fault 1) 1
@@ -169,16 +169,16 @@ enclosers =
 -- n times let x = 5, then a return of the node k, in a function of the nodes 5, Ok(5), Err(5), true, ensures true
 abbrev crowded : ℕ → ℕ → ℕ → Outcome Text → ℕ → Row
 crowded result n k o u =
-    endsLate
+    ends_late
     (listed (contract result [] [] (clause 3 none ∷ []))
-    (number 5 ∷ okLiteral 0 ∷ errLiteral 0 ∷ bool 1 ∷ [])
+    (number 5 ∷ ok_literal 0 ∷ err_literal 0 ∷ bool 1 ∷ [])
     (declare x 0 ∷ return k ∷ [])
     (replicate n 0 ++ 1 ∷ [])) [] o u
 
-abbrev firstValue : List Row
-firstValue =
+abbrev first_value : List Row
+first_value =
     ensured 0 (clause 0 none ∷ []) (bool 1 ∷ number 5 ∷ []) (return 1 ∷ []) 1 (returned (int 5)) 9
-    ∷ ensured 0 (clause 0 none ∷ []) (bool 1 ∷ []) (returnAlone ∷ []) 1 returnedNull 9
+    ∷ ensured 0 (clause 0 none ∷ []) (bool 1 ∷ []) (return_alone ∷ []) 1 returned_null 9
     ∷ ensured 0 (clause 0 none ∷ []) (bool 1 ∷ identifier y ∷ []) (return 1 ∷ []) 1 (fault 3) 2
     -- no name finds it
     ∷ ensured 0 (clause 0 none ∷ []) (identifier temporary ∷ bool 1 ∷ []) (return 1 ∷ []) 1 (fault 3) 7
@@ -199,15 +199,15 @@ firstValue =
 abbrev results : List Row
 results =
     ensured 1 (clause 0 none ∷ []) (bool 1 ∷ number 5 ∷ []) (return 1 ∷ []) 1 (fault 2) 5
-    ∷ ensured 1 (clause 0 none ∷ []) (bool 1 ∷ []) (returnAlone ∷ []) 1 (fault 2) 5
-    ∷ ensured 1 (clause 0 none ∷ []) (bool 0 ∷ number 5 ∷ errLiteral 1 ∷ []) (return 2 ∷ []) 1 (returned (err five)) 8
-    ∷ ensured 1 (clause 0 none ∷ []) (bool 1 ∷ number 5 ∷ okLiteral 1 ∷ []) (return 2 ∷ []) 1 (returned (ok five)) 14
-    ∷ ensured 1 (clause 0 none ∷ []) (bool 1 ∷ number 5 ∷ okLiteral 1 ∷ []) (bare 2 ∷ []) 1 (returned (ok five)) 14
+    ∷ ensured 1 (clause 0 none ∷ []) (bool 1 ∷ []) (return_alone ∷ []) 1 (fault 2) 5
+    ∷ ensured 1 (clause 0 none ∷ []) (bool 0 ∷ number 5 ∷ err_literal 1 ∷ []) (return 2 ∷ []) 1 (returned (err five)) 8
+    ∷ ensured 1 (clause 0 none ∷ []) (bool 1 ∷ number 5 ∷ ok_literal 1 ∷ []) (return 2 ∷ []) 1 (returned (ok five)) 14
+    ∷ ensured 1 (clause 0 none ∷ []) (bool 1 ∷ number 5 ∷ ok_literal 1 ∷ []) (bare 2 ∷ []) 1 (returned (ok five)) 14
     -- MARKED CASE 14: `return true` under ensures `ret`
     ∷ ensured 0 (clause 0 none ∷ []) (identifier ret ∷ bool 1 ∷ []) (return 1 ∷ []) 1 (returned (truth true)) 9
     -- `return 5`, `return Ok(5)` under ensures ret == 5
     ∷ ensured 0 (clause 2 none ∷ []) (identifier ret ∷ number 5 ∷ binary 0 compare 1 ∷ []) (return 1 ∷ []) 1 (returned (int 5)) 11
-    ∷ ensured 1 (clause 2 none ∷ []) (identifier ret ∷ number 5 ∷ binary 0 compare 1 ∷ okLiteral 1 ∷ []) (return 3 ∷ []) 1
+    ∷ ensured 1 (clause 2 none ∷ []) (identifier ret ∷ number 5 ∷ binary 0 compare 1 ∷ ok_literal 1 ∷ []) (return 3 ∷ []) 1
     (returned (ok five)) 16
     -- let ret = 1; return 5
     ∷ ensured 0 (clause 2 none ∷ []) (identifier ret ∷ number 5 ∷ binary 0 compare 1 ∷ number 1 ∷ [])
@@ -227,12 +227,12 @@ results =
     ∷ ensured 0 (clause 0 2 ∷ clause 1 3 ∷ []) (bool 1 ∷ bool 0 ∷ number 5 ∷ string no ∷ []) (return 2 ∷ []) 1
     (stopped (said "no")) 14
     ∷ ensured 0 (clause 1 2 ∷ clause 1 3 ∷ []) (bool 1 ∷ bool 0 ∷ number 5 ∷ string no ∷ []) (return 2 ∷ []) 1 (stopped five) 11
-    ∷ ensured 1 (clause 0 2 ∷ []) (bool 0 ∷ number 5 ∷ string no ∷ okLiteral 1 ∷ []) (return 3 ∷ []) 1
+    ∷ ensured 1 (clause 0 2 ∷ []) (bool 0 ∷ number 5 ∷ string no ∷ ok_literal 1 ∷ []) (return 3 ∷ []) 1
     (returned (err (said "no"))) 15
     ∷ ensured 0 (clause 0 none ∷ []) (number 5 ∷ []) (return 0 ∷ []) 1 (fault 4) 7
-    ∷ ensured 0 (clause 0 none ∷ []) (identifier ret ∷ []) (returnAlone ∷ []) 1 (fault 4) 7
-    ∷ ensured 0 (clause 0 2 ∷ []) (bool 0 ∷ number 5 ∷ okLiteral 1 ∷ []) (return 1 ∷ []) 1 (fault 2) 12
-    ∷ ensured 1 (clause 0 2 ∷ []) (bool 0 ∷ number 5 ∷ okLiteral 1 ∷ []) (return 2 ∷ []) 1 (fault 2) 16
+    ∷ ensured 0 (clause 0 none ∷ []) (identifier ret ∷ []) (return_alone ∷ []) 1 (fault 4) 7
+    ∷ ensured 0 (clause 0 2 ∷ []) (bool 0 ∷ number 5 ∷ ok_literal 1 ∷ []) (return 1 ∷ []) 1 (fault 2) 12
+    ∷ ensured 1 (clause 0 2 ∷ []) (bool 0 ∷ number 5 ∷ ok_literal 1 ∷ []) (return 2 ∷ []) 1 (fault 2) 16
     ∷ ensured 0 (clause 0 none ∷ []) (bool 0 ∷ number 5 ∷ []) (return 1 ∷ []) 1 (stopped (said "ensures violated")) 11
     -- requires true, ensures true, `return 5`
     ∷ ends (of (contract 0 [] (clause 0 none ∷ []) (clause 0 none ∷ [])) (bool 1 ∷ number 5 ∷ []) (return 1 ∷ []) 1) []
@@ -258,45 +258,45 @@ twins =
     }
 
 abbrev own : List Row
-own = ends twins [] (stopped (said "no")) 7 ∷ ofFunction 1 (ends twins [] (stopped (said "no")) 11) ∷ []
+own = ends twins [] (stopped (said "no")) 7 ∷ of_function 1 (ends twins [] (stopped (said "no")) 11) ∷ []
 
 -- ---- "The plain run, except:" functions without contracts are read as they run, so the rows of "Runner" come first
 
 unfoldable pub rows : List Row
-rows = RunnerTable.rows ++ held ++ notBool ++ failed ++ enclosers ++ firstValue ++ results ++ own
+rows = RunnerTable.rows ++ held ++ not_bool ++ failed ++ enclosers ++ first_value ++ results ++ own
 
 abbrev pub read : Row → ℕ → Outcome Text × ℕ
-read r b = readingIn r.image r.function r.values b
+read r b = reading_in r.image r.function r.values b
 
 -- what it opens
 unfoldable pub readings : Unit {0}
-unfolding RunnerTable.rows firstRows textBytes textRecords ascii up_from formBy callForm isResPath descendBy descend exprTree statementBy itemTree param_at clauseAt functionAt paramOf clauseOf contractsOf decimalBy decimal mapExpr mapStmt map_body mapBranch mapElse refinementChecks contractFunction readingIn reading checks turns top stmt body branchOr or_else eval find update sameText unaryValue binaryValue bang negate compareValues arithValues of_bits of_fields
+unfolding RunnerTable.rows first_rows text_bytes text_records ascii up_from form_by call_form is_res_path descend_by descend expr_tree statement_by item_tree param_at clause_at function_at param_of clause_of contracts_of decimal_by decimal map_expr map_stmt map_body map_branch map_else refinement_checks contract_function reading_in reading checks turns top stmt body branch_or or_else eval find update same_text unary_value binary_value bang negate compare_values arith_values of_bits of_fields
 readings = tt
 
 -- THEOREM: each of them is read so
-pub reads-end-so : map (λ r. map (read r) r.budgets) rows ≡ map (λ r. map (expected r) r.budgets) rows
+pub reads_end_so : map (λ r. map (read r) r.budgets) rows ≡ map (λ r. map (expected r) r.budgets) rows
 unfolding rows readings
-reads-end-so = refl
+reads_end_so = refl
 
 -- ---- "Entry is passed when all entry checks held."
 
-abbrev goesOn : {T A : Type 0} → Result T A → Bool
-goesOn (got a env n) = true
-goesOn (ended o n) = false
+abbrev goes_on : {T A : Type 0} → Result T A → Bool
+goes_on (got a env n) = true
+goes_on (ended o n) = false
 
 abbrev pub enters : Row → ℕ → Bool
 enters r b =
-    goesOn
-    (entering (λ t. t) (contractFunction r.image r.function) (map (mapValue (text_of r.image)) r.values) [] b)
+    goes_on
+    (entering (λ t. t) (contract_function r.image r.function) (map (map_value (text_of r.image)) r.values) [] b)
 
 -- the budget is the row's steps or more
-abbrev pub fromStepsOn : Row → ℕ → Bool
-fromStepsOn r b = not (nat_lt b r.steps)
+abbrev pub from_steps_on : Row → ℕ → Bool
+from_steps_on r b = not (nat_lt b r.steps)
 
-abbrev pub notHeld : List Row
-notHeld = notBool ++ failed
+abbrev pub not_held : List Row
+not_held = not_bool ++ failed
 
-pub enters-so : map (λ r. map (enters r) r.budgets) (held ++ notHeld)
-    ≡ map (λ r. map (fromStepsOn r) r.budgets) held ++ map (λ r. map (λ b. false) r.budgets) notHeld
+pub enters_so : map (λ r. map (enters r) r.budgets) (held ++ not_held)
+    ≡ map (λ r. map (from_steps_on r) r.budgets) held ++ map (λ r. map (λ b. false) r.budgets) not_held
 unfolding readings
-enters-so = refl
+enters_so = refl

@@ -17,9 +17,9 @@ use Rattle.rl_examples.specs.ContractRows.{Given, whole, minus, float, text, yes
 -- ---- refinements: f(x, p), x refined, p plain, with an empty body; and a call f(x, 7) for each x
 
 -- the arguments of the calls: a node, and the node behind all of them, which is 7
-unfoldable pub argumentLists : ℕ → List ℕ → List ℕ
-argumentLists seven [] = []
-argumentLists seven (k ∷ ks) = k ∷ seven ∷ argumentLists seven ks
+unfoldable pub argument_lists : ℕ → List ℕ → List ℕ
+argument_lists seven [] = []
+argument_lists seven (k ∷ ks) = k ∷ seven ∷ argument_lists seven ks
 
 -- by the name of p, the refinement, the operand's sort and the operand
 abbrev refining : ℕ → ℕ → ℕ → ℕ → List Given → Image
@@ -27,7 +27,7 @@ refining p op sort operand xs =
     build
     record {
       texts = "f" ∷ "x" ∷ "p" ∷ "q" ∷ "a" ∷ "a\"b" ∷ "b" ∷ [];
-      lists = argumentLists (length xs) (up_from 0 (length xs));
+      lists = argument_lists (length xs) (up_from 0 (length xs));
       expressions = map node_of xs ++ number 7 ∷ [];
       statements = [];
       parameters = made 80 (num 1 ∷ num 0 ∷ num op ∷ num sort ∷ num operand ∷ []) ∷ parameter p ∷ [];
@@ -198,6 +198,6 @@ rows =
     ∷ []
 
 -- THEOREM: they are reported, read, and run where they are lowered, so
-pub refinements-so : map actual rows ≡ map expected rows
-unfolding lowering running folding evaluating proving argumentLists each rows
-refinements-so = refl
+pub refinements_so : map actual rows ≡ map expected rows
+unfolding lowering running folding evaluating proving argument_lists each rows
+refinements_so = refl

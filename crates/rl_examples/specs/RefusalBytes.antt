@@ -1,7 +1,7 @@
 -- The causes 1 to 10 in bytes, each with its number and its place; and which of two comes first.
 -- Assumes nothing.
 use Rattle.std.specs.Prelude.{◌≡◌, ℕ, List, [], ◌∷◌, ◌++◌, map, replicate, refl}
-use Rattle.rl_spec.specs.Read.{answer_of, workOf}
+use Rattle.rl_spec.specs.Read.{answer_of, work_of}
 use Rattle.rl_examples.specs.ByteRows.{joined, u16, two, header, Row, accepted, refused, said, actual, expected, reading}
 
 -- ---- 1 and 2, before any byte
@@ -14,10 +14,10 @@ abbrev long : List Row
 long = refused 10 23 (empty ++ replicate 65512 0) ∷ refused 1 0 (empty ++ replicate 65513 0) ∷ []
 
 -- work slices of 8,191 entries, and none: also for no bytes; but 1 comes first
-pub short-so : said (answer_of empty 8191) ∷ said (answer_of empty 8192) ∷ said (answer_of empty 0) ∷ said (answer_of [] 8191)
+pub short_so : said (answer_of empty 8191) ∷ said (answer_of empty 8192) ∷ said (answer_of empty 0) ∷ said (answer_of [] 8191)
     ∷ said (answer_of (replicate 65536 0) 8191) ∷ [] ≡ (2, 0) ∷ (0, 0) ∷ (2, 0) ∷ (2, 0) ∷ (1, 0) ∷ []
 unfolding reading
-short-so = refl
+short_so = refl
 
 -- ---- 3 and 4 in the header
 
@@ -40,8 +40,8 @@ headers =
 -- ---- 3 at the raw text, 3 and 4 at the first record of each section
 
 -- three text bytes: two of them, and then all
-abbrev rawText : List Row
-rawText =
+abbrev raw_text : List Row
+raw_text =
     map (λ s. refused 3 23 (header (3 ∷ 0 ∷ 0 ∷ 0 ∷ 0 ∷ 0 ∷ 0 ∷ 0 ∷ 0 ∷ []) ++ s)) ([] ∷ (0x61 ∷ []) ∷ (0x61 ∷ 0x62 ∷ []) ∷ [])
     ++ accepted (header (3 ∷ 0 ∷ 0 ∷ 0 ∷ 0 ∷ 0 ∷ 0 ∷ 0 ∷ 0 ∷ []) ++ 0x61 ∷ 0x62 ∷ 0x63 ∷ []) ∷ []
 
@@ -49,8 +49,8 @@ rawText =
 abbrev kinds : List ℕ → List ℕ → List Row
 kinds counts ks = refused 3 23 (header counts) ∷ map (λ k. refused 4 23 (header counts ++ k ∷ replicate 40 0)) ks
 
-abbrev wrongKinds : List Row
-wrongKinds =
+abbrev wrong_kinds : List Row
+wrong_kinds =
     kinds (0 ∷ 1 ∷ 0 ∷ 0 ∷ 0 ∷ 0 ∷ 0 ∷ 0 ∷ 0 ∷ []) (1 ∷ 3 ∷ [])
     ++ kinds (0 ∷ 0 ∷ 1 ∷ 0 ∷ 0 ∷ 0 ∷ 0 ∷ 0 ∷ 0 ∷ []) (2 ∷ 4 ∷ 16 ∷ [])
     ++ kinds (0 ∷ 0 ∷ 0 ∷ 1 ∷ 0 ∷ 0 ∷ 0 ∷ 0 ∷ 0 ∷ []) (0 ∷ 3 ∷ 15 ∷ 58 ∷ 64 ∷ 255 ∷ [])
@@ -79,8 +79,8 @@ texts =
 abbrev whole : ℕ → List ℕ → List ℕ
 whole n s = text n s (two 0 n)
 
-abbrev utf8Texts : List Row
-utf8Texts =
+abbrev utf8_texts : List Row
+utf8_texts =
     -- U+0000, U+007F; U+0080, U+07FF; U+0800, U+D7FF, U+E000, U+FFFF; U+10000, U+10FFFF
     map (λ s. accepted (whole 2 s)) ((0 ∷ 0x7F ∷ []) ∷ (0xC2 ∷ 0x80 ∷ []) ∷ (0xDF ∷ 0xBF ∷ []) ∷ [])
     ++ map (λ s. accepted (whole 3 s))
@@ -134,17 +134,17 @@ orders =
     ∷ []
 
 unfoldable pub rows : List Row
-rows = long ++ headers ++ rawText ++ wrongKinds ++ texts ++ utf8Texts ++ orders
+rows = long ++ headers ++ raw_text ++ wrong_kinds ++ texts ++ utf8_texts ++ orders
 
 -- THEOREM: they are answered so
-pub refusals-so : map actual rows ≡ map expected rows
+pub refusals_so : map actual rows ≡ map expected rows
 unfolding reading rows
-refusals-so = refl
+refusals_so = refl
 
 -- THEOREM: the work slice of a refused image is zero, also behind records that were read: the third node names itself
 abbrev pub later : List ℕ
 later = nodes 3 (null ∷ grouping 0 ∷ grouping 2 ∷ [])
 
-pub work-zero : workOf later 8192 ∷ workOf empty 3 ∷ [] ≡ replicate 8192 0 ∷ replicate 3 0 ∷ []
-unfolding reading workOf
-work-zero = refl
+pub work_zero : work_of later 8192 ∷ work_of empty 3 ∷ [] ≡ replicate 8192 0 ∷ replicate 3 0 ∷ []
+unfolding reading work_of
+work_zero = refl

@@ -6,19 +6,19 @@ use Rattle.rl_spec.specs.Values as value
 use Rattle.rl_spec.specs.Run.{nothing, folded, Value, plain, ok, err, Outcome, returned, fault}
 use Rattle.rl_spec.specs.Mapped.{Text}
 use Rattle.rl_examples.specs.MarkedImages.{character, string, bool, identifier, binary, unary, grouping, plus, minus, compare, parameter, function, build}
-use Rattle.rl_examples.specs.FunctionRows.{x, y, no, otherX, otherNo, from, null, number, assign, none, declare, bare, return, returnAlone, conditional, branchBy, branch, while, loop, break, continue, never, int, truth, str, returnedNull, five, said, Contract, contract, of, Row, ends, endless, ofFunction}
+use Rattle.rl_examples.specs.FunctionRows.{x, y, no, other_x, other_no, from, null, number, assign, none, declare, bare, return, return_alone, conditional, branch_by, branch, while, loop, break, continue, never, int, truth, str, returned_null, five, said, Contract, contract, of, Row, ends, endless, of_function}
 
 -- ---- functions without contracts: the parameters x, y and another x, as many as there are values
 
 abbrev pub plainly : List (Value ℕ) → Contract
-plainly vs = contract 0 (take (length vs) (parameter x ∷ parameter y ∷ parameter otherX ∷ [])) [] []
+plainly vs = contract 0 (take (length vs) (parameter x ∷ parameter y ∷ parameter other_x ∷ [])) [] []
 
 -- of these nodes and statements, of which the last n are the body
 abbrev pub runs : List (Value ℕ) → List Rec → List Rec → ℕ → Outcome Text → ℕ → Row
 runs vs nodes statements n o u = ends (of (plainly vs) nodes statements n) vs o u
 
-abbrev runsOn : List (Value ℕ) → List Rec → List Rec → ℕ → Row
-runsOn vs nodes statements n = endless (of (plainly vs) nodes statements n) vs
+abbrev runs_on : List (Value ℕ) → List Rec → List Rec → ℕ → Row
+runs_on vs nodes statements n = endless (of (plainly vs) nodes statements n) vs
 
 -- the body is the last of the nodes, a bare expression; with values, and without
 abbrev pub node_of : List (Value ℕ) → List Rec → Outcome Text → ℕ → Row
@@ -74,7 +74,7 @@ names =
     ∷ node_of (int 1 ∷ int 2 ∷ []) (identifier y ∷ []) (returned (int 2)) 2
     ∷ node_of (int 1 ∷ int 2 ∷ int 3 ∷ []) (identifier x ∷ []) (returned (int 3)) 2
     ∷ ends twins [] (returned (int 1)) 2
-    ∷ ofFunction 1 (ends twins (int 5 ∷ []) (returned (int 5)) 2)
+    ∷ of_function 1 (ends twins (int 5 ∷ []) (returned (int 5)) 2)
     -- let x = 2; x
     ∷ runs (int 1 ∷ []) (number 2 ∷ identifier x ∷ []) (declare x 0 ∷ bare 1 ∷ []) 2 (returned (int 2)) 4
     -- if { let x = 2; x = 3; return x }
@@ -90,7 +90,7 @@ names =
 -- if { let x = 2 }; x
 abbrev shadowing : ℕ → List (Value ℕ) → Outcome Text → Row
 shadowing scope vs o =
-    runs vs (number 2 ∷ identifier x ∷ []) (declare x 0 ∷ branchBy scope none (from 0 1) ∷ conditional 1 none ∷ bare 1 ∷ []) 2 o 5
+    runs vs (number 2 ∷ identifier x ∷ []) (declare x 0 ∷ branch_by scope none (from 0 1) ∷ conditional 1 none ∷ bare 1 ∷ []) 2 o 5
 
 abbrev scopes : List Row
 scopes =
@@ -120,7 +120,7 @@ scopes =
     ∷ runs (truth false ∷ []) (identifier x ∷ identifier y ∷ number 1 ∷ bool 1 ∷ assign x 3 ∷ [])
     (return 1 ∷ branch 0 (from 0 1) ∷ conditional 1 none ∷ declare y 2 ∷ bare 4 ∷ continue ∷ loop (from 2 4) ∷ []) 1 (fault 3) 15
     -- a while's condition stands outside: while x { let x = false }
-    ∷ runsOn (truth true ∷ []) (identifier x ∷ bool 0 ∷ []) (declare x 1 ∷ while 0 (from 0 1) ∷ []) 1
+    ∷ runs_on (truth true ∷ []) (identifier x ∷ bool 0 ∷ []) (declare x 1 ∷ while 0 (from 0 1) ∷ []) 1
     ∷ []
 
 -- ---- "a branch, else too, is taken when its condition is none or true."
@@ -130,7 +130,7 @@ branches =
     -- if { return 1 }, with true, with false
     runs [] (number 1 ∷ []) (return 0 ∷ branch none (from 0 1) ∷ conditional 1 none ∷ []) 1 (returned (int 1)) 3
     ∷ runs [] (bool 1 ∷ number 1 ∷ []) (return 1 ∷ branch 0 (from 0 1) ∷ conditional 1 none ∷ []) 1 (returned (int 1)) 4
-    ∷ runs [] (bool 0 ∷ number 1 ∷ []) (return 1 ∷ branch 0 (from 0 1) ∷ conditional 1 none ∷ []) 1 returnedNull 2
+    ∷ runs [] (bool 0 ∷ number 1 ∷ []) (return 1 ∷ branch 0 (from 0 1) ∷ conditional 1 none ∷ []) 1 returned_null 2
     -- if { return 1 } else { return 2 }, with true, with false
     ∷ runs [] (number 1 ∷ number 2 ∷ [])
     (return 0 ∷ return 1 ∷ branch none (from 0 1) ∷ branch none (from 1 1) ∷ conditional 2 3 ∷ []) 1 (returned (int 1)) 3
@@ -142,13 +142,13 @@ branches =
     ∷ runs [] (bool 0 ∷ bool 1 ∷ number 1 ∷ number 2 ∷ [])
     (return 2 ∷ return 3 ∷ branch 0 (from 0 1) ∷ branch 1 (from 1 1) ∷ conditional 2 3 ∷ []) 1 (returned (int 2)) 5
     ∷ runs [] (bool 0 ∷ number 1 ∷ number 2 ∷ [])
-    (return 1 ∷ return 2 ∷ branch 0 (from 0 1) ∷ branch 0 (from 1 1) ∷ conditional 2 3 ∷ []) 1 returnedNull 3
+    (return 1 ∷ return 2 ∷ branch 0 (from 0 1) ∷ branch 0 (from 1 1) ∷ conditional 2 3 ∷ []) 1 returned_null 3
     -- an else 68: if false { return 1 } else if true { return 2 }, and with false; and with false behind it else { return 3 }
     ∷ runs [] (bool 0 ∷ bool 1 ∷ number 1 ∷ number 2 ∷ [])
     (return 2 ∷ return 3 ∷ branch 0 (from 0 1) ∷ branch 1 (from 1 1) ∷ conditional 3 none ∷ conditional 2 4 ∷ []) 1
     (returned (int 2)) 5
     ∷ runs [] (bool 0 ∷ number 1 ∷ number 2 ∷ [])
-    (return 1 ∷ return 2 ∷ branch 0 (from 0 1) ∷ branch 0 (from 1 1) ∷ conditional 3 none ∷ conditional 2 4 ∷ []) 1 returnedNull 3
+    (return 1 ∷ return 2 ∷ branch 0 (from 0 1) ∷ branch 0 (from 1 1) ∷ conditional 3 none ∷ conditional 2 4 ∷ []) 1 returned_null 3
     ∷ runs [] (bool 0 ∷ number 1 ∷ number 2 ∷ number 3 ∷ [])
     (return 1 ∷ return 2 ∷ return 3 ∷ branch 0 (from 0 1) ∷ branch 0 (from 1 1) ∷ branch none (from 2 1)
     ∷ conditional 4 5 ∷ conditional 3 6 ∷ []) 1 (returned (int 3)) 5
@@ -158,12 +158,12 @@ branches =
 
 abbrev bytes : List Row
 bytes =
-    node (string no ∷ string otherNo ∷ binary 0 compare 1 ∷ []) (returned (truth true)) 4
-    ∷ node (string no ∷ string otherX ∷ binary 0 compare 1 ∷ []) (returned (truth false)) 4
-    ∷ node_of (str no ∷ []) (identifier x ∷ string otherNo ∷ binary 0 compare 1 ∷ []) (returned (truth true)) 4
-    ∷ node_of (int 1 ∷ []) (identifier otherX ∷ []) (returned (int 1)) 2
+    node (string no ∷ string other_no ∷ binary 0 compare 1 ∷ []) (returned (truth true)) 4
+    ∷ node (string no ∷ string other_x ∷ binary 0 compare 1 ∷ []) (returned (truth false)) 4
+    ∷ node_of (str no ∷ []) (identifier x ∷ string other_no ∷ binary 0 compare 1 ∷ []) (returned (truth true)) 4
+    ∷ node_of (int 1 ∷ []) (identifier other_x ∷ []) (returned (int 1)) 2
     -- x = 2 by the other x; x
-    ∷ runs (int 1 ∷ []) (number 2 ∷ assign otherX 0 ∷ identifier x ∷ []) (bare 1 ∷ bare 2 ∷ []) 2 (returned (int 2)) 5
+    ∷ runs (int 1 ∷ []) (number 2 ∷ assign other_x 0 ∷ identifier x ∷ []) (bare 1 ∷ bare 2 ∷ []) 2 (returned (int 2)) 5
     ∷ []
 
 -- ---- "Each statement begun costs 1 (a 68's branches 0), each loop turn 1 (before a while's condition),"
@@ -171,36 +171,36 @@ bytes =
 abbrev statements : List Row
 statements =
     -- let x = 1
-    runs [] (number 1 ∷ []) (declare x 0 ∷ []) 1 returnedNull 2
+    runs [] (number 1 ∷ []) (declare x 0 ∷ []) 1 returned_null 2
     -- 1; 2
     ∷ runs [] (number 1 ∷ number 2 ∷ []) (bare 0 ∷ bare 1 ∷ []) 2 (returned (int 2)) 4
     -- return 5, return alone; what stands behind is not begun
     ∷ runs [] (number 5 ∷ []) (return 0 ∷ never ∷ []) 2 (returned (int 5)) 2
-    ∷ runs [] [] (returnAlone ∷ never ∷ []) 2 returnedNull 1
+    ∷ runs [] [] (return_alone ∷ never ∷ []) 2 returned_null 1
     -- if {}; if false {} else {}; if false {} else if false {}
-    ∷ runs [] [] (branch none (from 0 0) ∷ conditional 0 none ∷ []) 1 returnedNull 1
-    ∷ runs [] (bool 0 ∷ []) (branch 0 (from 0 0) ∷ branch none (from 0 0) ∷ conditional 0 1 ∷ []) 1 returnedNull 2
-    ∷ runs [] (bool 0 ∷ []) (branch 0 (from 0 0) ∷ conditional 0 none ∷ conditional 0 1 ∷ []) 1 returnedNull 3
+    ∷ runs [] [] (branch none (from 0 0) ∷ conditional 0 none ∷ []) 1 returned_null 1
+    ∷ runs [] (bool 0 ∷ []) (branch 0 (from 0 0) ∷ branch none (from 0 0) ∷ conditional 0 1 ∷ []) 1 returned_null 2
+    ∷ runs [] (bool 0 ∷ []) (branch 0 (from 0 0) ∷ conditional 0 none ∷ conditional 0 1 ∷ []) 1 returned_null 3
     -- while false {}; while y {}, where no y is
-    ∷ runs [] (bool 0 ∷ []) (while 0 (from 0 0) ∷ []) 1 returnedNull 3
+    ∷ runs [] (bool 0 ∷ []) (while 0 (from 0 0) ∷ []) 1 returned_null 3
     ∷ runs [] (identifier y ∷ []) (while 0 (from 0 0) ∷ []) 1 (fault 3) 3
     -- while x { x = false }, with a continue before what is not begun
     ∷ runs (truth true ∷ []) (identifier x ∷ bool 0 ∷ assign x 1 ∷ [])
-    (bare 2 ∷ while 0 (from 0 1) ∷ []) 1 returnedNull 8
+    (bare 2 ∷ while 0 (from 0 1) ∷ []) 1 returned_null 8
     ∷ runs (truth true ∷ []) (identifier x ∷ bool 0 ∷ assign x 1 ∷ [])
-    (bare 2 ∷ continue ∷ never ∷ while 0 (from 0 3) ∷ []) 1 returnedNull 9
+    (bare 2 ∷ continue ∷ never ∷ while 0 (from 0 3) ∷ []) 1 returned_null 9
     -- while true { break }; loop { break }; loop { return 5 }
-    ∷ runs [] (bool 1 ∷ []) (break ∷ never ∷ while 0 (from 0 2) ∷ []) 1 returnedNull 4
-    ∷ runs [] [] (break ∷ never ∷ loop (from 0 2) ∷ []) 1 returnedNull 3
+    ∷ runs [] (bool 1 ∷ []) (break ∷ never ∷ while 0 (from 0 2) ∷ []) 1 returned_null 4
+    ∷ runs [] [] (break ∷ never ∷ loop (from 0 2) ∷ []) 1 returned_null 3
     ∷ runs [] (number 5 ∷ []) (return 0 ∷ loop (from 0 1) ∷ []) 1 (returned (int 5)) 4
     -- loop { if x { break }; x = true }
     ∷ runs (truth false ∷ []) (identifier x ∷ bool 1 ∷ assign x 1 ∷ [])
-    (break ∷ branch 0 (from 0 1) ∷ conditional 1 none ∷ bare 2 ∷ loop (from 2 2) ∷ []) 1 returnedNull 11
+    (break ∷ branch 0 (from 0 1) ∷ conditional 1 none ∷ bare 2 ∷ loop (from 2 2) ∷ []) 1 returned_null 11
     -- loop { loop { break }; break }
-    ∷ runs [] [] (break ∷ loop (from 0 1) ∷ break ∷ loop (from 1 2) ∷ []) 1 returnedNull 6
+    ∷ runs [] [] (break ∷ loop (from 0 1) ∷ break ∷ loop (from 1 2) ∷ []) 1 returned_null 6
     -- loop {}; loop { continue }
-    ∷ runsOn [] [] (loop (from 0 0) ∷ []) 1
-    ∷ runsOn [] [] (continue ∷ loop (from 0 1) ∷ []) 1
+    ∷ runs_on [] [] (loop (from 0 0) ∷ []) 1
+    ∷ runs_on [] [] (continue ∷ loop (from 0 1) ∷ []) 1
     ∷ []
 
 -- ---- "each expression node 1, charged on entry, operands left to right."
@@ -221,5 +221,5 @@ nodes =
     ∷ node_of (int 1 ∷ []) (number 2 ∷ assign x 0 ∷ identifier x ∷ binary 2 plus 1 ∷ []) (returned (int 3)) 5
     ∷ []
 
-unfoldable pub firstRows : List Row
-firstRows = values ++ names ++ scopes ++ branches ++ bytes ++ statements ++ nodes
+unfoldable pub first_rows : List Row
+first_rows = values ++ names ++ scopes ++ branches ++ bytes ++ statements ++ nodes

@@ -5,19 +5,19 @@ use Rattle.std.specs.Prelude.{◌≡◌, ℕ, true, false, List, [], ◌∷◌, 
 use Rattle.std.specs.Float.Ieee.{of_bits, of_fields}
 use Rattle.rl_spec.specs.Image.{num, pair, Rec, Image, text_of}
 use Rattle.rl_spec.specs.Values as value
-use Rattle.rl_spec.specs.Values.{sameText, compareValues, arithValues, bang, negate}
-use Rattle.rl_spec.specs.Tree.{ascii, formBy, callForm, isResPath, descendBy, descend, exprTree}
+use Rattle.rl_spec.specs.Values.{same_text, compare_values, arith_values, bang, negate}
+use Rattle.rl_spec.specs.Tree.{ascii, form_by, call_form, is_res_path, descend_by, descend, expr_tree}
 use Rattle.rl_spec.specs.Ranges.{up_from}
-use Rattle.rl_spec.specs.Records.{param_at, functionAt}
-use Rattle.rl_spec.specs.Fold.{unaryValue, binaryValue}
-use Rattle.rl_spec.specs.Statement.{statementBy, itemTree}
+use Rattle.rl_spec.specs.Records.{param_at, function_at}
+use Rattle.rl_spec.specs.Fold.{unary_value, binary_value}
+use Rattle.rl_spec.specs.Statement.{statement_by, item_tree}
 use Rattle.rl_spec.specs.Run.{nothing, folded, Value, plain, ok, err, Outcome, returned, stopped, fault, used, find, update, eval}
-use Rattle.rl_spec.specs.Reading.{turns, stmt, body, branchOr, or_else, top, runFunction}
-use Rattle.rl_spec.specs.Mapped.{Text, mapOutcome}
-use Rattle.rl_spec.specs.Functions.{plainFunction}
-use Rattle.rl_examples.specs.MarkedImages.{made, integer, uint, byte, character, string, bool, float, identifier, binary, unary, plus, minus, slash, less, textBytes, textRecords}
-use Rattle.rl_examples.specs.FunctionRows.{x, y, no, from, null, number, assign, okLiteral, errLiteral, call_of, isErr, resultUnwrap, none, declare, bare, returnAlone, conditional, branch, while, loop, break, continue, never, int, truth, str, returnedNull, five, said, listed, Row, expected, endsLate}
-use Rattle.rl_examples.specs.RunnerRows.{plainly, runs, node_of, node, half, firstRows}
+use Rattle.rl_spec.specs.Reading.{turns, stmt, body, branch_or, or_else, top, run_function}
+use Rattle.rl_spec.specs.Mapped.{Text, map_outcome}
+use Rattle.rl_spec.specs.Functions.{plain_function}
+use Rattle.rl_examples.specs.MarkedImages.{made, integer, uint, byte, character, string, bool, float, identifier, binary, unary, plus, minus, slash, less, text_bytes, text_records}
+use Rattle.rl_examples.specs.FunctionRows.{x, y, no, from, null, number, assign, ok_literal, err_literal, call_of, is_err_lem, result_unwrap_lem, none, declare, bare, return_alone, conditional, branch, while, loop, break, continue, never, int, truth, str, returned_null, five, said, listed, Row, expected, ends_late}
+use Rattle.rl_examples.specs.RunnerRows.{plainly, runs, node_of, node, half, first_rows}
 
 -- ---- "Literals and operators mean what they fold to."
 
@@ -46,7 +46,7 @@ folding =
 
 abbrev taken : List Row
 taken =
-    node (null ∷ []) returnedNull 2
+    node (null ∷ []) returned_null 2
     -- x = 2; x = x + 1; y = Character 'a' and y = 2, where no y is
     ∷ node_of (int 1 ∷ []) (number 2 ∷ assign x 0 ∷ []) (returned (int 2)) 3
     ∷ node_of (int 1 ∷ []) (identifier x ∷ number 1 ∷ binary 0 plus 1 ∷ assign x 2 ∷ []) (returned (int 2)) 5
@@ -55,19 +55,19 @@ taken =
     -- x = (y = 5); x + y
     ∷ runs (int 1 ∷ int 2 ∷ []) (number 5 ∷ assign y 0 ∷ assign x 1 ∷ identifier x ∷ identifier y ∷ binary 3 plus 4 ∷ [])
     (bare 2 ∷ bare 5 ∷ []) 2 (returned (int 10)) 8
-    ∷ node (number 5 ∷ okLiteral 0 ∷ []) (returned (ok five)) 3
-    ∷ node (null ∷ okLiteral 0 ∷ []) (returned (ok nothing)) 3
-    ∷ node (number 5 ∷ errLiteral 0 ∷ []) (returned (err five)) 3
-    ∷ node (number 5 ∷ okLiteral 0 ∷ isErr 1 ∷ []) (returned (truth false)) 4
-    ∷ node (number 5 ∷ errLiteral 0 ∷ isErr 1 ∷ []) (returned (truth true)) 4
+    ∷ node (number 5 ∷ ok_literal 0 ∷ []) (returned (ok five)) 3
+    ∷ node (null ∷ ok_literal 0 ∷ []) (returned (ok nothing)) 3
+    ∷ node (number 5 ∷ err_literal 0 ∷ []) (returned (err five)) 3
+    ∷ node (number 5 ∷ ok_literal 0 ∷ is_err_lem 1 ∷ []) (returned (truth false)) 4
+    ∷ node (number 5 ∷ err_literal 0 ∷ is_err_lem 1 ∷ []) (returned (truth true)) 4
     ∷ []
 
 -- the other forms, of which no part is entered: Character, ResolvedIdentifier, ArrayLiteral,
 -- MapLiteral, SetLiteral, TupleLiteral, ResolvedAssign, CallExpr, MethodCall, Index, IndexAssign, Cast, Is, ErrorLiteral, Propagate,
 -- StructLiteral, FieldAccess, FieldAssign, EnumVariant, Lambda, ResolvedLambda; Calls of is_err on none and on two, of std::res, of
 -- std::res::is_err and one more, of x::res::is_err, std::x::result_unwrap and std::res::x
-abbrev otherNodes : List Rec
-otherNodes =
+abbrev other_nodes : List Rec
+other_nodes =
     character 97 ∷ made 31 (num 2 ∷ num x ∷ num 0 ∷ num 0 ∷ [])
     ∷ made 35 (num 2 ∷ from 0 2 ∷ []) ∷ made 36 (num 2 ∷ from 0 2 ∷ []) ∷ made 37 (num 2 ∷ from 0 2 ∷ [])
     ∷ made 38 (num 2 ∷ from 0 2 ∷ [])
@@ -84,8 +84,8 @@ otherNodes =
     ∷ []
 
 -- For, ForRange, ForEach, Match, any other, and a 69 among statements
-abbrev otherStatements : List Rec
-otherStatements =
+abbrev other_statements : List Rec
+other_statements =
     made 72 (num 3 ∷ num 0 ∷ num 0 ∷ num 0 ∷ from 0 1 ∷ [])
     ∷ made 73 (num 3 ∷ num x ∷ num 0 ∷ from 0 1 ∷ [])
     ∷ made 74 (num 3 ∷ num x ∷ num 0 ∷ from 0 1 ∷ [])
@@ -94,22 +94,22 @@ otherStatements =
     ∷ branch none (from 0 1)
     ∷ []
 
-abbrev notTaken : List Row
-notTaken =
-    map (λ r. node_of (ok five ∷ []) (identifier x ∷ number 1 ∷ r ∷ []) (fault 1) 2) otherNodes
-    ++ map (λ r. runs [] (bool 1 ∷ []) (returnAlone ∷ made 76 (num 3 ∷ num none ∷ from 0 1 ∷ []) ∷ r ∷ []) 1 (fault 1) 1)
-    otherStatements
+abbrev not_taken : List Row
+not_taken =
+    map (λ r. node_of (ok five ∷ []) (identifier x ∷ number 1 ∷ r ∷ []) (fault 1) 2) other_nodes
+    ++ map (λ r. runs [] (bool 1 ∷ []) (return_alone ∷ made 76 (num 3 ∷ num none ∷ from 0 1 ∷ []) ∷ r ∷ []) 1 (fault 1) 1)
+    other_statements
 
 -- ---- "Unwrapping Ok(m) gives m, Err(m) stops the run with m."
 
 abbrev unwrapping : List Row
 unwrapping =
-    node (number 5 ∷ okLiteral 0 ∷ resultUnwrap 1 ∷ []) (returned (int 5)) 4
-    ∷ node (null ∷ okLiteral 0 ∷ resultUnwrap 1 ∷ []) returnedNull 4
-    ∷ node (string no ∷ errLiteral 0 ∷ resultUnwrap 1 ∷ []) (stopped (said "no")) 4
-    ∷ node (null ∷ errLiteral 0 ∷ resultUnwrap 1 ∷ []) (stopped nothing) 4
+    node (number 5 ∷ ok_literal 0 ∷ result_unwrap_lem 1 ∷ []) (returned (int 5)) 4
+    ∷ node (null ∷ ok_literal 0 ∷ result_unwrap_lem 1 ∷ []) returned_null 4
+    ∷ node (string no ∷ err_literal 0 ∷ result_unwrap_lem 1 ∷ []) (stopped (said "no")) 4
+    ∷ node (null ∷ err_literal 0 ∷ result_unwrap_lem 1 ∷ []) (stopped nothing) 4
     -- while true { unwrap(x) }, where x is an Err
-    ∷ runs (err five ∷ []) (identifier x ∷ resultUnwrap 0 ∷ bool 1 ∷ [])
+    ∷ runs (err five ∷ []) (identifier x ∷ result_unwrap_lem 0 ∷ bool 1 ∷ [])
     (bare 1 ∷ while 2 (from 0 1) ∷ never ∷ []) 2 (stopped five) 6
     ∷ []
 
@@ -137,20 +137,20 @@ conditions v =
     ∷ runs (v ∷ []) (identifier x ∷ []) (while 0 (from 0 0) ∷ []) 1 (fault 2) 3
     ∷ []
 
-abbrev wrongSort : List Row
-wrongSort =
+abbrev wrong_sort : List Row
+wrong_sort =
     conditions (int 1) ++ conditions half ++ conditions (str no) ++ conditions (plain nothing)
     ++ conditions (ok (folded (value.bool true))) ++ conditions (err (folded (value.bool true)))
-    ++ map (λ v. node_of (v ∷ []) (identifier x ∷ isErr 0 ∷ []) (fault 2) 3) (int 5 ∷ plain nothing ∷ [])
-    ++ map (λ v. node_of (v ∷ []) (identifier x ∷ resultUnwrap 0 ∷ []) (fault 2) 3) (int 5 ∷ plain nothing ∷ [])
-    ++ map (λ v. node_of (v ∷ []) (identifier x ∷ okLiteral 0 ∷ []) (fault 2) 3) (ok five ∷ err five ∷ [])
-    ++ map (λ v. node_of (v ∷ []) (identifier x ∷ errLiteral 0 ∷ []) (fault 2) 3) (ok five ∷ err five ∷ [])
+    ++ map (λ v. node_of (v ∷ []) (identifier x ∷ is_err_lem 0 ∷ []) (fault 2) 3) (int 5 ∷ plain nothing ∷ [])
+    ++ map (λ v. node_of (v ∷ []) (identifier x ∷ result_unwrap_lem 0 ∷ []) (fault 2) 3) (int 5 ∷ plain nothing ∷ [])
+    ++ map (λ v. node_of (v ∷ []) (identifier x ∷ ok_literal 0 ∷ []) (fault 2) 3) (ok five ∷ err five ∷ [])
+    ++ map (λ v. node_of (v ∷ []) (identifier x ∷ err_literal 0 ∷ []) (fault 2) 3) (ok five ∷ err five ∷ [])
 
 -- ---- "3 unknown name; 4 no value;"
 
 -- -x, !x, x + 1, 1 + x
-abbrev noValue : Value ℕ → List Row
-noValue v =
+abbrev no_value : Value ℕ → List Row
+no_value v =
     node_of (v ∷ []) (identifier x ∷ unary minus 0 ∷ []) (fault 4) 3
     ∷ node_of (v ∷ []) (identifier x ∷ unary 5 0 ∷ []) (fault 4) 3
     ∷ node_of (v ∷ []) (identifier x ∷ number 1 ∷ binary 0 plus 1 ∷ []) (fault 4) 4
@@ -167,54 +167,54 @@ faults =
     ∷ node (number 7 ∷ number 0 ∷ binary 0 slash 1 ∷ []) (fault 4) 4
     ∷ node (number 1 ∷ string no ∷ binary 0 plus 1 ∷ []) (fault 4) 4
     ∷ node (number 1 ∷ binary 0 12 0 ∷ []) (fault 4) 4
-    ∷ noValue (plain nothing) ++ noValue (ok five) ++ noValue (err five)
+    ∷ no_value (plain nothing) ++ no_value (ok five) ++ no_value (err five)
 
 -- ---- "5 more than 128 bindings."
 
 -- the body by the numbers of its statements
 abbrev long : List (Value ℕ) → List Rec → List ℕ → Outcome Text → ℕ → Row
-long vs statements list o u = endsLate (listed (plainly vs) (number 1 ∷ []) statements list) vs o u
+long vs statements list o u = ends_late (listed (plainly vs) (number 1 ∷ []) statements list) vs o u
 
 abbrev bindings : List Row
 bindings =
-    long [] (declare x 0 ∷ []) (replicate 128 0) returnedNull 256
+    long [] (declare x 0 ∷ []) (replicate 128 0) returned_null 256
     ∷ long [] (declare x 0 ∷ []) (replicate 129 0) (fault 5) 258
     -- a parameter is one
-    ∷ long (int 1 ∷ []) (declare x 0 ∷ []) (replicate 127 0) returnedNull 254
+    ∷ long (int 1 ∷ []) (declare x 0 ∷ []) (replicate 127 0) returned_null 254
     ∷ long (int 1 ∷ []) (declare x 0 ∷ []) (replicate 128 0) (fault 5) 256
     -- those of a scope that is left are none
     ∷ long []
-    (declare x 0 ∷ branch none (from 0 1) ∷ conditional 1 none ∷ []) (replicate 127 0 ++ replicate 3 2 ++ 0 ∷ []) returnedNull 265
+    (declare x 0 ∷ branch none (from 0 1) ∷ conditional 1 none ∷ []) (replicate 127 0 ++ replicate 3 2 ++ 0 ∷ []) returned_null 265
     ∷ []
 
 -- ---- "A last top-level bare expression gives the value; otherwise the end gives Null."
 
 abbrev lasts : List Row
 lasts =
-    runs [] [] [] 0 returnedNull 0
+    runs [] [] [] 0 returned_null 0
     ∷ node (number 5 ∷ []) (returned (int 5)) 2
     ∷ runs [] (number 1 ∷ number 5 ∷ []) (bare 0 ∷ bare 0 ∷ bare 1 ∷ []) 3 (returned (int 5)) 6
     -- 5; let x = 5
-    ∷ runs [] (number 5 ∷ []) (bare 0 ∷ declare x 0 ∷ []) 2 returnedNull 4
+    ∷ runs [] (number 5 ∷ []) (bare 0 ∷ declare x 0 ∷ []) 2 returned_null 4
     -- if { 5 }; loop { 5; break }
-    ∷ runs [] (number 5 ∷ []) (bare 0 ∷ branch none (from 0 1) ∷ conditional 1 none ∷ []) 1 returnedNull 3
-    ∷ runs [] (number 5 ∷ []) (bare 0 ∷ break ∷ loop (from 0 2) ∷ []) 1 returnedNull 5
+    ∷ runs [] (number 5 ∷ []) (bare 0 ∷ branch none (from 0 1) ∷ conditional 1 none ∷ []) 1 returned_null 3
+    ∷ runs [] (number 5 ∷ []) (bare 0 ∷ break ∷ loop (from 0 2) ∷ []) 1 returned_null 5
     ∷ []
 
 -- ---- "Outcome: Returned, Stopped, Fault or Spent, with the steps used. Spent exactly when the next charge would pass the budget."
 
 unfoldable pub rows : List Row
 rows =
-    firstRows ++ folding ++ taken ++ notTaken ++ unwrapping ++ outside break ++ outside continue ++ wrongSort ++ faults ++ bindings
+    first_rows ++ folding ++ taken ++ not_taken ++ unwrapping ++ outside break ++ outside continue ++ wrong_sort ++ faults ++ bindings
     ++ lasts
 
-abbrev withBytes : Image → Outcome ℕ × ℕ → Outcome Text × ℕ
-withBytes im e = (mapOutcome (text_of im) e.0, e.1)
+abbrev with_bytes : Image → Outcome ℕ × ℕ → Outcome Text × ℕ
+with_bytes im e = (map_outcome (text_of im) e.0, e.1)
 
 abbrev pub ran : Row → ℕ → Outcome Text × ℕ
-ran r b = withBytes r.image (used b (runFunction (text_of r.image) (plainFunction r.image r.function) r.values b))
+ran r b = with_bytes r.image (used b (run_function (text_of r.image) (plain_function r.image r.function) r.values b))
 
 -- THEOREM: each of them ends so
-pub runs-end-so : map (λ r. map (ran r) r.budgets) rows ≡ map (λ r. map (expected r) r.budgets) rows
-unfolding rows firstRows textBytes textRecords ascii up_from formBy callForm isResPath descendBy descend exprTree statementBy itemTree param_at functionAt plainFunction runFunction turns top stmt body branchOr or_else eval find update sameText unaryValue binaryValue bang negate compareValues arithValues of_bits of_fields
-runs-end-so = refl
+pub runs_end_so : map (λ r. map (ran r) r.budgets) rows ≡ map (λ r. map (expected r) r.budgets) rows
+unfolding rows first_rows text_bytes text_records ascii up_from form_by call_form is_res_path descend_by descend expr_tree statement_by item_tree param_at function_at plain_function run_function turns top stmt body branch_or or_else eval find update same_text unary_value binary_value bang negate compare_values arith_values of_bits of_fields
+runs_end_so = refl

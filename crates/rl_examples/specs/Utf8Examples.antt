@@ -1,7 +1,7 @@
 -- UTF-8, by computation: the examples of section 7 of RFC 3629, and octets that are no UTF-8.
 -- Assumes nothing.
 use Rattle.std.specs.Prelude.{◌≡◌, ℕ, Bool, true, false, List, [], ◌∷◌, map, refl}
-use Rattle.rl_spec.specs.Utf8.{within, utf8Char, begins, width_by, charWidth, octets, utf8, is_scalar, encodeScalar, encodeText}
+use Rattle.rl_spec.specs.Utf8.{within, utf8_char, begins, width_by, char_width, octets, utf8, is_scalar, encode_scalar, encode_text}
 
 -- scalars, and their octets
 abbrev pub encodings : List (List ℕ × List ℕ)
@@ -14,9 +14,9 @@ encodings =
     ∷ (0xFEFF ∷ 0x233B4 ∷ [], 0xEF ∷ 0xBB ∷ 0xBF ∷ 0xF0 ∷ 0xA3 ∷ 0x8E ∷ 0xB4 ∷ [])
     ∷ []
 
-pub encodings-so : map (λ (r : List ℕ × List ℕ). encodeText r.0) encodings ≡ map (λ (r : List ℕ × List ℕ). r.1) encodings
-unfolding encodeText encodeScalar
-encodings-so = refl
+pub encodings_so : map (λ (r : List ℕ × List ℕ). encode_text r.0) encodings ≡ map (λ (r : List ℕ × List ℕ). r.1) encodings
+unfolding encode_text encode_scalar
+encodings_so = refl
 
 -- octets, and whether they are UTF-8
 abbrev pub judged : List (List ℕ × Bool)
@@ -34,11 +34,11 @@ judged =
     ∷ (0xE2 ∷ 0x89 ∷ [], false)
     ∷ []
 
-pub judged-so : map (λ (r : List ℕ × Bool). utf8 r.0) judged ≡ map (λ (r : List ℕ × Bool). r.1) judged
-unfolding utf8 octets charWidth width_by begins utf8Char within
-judged-so = refl
+pub judged_so : map (λ (r : List ℕ × Bool). utf8 r.0) judged ≡ map (λ (r : List ℕ × Bool). r.1) judged
+unfolding utf8 octets char_width width_by begins utf8_char within
+judged_so = refl
 
 -- both ends of the scalars, and of the surrogates between them
-pub scalars-so : map is_scalar (0 ∷ 0xD7FF ∷ 0xD800 ∷ 0xDFFF ∷ 0xE000 ∷ 0x10FFFF ∷ 0x110000 ∷ []) ≡ true ∷ true ∷ false ∷ false ∷ true ∷ true ∷ false ∷ []
+pub scalars_so : map is_scalar (0 ∷ 0xD7FF ∷ 0xD800 ∷ 0xDFFF ∷ 0xE000 ∷ 0x10FFFF ∷ 0x110000 ∷ []) ≡ true ∷ true ∷ false ∷ false ∷ true ∷ true ∷ false ∷ []
 unfolding is_scalar within
-scalars-so = refl
+scalars_so = refl

@@ -18,10 +18,10 @@ use Rattle.rl_spec.specs.declared.Target.{Target}
 use Rattle.rl_spec.specs.declared.Target.TheVariants.{Text, Expression}
 use Rattle.rl_spec.specs.declared.Check.{Check}
 use Rattle.rl_spec.specs.declared.Check.TheVariants.{Holds, Fails}
-use Rattle.rl_spec.specs.Bytes.{u16At}
-use Rattle.rl_spec.specs.Schema.{textBytesAt, count_of}
+use Rattle.rl_spec.specs.Bytes.{u16_at}
+use Rattle.rl_spec.specs.Schema.{text_bytes_at, count_of}
 use Rattle.rl_spec.specs.Utf8.{utf8}
-use Rattle.rl_spec.specs.Fields.{unless, takes, within, zeros, kindOfStatement, allowed, nodeHeight, statementHeight, heightIn, childHeight, entry_at, range_of, part_of, byteIn, operandSortOf, referTo, referOrNone, entriesFrom, list_of, operandOf}
+use Rattle.rl_spec.specs.Fields.{unless, takes, within, zeros, kind_of_statement, allowed, node_height, statement_height, height_in, child_height, entry_at, range_of, part_of, byte_in, operand_sort_of, refer_to, refer_or_none, entries_from, list_of, operand_of}
 
 -- ---- loops that count
 
@@ -34,155 +34,155 @@ ended n i h = omega arith
 
 -- ---- values
 
-pub unless-yes : (c : Cause) (b : Bool) (tall : ℕ) → b ≡ true → Holds tall ≡ unless c b tall
-unless-yes c b tall e = rw e refl
+pub unless_yes : (c : Cause) (b : Bool) (tall : ℕ) → b ≡ true → Holds tall ≡ unless c b tall
+unless_yes c b tall e = rw e refl
 
-pub unless-no : (c : Cause) (b : Bool) (tall : ℕ) → b ≡ false → Fails c ≡ unless c b tall
-unless-no c b tall e = rw e refl
+pub unless_no : (c : Cause) (b : Bool) (tall : ℕ) → b ≡ false → Fails c ≡ unless c b tall
+unless_no c b tall e = rw e refl
 
 module _ (low high b tall : ℕ) where
-  pub byte_low : b < low → Fails BadValue ≡ byteIn low high b tall
-  unfolding byteIn
+  pub byte_low : b < low → Fails BadValue ≡ byte_in low high b tall
+  unfolding byte_in
   byte_low p = rw (lt-ltb b low p) refl
 
   module _ (p : low ≤ b) where
-    pub byte-good : b ≤ high → Holds tall ≡ byteIn low high b tall
-    unfolding byteIn
-    byte-good q = rw (le-ltb b low p, le-leb b high q) refl
+    pub byte_good : b ≤ high → Holds tall ≡ byte_in low high b tall
+    unfolding byte_in
+    byte_good q = rw (le-ltb b low p, le-leb b high q) refl
 
-    pub byte_high : high < b → Fails BadValue ≡ byteIn low high b tall
-    unfolding byteIn
+    pub byte_high : high < b → Fails BadValue ≡ byte_in low high b tall
+    unfolding byte_in
     byte_high q = rw (le-ltb b low p, lt-leb b high q) refl
 
-pub multiple-none : (count step : ℕ) → step ≡ 0 → eqb count 0 ≡ eqb (count % step) 0
-multiple-none count step e = rw (e, mod-zero count) refl
+pub multiple_none : (count step : ℕ) → step ≡ 0 → eqb count 0 ≡ eqb (count % step) 0
+multiple_none count step e = rw (e, mod-zero count) refl
 
 module _ (refinement b tall : ℕ) (r : Check) where
-  pub sort-none : refinement ≡ 0 → r ≡ unless BadValue (eqb b 0) tall → r ≡ operandSortOf refinement b tall
-  unfolding operandSortOf
-  sort-none p e = rw (eq-eqb refinement 0 p) e
+  pub sort_none : refinement ≡ 0 → r ≡ unless BadValue (eqb b 0) tall → r ≡ operand_sort_of refinement b tall
+  unfolding operand_sort_of
+  sort_none p e = rw (eq-eqb refinement 0 p) e
 
-  pub sort-some : (refinement ≡ 0 → ⊥) → r ≡ byteIn 1 4 b tall → r ≡ operandSortOf refinement b tall
-  unfolding operandSortOf
-  sort-some p e = rw (ne_eqb refinement 0 p) e
+  pub sort_some : (refinement ≡ 0 → ⊥) → r ≡ byte_in 1 4 b tall → r ≡ operand_sort_of refinement b tall
+  unfolding operand_sort_of
+  sort_some p e = rw (ne_eqb refinement 0 p) e
 
 module _ (seen : Counts) (first count : ℕ) (o : Section) (tall most : ℕ) (e : most ≡ count_of seen o) where
-  pub range-in : first + count ≤ most → Holds tall ≡ range_of seen first count o tall
+  pub range_in : first + count ≤ most → Holds tall ≡ range_of seen first count o tall
   unfolding range_of
-  range-in p = rw (← e, le-leb (first + count) most p) refl
+  range_in p = rw (← e, le-leb (first + count) most p) refl
 
-  pub range-out : most < first + count → Fails BadReference ≡ range_of seen first count o tall
+  pub range_out : most < first + count → Fails BadReference ≡ range_of seen first count o tall
   unfolding range_of
-  range-out p = rw (← e, lt-leb (first + count) most p) refl
+  range_out p = rw (← e, lt-leb (first + count) most p) refl
 
 module _ (s : List ℕ) (seen : Counts) (offset size tall : ℕ) where
-  pub part-far : seen.bytes < offset + size → Fails BadText ≡ part_of s seen offset size tall
+  pub part_far : seen.bytes < offset + size → Fails BadText ≡ part_of s seen offset size tall
   unfolding part_of
-  part-far p = rw (lt-ltb seen.bytes (offset + size) p) refl
+  part_far p = rw (lt-ltb seen.bytes (offset + size) p) refl
 
-  module _ (p : offset + size ≤ seen.bytes) (t : List ℕ) (e : t ≡ take size (drop (textBytesAt + offset) s)) (b : Bool) (f : b ≡ utf8 t) where
-    pub part-good : b ≡ true → Holds tall ≡ part_of s seen offset size tall
+  module _ (p : offset + size ≤ seen.bytes) (t : List ℕ) (e : t ≡ take size (drop (text_bytes_at + offset) s)) (b : Bool) (f : b ≡ utf8 t) where
+    pub part_good : b ≡ true → Holds tall ≡ part_of s seen offset size tall
     unfolding part_of
-    part-good q = rw (le-ltb seen.bytes (offset + size) p, ← e, ← f, q) refl
+    part_good q = rw (le-ltb seen.bytes (offset + size) p, ← e, ← f, q) refl
 
-    pub part-bad : b ≡ false → Fails BadText ≡ part_of s seen offset size tall
+    pub part_bad : b ≡ false → Fails BadText ≡ part_of s seen offset size tall
     unfolding part_of
-    part-bad q = rw (le-ltb seen.bytes (offset + size) p, ← e, ← f, q) refl
+    part_bad q = rw (le-ltb seen.bytes (offset + size) p, ← e, ← f, q) refl
 
 -- ---- references
 
-pub takes-is : (t k : Target) (kind : ℕ) (r : Bool) → t ≡ k → r ≡ takes k kind → r ≡ takes t kind
-takes-is t k kind r e f = rw e f
+pub takes_is : (t k : Target) (kind : ℕ) (r : Bool) → t ≡ k → r ≡ takes k kind → r ≡ takes t kind
+takes_is t k kind r e f = rw e f
 
 pub takes_first : (kind : ℕ) → kind ≡ 69 → true ≡ cond (eqb kind 69) true (eqb kind 68)
 takes_first kind e = rw (eq-eqb kind 69 e) refl
 
-pub takes-second : (kind : ℕ) → (kind ≡ 69 → ⊥) → eqb kind 68 ≡ cond (eqb kind 69) true (eqb kind 68)
-takes-second kind e = rw (ne_eqb kind 69 e) refl
+pub takes_second : (kind : ℕ) → (kind ≡ 69 → ⊥) → eqb kind 68 ≡ cond (eqb kind 69) true (eqb kind 68)
+takes_second kind e = rw (ne_eqb kind 69 e) refl
 
-pub kind-is : (s p : List ℕ) (seen : Counts) (n start r : ℕ) → start ≡ get_or p (seen.expressions + n) 0 → r ≡ get_or s start 0 → r ≡ kindOfStatement s p seen n
-unfolding kindOfStatement
-kind-is s p seen n start r e f = rw (← e) f
+pub kind_is : (s p : List ℕ) (seen : Counts) (n start r : ℕ) → start ≡ get_or p (seen.expressions + n) 0 → r ≡ get_or s start 0 → r ≡ kind_of_statement s p seen n
+unfolding kind_of_statement
+kind_is s p seen n start r e f = rw (← e) f
 
 module _ (s p : List ℕ) (seen : Counts) (t : Target) (n limit : ℕ) (e : limit ≡ within seen t) where
-  pub allowed-in : n < limit → (k : ℕ) → k ≡ kindOfStatement s p seen n → (r : Bool) → r ≡ takes t k → r ≡ allowed s p seen t n
+  pub allowed_in : n < limit → (k : ℕ) → k ≡ kind_of_statement s p seen n → (r : Bool) → r ≡ takes t k → r ≡ allowed s p seen t n
   unfolding allowed
-  allowed-in q k f r g = rw (← e, lt-ltb n limit q, ← f) g
+  allowed_in q k f r g = rw (← e, lt-ltb n limit q, ← f) g
 
-  pub allowed-out : limit ≤ n → false ≡ allowed s p seen t n
+  pub allowed_out : limit ≤ n → false ≡ allowed s p seen t n
   unfolding allowed
-  allowed-out q = rw (← e, le-ltb n limit q) refl
+  allowed_out q = rw (← e, le-ltb n limit q) refl
 
-pub node-is : (w : List ℕ) (t k : Target) (n r : ℕ) → t ≡ k → r ≡ nodeHeight w k n → r ≡ nodeHeight w t n
-node-is w t k n r e f = rw e f
+pub node_is : (w : List ℕ) (t k : Target) (n r : ℕ) → t ≡ k → r ≡ node_height w k n → r ≡ node_height w t n
+node_is w t k n r e f = rw e f
 
-pub statement-is : (w : List ℕ) (from : ℕ) (t k : Target) (n r : ℕ) → t ≡ k → r ≡ statementHeight w from k n → r ≡ statementHeight w from t n
-statement-is w from t k n r e f = rw e f
+pub statement_is : (w : List ℕ) (from : ℕ) (t k : Target) (n r : ℕ) → t ≡ k → r ≡ statement_height w from k n → r ≡ statement_height w from t n
+statement_is w from t k n r e f = rw e f
 
-pub child-is : (w : List ℕ) (seen : Counts) (own k : Section) (t : Target) (n r : ℕ) → own ≡ k → r ≡ heightIn k w seen t n → r ≡ childHeight w seen own t n
-unfolding childHeight
-child-is w seen own k t n r e f = rw e f
+pub child_is : (w : List ℕ) (seen : Counts) (own k : Section) (t : Target) (n r : ℕ) → own ≡ k → r ≡ height_in k w seen t n → r ≡ child_height w seen own t n
+unfolding child_height
+child_is w seen own k t n r e f = rw e f
 
 module _ (s w p : List ℕ) (seen : Counts) (own : Section) (t : Target) (n tall : ℕ) where
   module _ (b : Bool) (e : b ≡ allowed s p seen t n) where
-    pub refer-good : b ≡ true → (h : ℕ) → h ≡ childHeight w seen own t n → (m : ℕ) → m ≡ max tall h → Holds m ≡ referTo s w p seen own t n tall
-    unfolding referTo
-    refer-good q h f m g = rw (g, f, ← e, q) refl
+    pub refer_good : b ≡ true → (h : ℕ) → h ≡ child_height w seen own t n → (m : ℕ) → m ≡ max tall h → Holds m ≡ refer_to s w p seen own t n tall
+    unfolding refer_to
+    refer_good q h f m g = rw (g, f, ← e, q) refl
 
-    pub refer-bad : b ≡ false → Fails BadReference ≡ referTo s w p seen own t n tall
-    unfolding referTo
-    refer-bad q = rw (← e, q) refl
+    pub refer_bad : b ≡ false → Fails BadReference ≡ refer_to s w p seen own t n tall
+    unfolding refer_to
+    refer_bad q = rw (← e, q) refl
 
-  pub none_is : n ≡ 65535 → Holds tall ≡ referOrNone s w p seen own t n tall
-  unfolding referOrNone
+  pub none_is : n ≡ 65535 → Holds tall ≡ refer_or_none s w p seen own t n tall
+  unfolding refer_or_none
   none_is q = rw (eq-eqb n 65535 q) refl
 
-  pub none-not : (n ≡ 65535 → ⊥) → (r : Check) → r ≡ referTo s w p seen own t n tall → r ≡ referOrNone s w p seen own t n tall
-  unfolding referOrNone
-  none-not q r e = rw (ne_eqb n 65535 q) e
+  pub none_not : (n ≡ 65535 → ⊥) → (r : Check) → r ≡ refer_to s w p seen own t n tall → r ≡ refer_or_none s w p seen own t n tall
+  unfolding refer_or_none
+  none_not q r e = rw (ne_eqb n 65535 q) e
 
 -- ---- loops: `whole` is what the loop has to answer, and v its invariant
 
 module _ (s : List ℕ) (at n i : ℕ) (whole : Bool) (v : whole ≡ zeros s (at + i) (n - i)) where
-  pub zeros-end : n ≤ i → true ≡ whole
+  pub zeros_end : n ≤ i → true ≡ whole
   unfolding zeros
-  zeros-end h = rw (v, ended n i h) refl
+  zeros_end h = rw (v, ended n i h) refl
 
   module _ (q : i < n) where
-    pub zeros-more : get_or s (at + i) 0 ≡ 0 → whole ≡ zeros s (at + (i + 1)) (n - (i + 1))
+    pub zeros_more : get_or s (at + i) 0 ≡ 0 → whole ≡ zeros s (at + (i + 1)) (n - (i + 1))
     unfolding zeros
-    zeros-more e =
+    zeros_more e =
         let a : at + (i + 1) ≡ at + i + 1 = omega arith in
         rw (v, turn n i q, a, eq-eqb (get_or s (at + i) 0) 0 e) refl
 
-    pub zeros-not : (get_or s (at + i) 0 ≡ 0 → ⊥) → false ≡ whole
+    pub zeros_not : (get_or s (at + i) 0 ≡ 0 → ⊥) → false ≡ whole
     unfolding zeros
-    zeros-not e = rw (v, turn n i q, ne_eqb (get_or s (at + i) 0) 0 e) refl
+    zeros_not e = rw (v, turn n i q, ne_eqb (get_or s (at + i) 0) 0 e) refl
 
-pub zeros-start : (s : List ℕ) (at n : ℕ) → zeros s at n ≡ zeros s (at + 0) (n - 0)
-zeros-start s at n =
+pub zeros_start : (s : List ℕ) (at n : ℕ) → zeros s at n ≡ zeros s (at + 0) (n - 0)
+zeros_start s at n =
     let a : at + 0 ≡ at = omega arith in
     let b : n - 0 ≡ n = omega arith in
     rw (a, b)
 
-module _ (s w p : List ℕ) (seen : Counts) (own : Section) (first count i tall : ℕ) (l r : Target) (whole : Check) (v : whole ≡ entriesFrom s w p seen own (count - i) (first + i) l r tall) where
-  pub entries-end : count ≤ i → Holds tall ≡ whole
-  unfolding entriesFrom
-  entries-end h = rw (v, ended count i h) refl
+module _ (s w p : List ℕ) (seen : Counts) (own : Section) (first count i tall : ℕ) (l r : Target) (whole : Check) (v : whole ≡ entries_from s w p seen own (count - i) (first + i) l r tall) where
+  pub entries_end : count ≤ i → Holds tall ≡ whole
+  unfolding entries_from
+  entries_end h = rw (v, ended count i h) refl
 
   module _ (q : i < count) (n : ℕ) (e : n ≡ entry_at s seen (first + i)) (b : Bool) (f : b ≡ allowed s p seen l n) where
-    pub entries-more : b ≡ true → (h : ℕ) → h ≡ childHeight w seen own l n → (t : ℕ) → t ≡ max tall h → whole ≡ entriesFrom s w p seen own (count - (i + 1)) (first + (i + 1)) r l t
-    unfolding entriesFrom
-    entries-more g h x t y =
+    pub entries_more : b ≡ true → (h : ℕ) → h ≡ child_height w seen own l n → (t : ℕ) → t ≡ max tall h → whole ≡ entries_from s w p seen own (count - (i + 1)) (first + (i + 1)) r l t
+    unfolding entries_from
+    entries_more g h x t y =
         let a : first + (i + 1) ≡ first + i + 1 = omega arith in
         rw (v, turn count i q, a, y, x, ← e, ← f, g) refl
 
-    pub entries-bad : b ≡ false → Fails BadReference ≡ whole
-    unfolding entriesFrom
-    entries-bad g = rw (v, turn count i q, ← e, ← f, g) refl
+    pub entries_bad : b ≡ false → Fails BadReference ≡ whole
+    unfolding entries_from
+    entries_bad g = rw (v, turn count i q, ← e, ← f, g) refl
 
-pub entries-start : (s w p : List ℕ) (seen : Counts) (own : Section) (first count tall : ℕ) (l r : Target) → entriesFrom s w p seen own count first l r tall ≡ entriesFrom s w p seen own (count - 0) (first + 0) l r tall
-entries-start s w p seen own first count tall l r =
+pub entries_start : (s w p : List ℕ) (seen : Counts) (own : Section) (first count tall : ℕ) (l r : Target) → entries_from s w p seen own count first l r tall ≡ entries_from s w p seen own (count - 0) (first + 0) l r tall
+entries_start s w p seen own first count tall l r =
     let a : count - 0 ≡ count = omega arith in
     let b : first + 0 ≡ first = omega arith in
     rw (a, b)
@@ -194,78 +194,78 @@ module _ (s p : List ℕ) (seen : Counts) (n : ℕ) where
   unfolding allowed
   node_in q = rw (lt-ltb n seen.expressions q) refl
 
-  node-out : seen.expressions ≤ n → allowed s p seen Expression n ≡ false
+  node_out : seen.expressions ≤ n → allowed s p seen Expression n ≡ false
   unfolding allowed
-  node-out q = rw (le-ltb n seen.expressions q) refl
+  node_out q = rw (le-ltb n seen.expressions q) refl
 
-node-child : (w : List ℕ) (seen : Counts) (n : ℕ) → get_or w n 0 ≡ childHeight w seen Expressions Expression n
-unfolding childHeight
-node-child w seen n = refl
+node_child : (w : List ℕ) (seen : Counts) (n : ℕ) → get_or w n 0 ≡ child_height w seen Expressions Expression n
+unfolding child_height
+node_child w seen n = refl
 
 module _ (s : List ℕ) (seen : Counts) (first start : ℕ) (a : start ≡ 23 + seen.bytes + seen.texts * 5 + first * 3 + 1) where
   entry_here : (i n : ℕ) → n ≡ get_or s (start + i * 3) 0 + get_or s (start + i * 3 + 1) 0 * 256 → n ≡ entry_at s seen (first + i)
-  unfolding entry_at u16At
+  unfolding entry_at u16_at
   entry_here i n e =
       let b : 23 + seen.bytes + seen.texts * 5 + (first + i) * 3 + 1 ≡ start + i * 3 = omega arith in
       rw b e
 
-  module _ (w p : List ℕ) (count i tall : ℕ) (whole : Check) (v : whole ≡ entriesFrom s w p seen Expressions (count - i) (first + i) Expression Expression tall) (q : i < count) (n : ℕ) (e : n ≡ get_or s (start + i * 3) 0 + get_or s (start + i * 3 + 1) 0 * 256) where
-    pub nodes-more : n < seen.expressions → (t : ℕ) → t ≡ max tall (get_or w n 0) → whole ≡ entriesFrom s w p seen Expressions (count - (i + 1)) (first + (i + 1)) Expression Expression t
-    nodes-more x t y =
-        entries-more s w p seen Expressions first count i tall Expression Expression whole v q n (entry_here i n e) true
-        (sym (node_in s p seen n x)) refl (get_or w n 0) (node-child w seen n) t y
+  module _ (w p : List ℕ) (count i tall : ℕ) (whole : Check) (v : whole ≡ entries_from s w p seen Expressions (count - i) (first + i) Expression Expression tall) (q : i < count) (n : ℕ) (e : n ≡ get_or s (start + i * 3) 0 + get_or s (start + i * 3 + 1) 0 * 256) where
+    pub nodes_more : n < seen.expressions → (t : ℕ) → t ≡ max tall (get_or w n 0) → whole ≡ entries_from s w p seen Expressions (count - (i + 1)) (first + (i + 1)) Expression Expression t
+    nodes_more x t y =
+        entries_more s w p seen Expressions first count i tall Expression Expression whole v q n (entry_here i n e) true
+        (sym (node_in s p seen n x)) refl (get_or w n 0) (node_child w seen n) t y
 
-    pub nodes-bad : seen.expressions ≤ n → Fails BadReference ≡ whole
-    nodes-bad x =
-        entries-bad s w p seen Expressions first count i tall Expression Expression whole v q n (entry_here i n e) false
-        (sym (node-out s p seen n x)) refl
+    pub nodes_bad : seen.expressions ≤ n → Fails BadReference ≡ whole
+    nodes_bad x =
+        entries_bad s w p seen Expressions first count i tall Expression Expression whole v q n (entry_here i n e) false
+        (sym (node_out s p seen n x)) refl
 
-pub nodes-are : (s w p : List ℕ) (seen : Counts) (own : Section) (first count tall : ℕ) (l r : Target) (x : Check) → own ≡ Expressions → l ≡ Expression → r ≡ Expression → x ≡ entriesFrom s w p seen Expressions count first Expression Expression tall → x ≡ entriesFrom s w p seen own count first l r tall
-nodes-are s w p seen own first count tall l r x e f g h = rw (e, f, g) h
+pub nodes_are : (s w p : List ℕ) (seen : Counts) (own : Section) (first count tall : ℕ) (l r : Target) (x : Check) → own ≡ Expressions → l ≡ Expression → r ≡ Expression → x ≡ entries_from s w p seen Expressions count first Expression Expression tall → x ≡ entries_from s w p seen own count first l r tall
+nodes_are s w p seen own first count tall l r x e f g h = rw (e, f, g) h
 
 -- ---- a list, and an operand
 
 module _ (s w p : List ℕ) (seen : Counts) (own : Section) (first count step tall : ℕ) (l r : Target) where
-  pub list-far : seen.lists < first + count → Fails BadReference ≡ list_of s w p seen own first count l r step tall
+  pub list_far : seen.lists < first + count → Fails BadReference ≡ list_of s w p seen own first count l r step tall
   unfolding list_of
-  list-far q = rw (lt-ltb seen.lists (first + count) q) refl
+  list_far q = rw (lt-ltb seen.lists (first + count) q) refl
 
   module _ (q : first + count ≤ seen.lists) (b : Bool) (e : b ≡ eqb (count % step) 0) where
-    pub list-in : b ≡ true → (x : Check) → x ≡ entriesFrom s w p seen own count first l r tall → x ≡ list_of s w p seen own first count l r step tall
+    pub list_in : b ≡ true → (x : Check) → x ≡ entries_from s w p seen own count first l r tall → x ≡ list_of s w p seen own first count l r step tall
     unfolding list_of
-    list-in f x g = rw (le-ltb seen.lists (first + count) q, ← e, f) g
+    list_in f x g = rw (le-ltb seen.lists (first + count) q, ← e, f) g
 
-    pub list-odd : b ≡ false → Fails BadReference ≡ list_of s w p seen own first count l r step tall
+    pub list_odd : b ≡ false → Fails BadReference ≡ list_of s w p seen own first count l r step tall
     unfolding list_of
-    list-odd f = rw (le-ltb seen.lists (first + count) q, ← e, f) refl
+    list_odd f = rw (le-ltb seen.lists (first + count) q, ← e, f) refl
 
 module _ (s : List ℕ) (at : ℕ) where
-  pub bool-low : get_or s at 0 ≤ 1 → (b : Bool) → b ≡ zeros s (at + 1) 7 → b ≡ cond (leb (get_or s at 0) 1) (zeros s (at + 1) 7) false
-  bool-low q b e = rw (le-leb (get_or s at 0) 1 q) e
+  pub bool_low : get_or s at 0 ≤ 1 → (b : Bool) → b ≡ zeros s (at + 1) 7 → b ≡ cond (leb (get_or s at 0) 1) (zeros s (at + 1) 7) false
+  bool_low q b e = rw (le-leb (get_or s at 0) 1 q) e
 
-  pub bool-high : 1 < get_or s at 0 → false ≡ cond (leb (get_or s at 0) 1) (zeros s (at + 1) 7) false
-  bool-high q = rw (lt-leb (get_or s at 0) 1 q) refl
+  pub bool_high : 1 < get_or s at 0 → false ≡ cond (leb (get_or s at 0) 1) (zeros s (at + 1) 7) false
+  bool_high q = rw (lt-leb (get_or s at 0) 1 q) refl
 
 module _ (s w p : List ℕ) (seen : Counts) (own : Section) (o at tall : ℕ) where
-  pub operand-none : o ≡ 0 → (b : Bool) → b ≡ zeros s at 8 → (r : Check) → r ≡ unless BadValue b tall → r ≡ operandOf s w p seen own o at tall
-  unfolding operandOf
-  operand-none q b e r f = rw (eq-eqb o 0 q, ← e) f
+  pub operand_none : o ≡ 0 → (b : Bool) → b ≡ zeros s at 8 → (r : Check) → r ≡ unless BadValue b tall → r ≡ operand_of s w p seen own o at tall
+  unfolding operand_of
+  operand_none q b e r f = rw (eq-eqb o 0 q, ← e) f
 
   module _ (x : o ≡ 0 → ⊥) where
-    pub operand-integer : o ≡ 1 → Holds tall ≡ operandOf s w p seen own o at tall
-    unfolding operandOf
-    operand-integer q = rw (ne_eqb o 0 x, eq-eqb o 1 q) refl
+    pub operand_integer : o ≡ 1 → Holds tall ≡ operand_of s w p seen own o at tall
+    unfolding operand_of
+    operand_integer q = rw (ne_eqb o 0 x, eq-eqb o 1 q) refl
 
     module _ (y : o ≡ 1 → ⊥) where
-      pub operand-bool : o ≡ 3 → (b : Bool) → b ≡ cond (leb (get_or s at 0) 1) (zeros s (at + 1) 7) false → (r : Check) → r ≡ unless BadValue b tall → r ≡ operandOf s w p seen own o at tall
-      unfolding operandOf
-      operand-bool q b e r f = rw (ne_eqb o 0 x, ne_eqb o 1 y, eq-eqb o 3 q, ← e) f
+      pub operand_bool : o ≡ 3 → (b : Bool) → b ≡ cond (leb (get_or s at 0) 1) (zeros s (at + 1) 7) false → (r : Check) → r ≡ unless BadValue b tall → r ≡ operand_of s w p seen own o at tall
+      unfolding operand_of
+      operand_bool q b e r f = rw (ne_eqb o 0 x, ne_eqb o 1 y, eq-eqb o 3 q, ← e) f
 
       module _ (z : o ≡ 3 → ⊥) (b : Bool) (e : b ≡ zeros s (at + 2) 6) where
-        pub operand-text : b ≡ true → (n : ℕ) → n ≡ u16At s at → (r : Check) → r ≡ referTo s w p seen own Text n tall → r ≡ operandOf s w p seen own o at tall
-        unfolding operandOf
-        operand-text q n f r g = rw (ne_eqb o 0 x, ne_eqb o 1 y, ne_eqb o 3 z, ← e, q, ← f) g
+        pub operand_text : b ≡ true → (n : ℕ) → n ≡ u16_at s at → (r : Check) → r ≡ refer_to s w p seen own Text n tall → r ≡ operand_of s w p seen own o at tall
+        unfolding operand_of
+        operand_text q n f r g = rw (ne_eqb o 0 x, ne_eqb o 1 y, ne_eqb o 3 z, ← e, q, ← f) g
 
-        pub operand-left : b ≡ false → Fails BadValue ≡ operandOf s w p seen own o at tall
-        unfolding operandOf
-        operand-left q = rw (ne_eqb o 0 x, ne_eqb o 1 y, ne_eqb o 3 z, ← e, q) refl
+        pub operand_left : b ≡ false → Fails BadValue ≡ operand_of s w p seen own o at tall
+        unfolding operand_of
+        operand_left q = rw (ne_eqb o 0 x, ne_eqb o 1 y, ne_eqb o 3 z, ← e, q) refl

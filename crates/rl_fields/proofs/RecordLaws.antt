@@ -21,13 +21,13 @@ use Rattle.rl_spec.specs.declared.Check.{Check}
 use Rattle.rl_spec.specs.declared.Check.TheVariants.{Holds, Fails}
 use Rattle.rl_spec.specs.declared.Step.{Step}
 use Rattle.rl_spec.specs.declared.Step.TheVariants.{Next, Stop}
-use Rattle.rl_spec.specs.Bytes.{u16At, u32_at, past}
-use Rattle.rl_spec.specs.Schema.{raw4, raw8, node, text, sortOf, width_of, inSection, tallest}
+use Rattle.rl_spec.specs.Bytes.{u16_at, u32_at, past}
+use Rattle.rl_spec.specs.Schema.{raw4, raw8, node, text, sort_of, width_of, in_section, tallest}
 use Rattle.rl_spec.specs.Utf8.{is_scalar}
-use Rattle.rl_spec.specs.Fields.{unless, byteIn, part_of, range_of, operandSortOf, referTo, referOrNone, list_of, operandOf, value_of, field_at, fieldsFrom, heightStep, recordAt}
+use Rattle.rl_spec.specs.Fields.{unless, byte_in, part_of, range_of, operand_sort_of, refer_to, refer_or_none, list_of, operand_of, value_of, field_at, fields_from, height_step, record_at}
 use Rattle.rl_schema.specs.Codes.{codes, table}
-use Rattle.rl_fields.specs.Checked.{recordBy}
-use Rattle.rl_schema.proofs.Rows.{codes-none, codes-more, row-codes}
+use Rattle.rl_fields.specs.Checked.{record_by}
+use Rattle.rl_schema.proofs.Rows.{codes_none, codes_more, row_codes}
 
 -- ---- bytes that are there
 
@@ -35,8 +35,8 @@ pub there : (s : List ℕ) (at n : ℕ) (r : Bool) → r ≡ past s at n → r �
 unfolding past
 there s at n r e f = ltb-false (length s) (at + n) (sym e ∙ f)
 
-pub byte-there : (s : List ℕ) (at : ℕ) (r : Bool) → r ≡ past s at 1 → r ≡ false → at < length s
-byte-there s at r e f = omega (arith, there s at 1 r e f)
+pub byte_there : (s : List ℕ) (at : ℕ) (r : Bool) → r ≡ past s at 1 → r ≡ false → at < length s
+byte_there s at r e f = omega (arith, there s at 1 r e f)
 
 -- ---- a field
 
@@ -50,92 +50,92 @@ module _ (s w p : List ℕ) (seen : Counts) (own : Section) (o : Sort) (at tall 
     unfolding field_at
     value k g v h = rw (← e, ← f, q, g) h
 
-    pub field-raw : (n : ℕ) → o ≡ Raw n → Holds tall ≡ field_at s w p seen own o at tall
+    pub field_raw : (n : ℕ) → o ≡ Raw n → Holds tall ≡ field_at s w p seen own o at tall
     unfolding value_of
-    field-raw n g = value (Raw n) g (Holds tall) refl
+    field_raw n g = value (Raw n) g (Holds tall) refl
 
-    pub field-byte : (low high : ℕ) → o ≡ Byte low high → (x : ℕ) → x ≡ get_or s at 0 → (v : Check) → v ≡ byteIn low high x tall → v ≡ field_at s w p seen own o at tall
+    pub field_byte : (low high : ℕ) → o ≡ Byte low high → (x : ℕ) → x ≡ get_or s at 0 → (v : Check) → v ≡ byte_in low high x tall → v ≡ field_at s w p seen own o at tall
     unfolding value_of
-    field-byte low high g x h v i = value (Byte low high) g v (rw (← h) i)
+    field_byte low high g x h v i = value (Byte low high) g v (rw (← h) i)
 
-    pub field-scalar : o ≡ Scalar → (x : ℕ) → x ≡ u32_at s at → (y : Bool) → y ≡ is_scalar x → (v : Check) → v ≡ unless BadValue y tall → v ≡ field_at s w p seen own o at tall
+    pub field_scalar : o ≡ Scalar → (x : ℕ) → x ≡ u32_at s at → (y : Bool) → y ≡ is_scalar x → (v : Check) → v ≡ unless BadValue y tall → v ≡ field_at s w p seen own o at tall
     unfolding value_of
-    field-scalar g x h y i v j = value Scalar g v (rw (← h, ← i) j)
+    field_scalar g x h y i v j = value Scalar g v (rw (← h, ← i) j)
 
-    pub field-operand-sort : o ≡ OperandSort → (x : ℕ) → x ≡ get_or s (at - 1) 0 → (y : ℕ) → y ≡ get_or s at 0 → (v : Check) → v ≡ operandSortOf x y tall → v ≡ field_at s w p seen own o at tall
+    pub field_operand_sort : o ≡ OperandSort → (x : ℕ) → x ≡ get_or s (at - 1) 0 → (y : ℕ) → y ≡ get_or s at 0 → (v : Check) → v ≡ operand_sort_of x y tall → v ≡ field_at s w p seen own o at tall
     unfolding value_of
-    field-operand-sort g x h y i v j = value OperandSort g v (rw (← h, ← i) j)
+    field_operand_sort g x h y i v j = value OperandSort g v (rw (← h, ← i) j)
 
-    pub field-operand : o ≡ Operand → (x : ℕ) → x ≡ get_or s (at - 1) 0 → (v : Check) → v ≡ operandOf s w p seen own x at tall → v ≡ field_at s w p seen own o at tall
+    pub field_operand : o ≡ Operand → (x : ℕ) → x ≡ get_or s (at - 1) 0 → (v : Check) → v ≡ operand_of s w p seen own x at tall → v ≡ field_at s w p seen own o at tall
     unfolding value_of
-    field-operand g x h v j = value Operand g v (rw (← h) j)
+    field_operand g x h v j = value Operand g v (rw (← h) j)
 
-    pub operand-there : o ≡ Operand → at + 8 ≤ length s
-    operand-there g = there s at 8 b (f ∙ ap (past s at) (e ∙ ap width_of g)) q
+    pub operand_there : o ≡ Operand → at + 8 ≤ length s
+    operand_there g = there s at 8 b (f ∙ ap (past s at) (e ∙ ap width_of g)) q
 
-    module _ (x : ℕ) (h : x ≡ u16At s at) where
-      pub field-one : (t : Target) → o ≡ One t → (v : Check) → v ≡ referTo s w p seen own t x tall → v ≡ field_at s w p seen own o at tall
+    module _ (x : ℕ) (h : x ≡ u16_at s at) where
+      pub field_one : (t : Target) → o ≡ One t → (v : Check) → v ≡ refer_to s w p seen own t x tall → v ≡ field_at s w p seen own o at tall
       unfolding value_of
-      field-one t g v j = value (One t) g v (rw (← h) j)
+      field_one t g v j = value (One t) g v (rw (← h) j)
 
-      pub field-maybe : (t : Target) → o ≡ Maybe t → (v : Check) → v ≡ referOrNone s w p seen own t x tall → v ≡ field_at s w p seen own o at tall
+      pub field_maybe : (t : Target) → o ≡ Maybe t → (v : Check) → v ≡ refer_or_none s w p seen own t x tall → v ≡ field_at s w p seen own o at tall
       unfolding value_of
-      field-maybe t g v j = value (Maybe t) g v (rw (← h) j)
+      field_maybe t g v j = value (Maybe t) g v (rw (← h) j)
 
-      module _ (y : ℕ) (i : y ≡ u16At s (at + 2)) where
-        pub field-part : o ≡ Part → (v : Check) → v ≡ part_of s seen x y tall → v ≡ field_at s w p seen own o at tall
+      module _ (y : ℕ) (i : y ≡ u16_at s (at + 2)) where
+        pub field_part : o ≡ Part → (v : Check) → v ≡ part_of s seen x y tall → v ≡ field_at s w p seen own o at tall
         unfolding value_of
-        field-part g v j = value Part g v (rw (← h, ← i) j)
+        field_part g v j = value Part g v (rw (← h, ← i) j)
 
-        pub field-many : (l r : Target) (n : ℕ) → o ≡ Many l r n → (v : Check) → v ≡ list_of s w p seen own x y l r n tall → v ≡ field_at s w p seen own o at tall
+        pub field_many : (l r : Target) (n : ℕ) → o ≡ Many l r n → (v : Check) → v ≡ list_of s w p seen own x y l r n tall → v ≡ field_at s w p seen own o at tall
         unfolding value_of
-        field-many l r n g v j = value (Many l r n) g v (rw (← h, ← i) j)
+        field_many l r n g v j = value (Many l r n) g v (rw (← h, ← i) j)
 
-        pub field-range : (k : Section) → o ≡ Range k → (v : Check) → v ≡ range_of seen x y k tall → v ≡ field_at s w p seen own o at tall
+        pub field_range : (k : Section) → o ≡ Range k → (v : Check) → v ≡ range_of seen x y k tall → v ≡ field_at s w p seen own o at tall
         unfolding value_of
-        field-range k g v j = value (Range k) g v (rw (← h, ← i) j)
+        field_range k g v j = value (Range k) g v (rw (← h, ← i) j)
 
 module _ (s : List ℕ) (n at tall : ℕ) (b : Bool) (f : b ≡ past s at n) where
-  pub raw-past : b ≡ true → Fails BytesEnd ≡ cond (past s at n) (Fails BytesEnd) (Holds tall)
-  raw-past q = rw (← f, q) refl
+  pub raw_past : b ≡ true → Fails BytesEnd ≡ cond (past s at n) (Fails BytesEnd) (Holds tall)
+  raw_past q = rw (← f, q) refl
 
-  pub raw-there : b ≡ false → Holds tall ≡ cond (past s at n) (Fails BytesEnd) (Holds tall)
-  raw-there q = rw (← f, q) refl
+  pub raw_there : b ≡ false → Holds tall ≡ cond (past s at n) (Fails BytesEnd) (Holds tall)
+  raw_there q = rw (← f, q) refl
 
 module _ (s w p : List ℕ) (seen : Counts) (own : Section) (t : Target) (at tall : ℕ) (b : Bool) (f : b ≡ past s at 2) where
-  pub one-past : b ≡ true → Fails BytesEnd ≡ field_at s w p seen own (One t) at tall
-  one-past q = field_past s w p seen own (One t) at tall 2 b refl f q
+  pub one_past : b ≡ true → Fails BytesEnd ≡ field_at s w p seen own (One t) at tall
+  one_past q = field_past s w p seen own (One t) at tall 2 b refl f q
 
-  pub one-there : b ≡ false → (x : ℕ) → x ≡ u16At s at → (v : Check) → v ≡ referTo s w p seen own t x tall → v ≡ field_at s w p seen own (One t) at tall
-  one-there q x h v j = field-one s w p seen own (One t) at tall 2 b refl f q x h t refl v j
+  pub one_there : b ≡ false → (x : ℕ) → x ≡ u16_at s at → (v : Check) → v ≡ refer_to s w p seen own t x tall → v ≡ field_at s w p seen own (One t) at tall
+  one_there q x h v j = field_one s w p seen own (One t) at tall 2 b refl f q x h t refl v j
 
 module _ (s w p : List ℕ) (seen : Counts) (own : Section) (code at tall : ℕ) where
-  coded : (k : ℕ) → code ≡ k → (v : Check) → v ≡ field_at s w p seen own (sortOf k) at tall → v ≡ field_at s w p seen own (sortOf code) at tall
+  coded : (k : ℕ) → code ≡ k → (v : Check) → v ≡ field_at s w p seen own (sort_of k) at tall → v ≡ field_at s w p seen own (sort_of code) at tall
   coded k e v f = rw e f
 
-  pub coded-raw4 : code ≡ raw4 → (v : Check) → v ≡ cond (past s at 4) (Fails BytesEnd) (Holds tall) → v ≡ field_at s w p seen own (sortOf code) at tall
-  unfolding sortOf field_at value_of
-  coded-raw4 e v f = rw e f
+  pub coded_raw4 : code ≡ raw4 → (v : Check) → v ≡ cond (past s at 4) (Fails BytesEnd) (Holds tall) → v ≡ field_at s w p seen own (sort_of code) at tall
+  unfolding sort_of field_at value_of
+  coded_raw4 e v f = rw e f
 
-  pub coded-raw8 : code ≡ raw8 → (v : Check) → v ≡ cond (past s at 8) (Fails BytesEnd) (Holds tall) → v ≡ field_at s w p seen own (sortOf code) at tall
-  unfolding sortOf field_at value_of
-  coded-raw8 e v f = rw e f
+  pub coded_raw8 : code ≡ raw8 → (v : Check) → v ≡ cond (past s at 8) (Fails BytesEnd) (Holds tall) → v ≡ field_at s w p seen own (sort_of code) at tall
+  unfolding sort_of field_at value_of
+  coded_raw8 e v f = rw e f
 
-  pub coded-node : code ≡ node → (v : Check) → v ≡ field_at s w p seen own (One Expression) at tall → v ≡ field_at s w p seen own (sortOf code) at tall
-  unfolding sortOf
-  coded-node e v f = coded node e v f
+  pub coded_node : code ≡ node → (v : Check) → v ≡ field_at s w p seen own (One Expression) at tall → v ≡ field_at s w p seen own (sort_of code) at tall
+  unfolding sort_of
+  coded_node e v f = coded node e v f
 
-  pub coded-text : code ≡ text → (v : Check) → v ≡ field_at s w p seen own (One Text) at tall → v ≡ field_at s w p seen own (sortOf code) at tall
-  unfolding sortOf
-  coded-text e v f = coded text e v f
+  pub coded_text : code ≡ text → (v : Check) → v ≡ field_at s w p seen own (One Text) at tall → v ≡ field_at s w p seen own (sort_of code) at tall
+  unfolding sort_of
+  coded_text e v f = coded text e v f
 
-  pub coded-sort : (o : Sort) → o ≡ sortOf code → (v : Check) → v ≡ field_at s w p seen own o at tall → v ≡ field_at s w p seen own (sortOf code) at tall
-  coded-sort o e v f = rw (← e) f
+  pub coded_sort : (o : Sort) → o ≡ sort_of code → (v : Check) → v ≡ field_at s w p seen own o at tall → v ≡ field_at s w p seen own (sort_of code) at tall
+  coded_sort o e v f = rw (← e) f
 
 -- a field that holds is there
-pub field-there : (s w p : List ℕ) (seen : Counts) (own : Section) (o : Sort) (at tall : ℕ) (r : Check) → r ≡ field_at s w p seen own o at tall → (t : ℕ) → r ≡ Holds t → at + width_of o ≤ length s
+pub field_there : (s w p : List ℕ) (seen : Counts) (own : Section) (o : Sort) (at tall : ℕ) (r : Check) → r ≡ field_at s w p seen own o at tall → (t : ℕ) → r ≡ Holds t → at + width_of o ≤ length s
 unfolding field_at
-field-there s w p seen own o at tall r e t f = go (past s at (width_of o)) refl (sym e ∙ f)
+field_there s w p seen own o at tall r e t f = go (past s at (width_of o)) refl (sym e ∙ f)
   where
     go : (b : Bool) → b ≡ past s at (width_of o) → cond b (Fails BytesEnd) (value_of s w p seen own o at tall) ≡ Holds t → at + width_of o ≤ length s
     go true g h = let z : ◌≡◌ {A = ℕ} 0 1 = cc in absurd (omega arith)
@@ -144,87 +144,87 @@ field-there s w p seen own o at tall r e t f = go (past s at (width_of o)) refl 
 pub field_fits : (s w p : List ℕ) (seen : Counts) (own : Section) (o : Sort) (at tall : ℕ) (r : Check) → r ≡ field_at s w p seen own o at tall → (t : ℕ) → r ≡ Holds t → (q : Sort) → q ≡ o → (m : ℕ) → m ≡ width_of q → Fits w64 (length s) → Fits w64 (at + m)
 field_fits s w p seen own o at tall r e t f q i m g l =
     let h : m ≡ width_of o = g ∙ ap width_of i in
-    omega (arith, field-there s w p seen own o at tall r e t f)
+    omega (arith, field_there s w p seen own o at tall r e t f)
 
 pub past_fits : (s : List ℕ) (at n : ℕ) (r : Bool) → r ≡ past s at n → r ≡ false → Fits w64 (length s) → Fits w64 (at + n)
 past_fits s at n r e f l = omega (arith, there s at n r e f)
 
 -- ---- the fields
 
-module _ (s w p : List ℕ) (seen : Counts) (own : Section) (rest at tall : ℕ) (whole : Step) (v : whole ≡ fieldsFrom s w p seen own (codes rest) at tall) where
-  pub fields-end : rest ≡ 0 → Next at tall ≡ whole
-  unfolding fieldsFrom
-  fields-end q = rw (v, codes-none rest q) refl
+module _ (s w p : List ℕ) (seen : Counts) (own : Section) (rest at tall : ℕ) (whole : Step) (v : whole ≡ fields_from s w p seen own (codes rest) at tall) where
+  pub fields_end : rest ≡ 0 → Next at tall ≡ whole
+  unfolding fields_from
+  fields_end q = rw (v, codes_none rest q) refl
 
-  module _ (q : rest ≡ 0 → ⊥) (l : rest < 2 ^ 64) (r : Check) (f : r ≡ field_at s w p seen own (sortOf (rest % 256)) at tall) where
-    pub fields-more : (t : ℕ) → r ≡ Holds t → (o : Sort) → o ≡ sortOf (rest % 256) → (m : ℕ) → m ≡ width_of o → whole ≡ fieldsFrom s w p seen own (codes (rest / 256)) (at + m) t
-    unfolding fieldsFrom
-    fields-more t g o e m h = rw (v, codes-more rest l q, ← f, g, h, e) refl
+  module _ (q : rest ≡ 0 → ⊥) (l : rest < 2 ^ 64) (r : Check) (f : r ≡ field_at s w p seen own (sort_of (rest % 256)) at tall) where
+    pub fields_more : (t : ℕ) → r ≡ Holds t → (o : Sort) → o ≡ sort_of (rest % 256) → (m : ℕ) → m ≡ width_of o → whole ≡ fields_from s w p seen own (codes (rest / 256)) (at + m) t
+    unfolding fields_from
+    fields_more t g o e m h = rw (v, codes_more rest l q, ← f, g, h, e) refl
 
-    pub fields-bad : (c : Cause) → r ≡ Fails c → Stop c at ≡ whole
-    unfolding fieldsFrom
-    fields-bad c g = rw (v, codes-more rest l q, ← f, g) refl
+    pub fields_bad : (c : Cause) → r ≡ Fails c → Stop c at ≡ whole
+    unfolding fields_from
+    fields_bad c g = rw (v, codes_more rest l q, ← f, g) refl
 
-pub fields-start : (s w p : List ℕ) (seen : Counts) (own : Section) (row rest at : ℕ) → rest ≡ row → fieldsFrom s w p seen own (codes row) at 0 ≡ fieldsFrom s w p seen own (codes rest) at 0
-fields-start s w p seen own row rest at e = rw e
+pub fields_start : (s w p : List ℕ) (seen : Counts) (own : Section) (row rest at : ℕ) → rest ≡ row → fields_from s w p seen own (codes row) at 0 ≡ fields_from s w p seen own (codes rest) at 0
+fields_start s w p seen own row rest at e = rw e
 
-pub fields-as : (s w p : List ℕ) (seen : Counts) (own : Section) (row r rest at a : ℕ) → r ≡ row → rest ≡ r → a ≡ at → fieldsFrom s w p seen own (codes row) at 0 ≡ fieldsFrom s w p seen own (codes rest) a 0
-fields-as s w p seen own row r rest at a e f g = rw (f, g, e) refl
+pub fields_as : (s w p : List ℕ) (seen : Counts) (own : Section) (row r rest at a : ℕ) → r ≡ row → rest ≡ r → a ≡ at → fields_from s w p seen own (codes row) at 0 ≡ fields_from s w p seen own (codes rest) a 0
+fields_as s w p seen own row r rest at a e f g = rw (f, g, e) refl
 
 -- a span first
 module _ (s w p : List ℕ) (seen : Counts) (own : Section) (at row r : ℕ) (e : r ≡ row) (l : r < 2 ^ 64) (t : r % 256 ≡ 3) (b : Bool) (f : b ≡ past s at 4) where
-  some-row : r ≡ 0 → ⊥
-  some-row z = omega arith
+  some_row : r ≡ 0 → ⊥
+  some_row z = omega arith
 
-  field_is : (v : Check) → v ≡ cond (past s at 4) (Fails BytesEnd) (Holds 0) → v ≡ field_at s w p seen own (sortOf (r % 256)) at 0
-  field_is v g = coded-raw4 s w p seen own (r % 256) at 0 t v g
+  field_is : (v : Check) → v ≡ cond (past s at 4) (Fails BytesEnd) (Holds 0) → v ≡ field_at s w p seen own (sort_of (r % 256)) at 0
+  field_is v g = coded_raw4 s w p seen own (r % 256) at 0 t v g
 
-  row_is : fieldsFrom s w p seen own (codes row) at 0 ≡ fieldsFrom s w p seen own (codes r) at 0
-  row_is = fields-start s w p seen own row r at e
+  row_is : fields_from s w p seen own (codes row) at 0 ≡ fields_from s w p seen own (codes r) at 0
+  row_is = fields_start s w p seen own row r at e
 
-  pub span-past : b ≡ true → Stop BytesEnd at ≡ fieldsFrom s w p seen own (codes row) at 0
-  span-past q =
-      fields-bad s w p seen own r at 0 (fieldsFrom s w p seen own (codes row) at 0) row_is some-row l (Fails BytesEnd)
-      (field_is (Fails BytesEnd) (raw-past s 4 at 0 b f q)) BytesEnd refl
+  pub span_past : b ≡ true → Stop BytesEnd at ≡ fields_from s w p seen own (codes row) at 0
+  span_past q =
+      fields_bad s w p seen own r at 0 (fields_from s w p seen own (codes row) at 0) row_is some_row l (Fails BytesEnd)
+      (field_is (Fails BytesEnd) (raw_past s 4 at 0 b f q)) BytesEnd refl
 
-  pub span-next : b ≡ false → (rest a : ℕ) → rest ≡ r / 256 → a ≡ at + 4 → fieldsFrom s w p seen own (codes row) at 0 ≡ fieldsFrom s w p seen own (codes rest) a 0
-  unfolding sortOf
-  span-next q rest a g h =
+  pub span_next : b ≡ false → (rest a : ℕ) → rest ≡ r / 256 → a ≡ at + 4 → fields_from s w p seen own (codes row) at 0 ≡ fields_from s w p seen own (codes rest) a 0
+  unfolding sort_of
+  span_next q rest a g h =
       rw (g, h)
-      (fields-more s w p seen own r at 0 (fieldsFrom s w p seen own (codes row) at 0) row_is some-row l (Holds 0)
-      (field_is (Holds 0) (raw-there s 4 at 0 b f q)) 0 refl (sortOf (r % 256)) refl 4 four)
+      (fields_more s w p seen own r at 0 (fields_from s w p seen own (codes row) at 0) row_is some_row l (Holds 0)
+      (field_is (Holds 0) (raw_there s 4 at 0 b f q)) 0 refl (sort_of (r % 256)) refl 4 four)
     where
-      four : 4 ≡ width_of (sortOf (r % 256))
+      four : 4 ≡ width_of (sort_of (r % 256))
       four = rw t refl
 
 -- ---- a record
 
 module _ (rows s w p : List ℕ) (seen : Counts) (own : Section) (at : ℕ) (b : Bool) (e : b ≡ past s at 1) where
-  pub record-past : b ≡ true → Stop BytesEnd at ≡ recordBy rows s w p seen own at
-  unfolding recordBy
-  record-past q = rw (← e, q) refl
+  pub record_past : b ≡ true → Stop BytesEnd at ≡ record_by rows s w p seen own at
+  unfolding record_by
+  record_past q = rw (← e, q) refl
 
-  module _ (q : b ≡ false) (k : Bool) (f : k ≡ inSection own (get_or s at 0)) where
-    pub record-kind : k ≡ false → Stop WrongKind at ≡ recordBy rows s w p seen own at
-    unfolding recordBy
-    record-kind g = rw (← e, q, ← f, g) refl
+  module _ (q : b ≡ false) (k : Bool) (f : k ≡ in_section own (get_or s at 0)) where
+    pub record_kind : k ≡ false → Stop WrongKind at ≡ record_by rows s w p seen own at
+    unfolding record_by
+    record_kind g = rw (← e, q, ← f, g) refl
 
-    module _ (g : k ≡ true) (r : Step) (h : r ≡ fieldsFrom s w p seen own (codes (get_or rows (get_or s at 0) 0)) (at + 1) 0) where
-      rest-is : heightStep own at r ≡ recordBy rows s w p seen own at
-      unfolding recordBy
-      rest-is = rw (← e, q, ← f, g, h) refl
+    module _ (g : k ≡ true) (r : Step) (h : r ≡ fields_from s w p seen own (codes (get_or rows (get_or s at 0) 0)) (at + 1) 0) where
+      rest_is : height_step own at r ≡ record_by rows s w p seen own at
+      unfolding record_by
+      rest_is = rw (← e, q, ← f, g, h) refl
 
-      pub record-stop : (c : Cause) (n : ℕ) → r ≡ Stop c n → Stop c n ≡ recordBy rows s w p seen own at
-      record-stop c n i = rw (← rest-is, i) refl
+      pub record_stop : (c : Cause) (n : ℕ) → r ≡ Stop c n → Stop c n ≡ record_by rows s w p seen own at
+      record_stop c n i = rw (← rest_is, i) refl
 
       module _ (a t : ℕ) (i : r ≡ Next a t) (m : ℕ) (j : m ≡ tallest own) where
-        pub record-next : t < m → Next a (t + 1) ≡ recordBy rows s w p seen own at
-        record-next x = rw (← rest-is, i, ← j, lt-ltb t m x) refl
+        pub record_next : t < m → Next a (t + 1) ≡ record_by rows s w p seen own at
+        record_next x = rw (← rest_is, i, ← j, lt-ltb t m x) refl
 
-        pub record-tall : m ≤ t → Stop TooHigh at ≡ recordBy rows s w p seen own at
-        record-tall x = rw (← rest-is, i, ← j, le-ltb t m x) refl
+        pub record_tall : m ≤ t → Stop TooHigh at ≡ record_by rows s w p seen own at
+        record_tall x = rw (← rest_is, i, ← j, le-ltb t m x) refl
 
 -- by the schema's table
-pub record-by-table : (rows s w p : List ℕ) (seen : Counts) (own : Section) (at : ℕ) → rows ≡ table → recordBy rows s w p seen own at ≡ recordAt s w p seen own at
-unfolding recordBy recordAt
-record-by-table rows s w p seen own at e = rw (row-codes rows (get_or s at 0) (get_or rows (get_or s at 0) 0) e refl) refl
+pub record_by_table : (rows s w p : List ℕ) (seen : Counts) (own : Section) (at : ℕ) → rows ≡ table → record_by rows s w p seen own at ≡ record_at s w p seen own at
+unfolding record_by record_at
+record_by_table rows s w p seen own at e = rw (row_codes rows (get_or s at 0) (get_or rows (get_or s at 0) 0) e refl) refl

@@ -3,11 +3,11 @@ mod lists;
 mod references;
 
 ghost use Rattle.std.specs.Prelude.{◌≡◌, false, cond, ◌+◌, ◌%◌, ◌≤◌, length, get_or, leb};
-ghost use Rattle.rl_spec.specs.Schema.{sortOf};
+ghost use Rattle.rl_spec.specs.Schema.{sort_of};
 ghost use Rattle.rl_spec.specs.Bytes.{past};
 ghost use Rattle.rl_schema.specs.Codes.{codes};
-ghost use Rattle.rl_fields.specs.Checked.{recordBy};
-ghost use Rattle.rl_spec.specs.Fields.{unless, range_of, part_of, byteIn, operandSortOf, zeros, operandOf, field_at, fieldsFrom};
+ghost use Rattle.rl_fields.specs.Checked.{record_by};
+ghost use Rattle.rl_spec.specs.Fields.{unless, range_of, part_of, byte_in, operand_sort_of, zeros, operand_of, field_at, fields_from};
 
 use crate::lists::list_of;
 use crate::references::{refer_or_none, refer_to};
@@ -45,7 +45,7 @@ fn part_of(s: &[u8], seen: Counts, offset: u16, size: u16, tall: u16) -> Check
 }
 
 fn byte_in(low: u8, high: u8, b: u8, tall: u16) -> Check
-    ensures { result ≡ byteIn low high b tall }
+    ensures { result ≡ byte_in low high b tall }
 {
     if b < low {
         return Check::Fails {
@@ -72,7 +72,7 @@ fn unless_value(ok: bool, tall: u16) -> Check
 }
 
 fn operand_sort(refinement: u8, b: u8, tall: u16) -> Check
-    ensures { result ≡ operandSortOf refinement b tall }
+    ensures { result ≡ operand_sort_of refinement b tall }
 {
     if refinement == 0 {
         return unless_value(b == 0, tall);
@@ -116,7 +116,7 @@ fn operand(
     tall: u16,
 ) -> Check
     requires { at + 8 ≤ length s.now }
-    ensures { result ≡ operandOf s.now w.now p.now seen own sort at tall }
+    ensures { result ≡ operand_of s.now w.now p.now seen own sort at tall }
 {
     if sort == 0 {
         return unless_value(are_zeros(s, at, 8), tall);
@@ -216,7 +216,7 @@ fn coded_field(
     at: usize,
     tall: u16,
 ) -> Check
-    ensures { result ≡ field_at s.now w.now p.now seen own (sortOf code) at tall }
+    ensures { result ≡ field_at s.now w.now p.now seen own (sort_of code) at tall }
 {
     if code == 3 {
         return raw_field(s, 4, at, tall);
@@ -244,7 +244,7 @@ fn fields(
     kind: u8,
     start: usize,
 ) -> Step
-    ensures { result ≡ fieldsFrom s.now w.now p.now seen own (codes (get_or rows.now kind 0)) start 0 }
+    ensures { result ≡ fields_from s.now w.now p.now seen own (codes (get_or rows.now kind 0)) start 0 }
 {
     let mut rest = row_of(rows, kind);
     let mut at = start;
@@ -287,7 +287,7 @@ pub fn record(
     own: Section,
     at: usize,
 ) -> Step
-    ensures { result ≡ recordBy rows.now s.now w.now p.now seen own at }
+    ensures { result ≡ record_by rows.now s.now w.now p.now seen own at }
 {
     if is_past(s, at, 1) {
         return Step::Stop {

@@ -1,6 +1,6 @@
 // Lists of references.
 ghost use Rattle.std.specs.Prelude.{◌≡◌, ◌+◌, ◌*◌, ◌%◌, ◌≤◌, length, eqb};
-ghost use Rattle.rl_spec.specs.Fields.{listsAt, entriesFrom, list_of};
+ghost use Rattle.rl_spec.specs.Fields.{lists_at, entries_from, list_of};
 
 use crate::references::{child_height, is_allowed};
 use rl_bytes::{join16, larger};
@@ -20,7 +20,7 @@ fn entries(
     right: Target,
     tall: u16,
 ) -> Check
-    ensures { result ≡ entriesFrom s.now w.now p.now seen own count first left right tall }
+    ensures { result ≡ entries_from s.now w.now p.now seen own count first left right tall }
 {
     let mut here = left;
     let mut other = right;
@@ -53,9 +53,9 @@ fn node_entries(
     count: u16,
     tall: u16,
 ) -> Check
-    requires count_in_bounds { listsAt seen + (first + count) * 3 ≤ length s.now }
+    requires count_in_bounds { lists_at seen + (first + count) * 3 ≤ length s.now }
     requires expressions_in_bounds { seen.expressions ≤ length w.now }
-    ensures { result ≡ entriesFrom s.now w.now p.now seen Section.Expressions count first Target.Expression Target.Expression tall }
+    ensures { result ≡ entries_from s.now w.now p.now seen Section.Expressions count first Target.Expression Target.Expression tall }
 {
     let from = 23 + (seen.bytes as usize) + (seen.texts as usize) * 5;
     let start = from + (first as usize) * 3 + 1;
@@ -86,7 +86,7 @@ fn node_list(
     count: u16,
     tall: u16,
 ) -> Check
-    ensures { result ≡ entriesFrom s.now w.now p.now seen Section.Expressions count first Target.Expression Target.Expression tall }
+    ensures { result ≡ entries_from s.now w.now p.now seen Section.Expressions count first Target.Expression Target.Expression tall }
 {
     let from = 23 + (seen.bytes as usize) + (seen.texts as usize) * 5;
     let end = from + ((first as usize) + (count as usize)) * 3;
@@ -123,7 +123,7 @@ fn all_entries(
     right: Target,
     tall: u16,
 ) -> Check
-    ensures { result ≡ entriesFrom s.now w.now p.now seen own count first left right tall }
+    ensures { result ≡ entries_from s.now w.now p.now seen own count first left right tall }
 {
     if let Section::Expressions = own {
         if let Target::Expression = left {

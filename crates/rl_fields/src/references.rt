@@ -1,6 +1,6 @@
 // References: what one may find, and the heights of children.
 ghost use Rattle.std.specs.Prelude.{◌≡◌, false, ◌+◌};
-ghost use Rattle.rl_spec.specs.Fields.{takes, within, kindOfStatement, allowed, childHeight, referTo, referOrNone, nodeHeight, statementHeight};
+ghost use Rattle.rl_spec.specs.Fields.{takes, within, kind_of_statement, allowed, child_height, refer_to, refer_or_none, node_height, statement_height};
 
 use rl_bytes::{byte_at, larger, word_at};
 use rl_spec::{Cause, Check, Counts, Section, Target};
@@ -39,7 +39,7 @@ fn limit_of(seen: Counts, target: Target) -> u16
 }
 
 fn statement_kind(s: &[u8], p: &[u16], seen: Counts, n: u16) -> u8
-    ensures { result ≡ kindOfStatement s.now p.now seen n }
+    ensures { result ≡ kind_of_statement s.now p.now seen n }
 {
     let first = seen.expressions as usize;
     let start = word_at(p, first + (n as usize));
@@ -56,7 +56,7 @@ pub fn is_allowed(s: &[u8], p: &[u16], seen: Counts, target: Target, n: u16) -> 
 }
 
 fn node_height(w: &[u16], target: Target, n: u16) -> u16
-    ensures { result ≡ nodeHeight w.now target n }
+    ensures { result ≡ node_height w.now target n }
 {
     match target {
         Target::Text => 0,
@@ -69,7 +69,7 @@ fn node_height(w: &[u16], target: Target, n: u16) -> u16
 }
 
 fn statement_height(w: &[u16], from: u16, target: Target, n: u16) -> u16
-    ensures { result ≡ statementHeight w.now from target n }
+    ensures { result ≡ statement_height w.now from target n }
 {
     let at = (from as usize) + (n as usize);
     match target {
@@ -84,7 +84,7 @@ fn statement_height(w: &[u16], from: u16, target: Target, n: u16) -> u16
 
 // The height of a child of the own section.
 pub fn child_height(w: &[u16], seen: Counts, own: Section, target: Target, n: u16) -> u16
-    ensures { result ≡ childHeight w.now seen own target n }
+    ensures { result ≡ child_height w.now seen own target n }
 {
     match own {
         Section::Texts => 0,
@@ -108,7 +108,7 @@ pub fn refer_to(
     n: u16,
     tall: u16,
 ) -> Check
-    ensures { result ≡ referTo s.now w.now p.now seen own target n tall }
+    ensures { result ≡ refer_to s.now w.now p.now seen own target n tall }
 {
     if is_allowed(s, p, seen, target, n) {
         let t = larger(tall, child_height(w, seen, own, target, n));
@@ -129,7 +129,7 @@ pub fn refer_or_none(
     n: u16,
     tall: u16,
 ) -> Check
-    ensures { result ≡ referOrNone s.now w.now p.now seen own target n tall }
+    ensures { result ≡ refer_or_none s.now w.now p.now seen own target n tall }
 {
     if n == 65535 {
         return Check::Holds { tall };

@@ -5,36 +5,36 @@ use Rattle.rl_spec.specs.declared.Folded.TheVariants.{Nothing}
 use Rattle.rl_spec.specs.declared.Form.{Form}
 use Rattle.rl_spec.specs.declared.Form.TheVariants as form
 use Rattle.rl_spec.specs.Image.{Image, text_of}
-use Rattle.rl_spec.specs.Folded.{asFolded}
-use Rattle.rl_spec.specs.Tree.{exprTree}
-use Rattle.rl_spec.specs.Fold.{Binding, constEval}
+use Rattle.rl_spec.specs.Folded.{as_folded}
+use Rattle.rl_spec.specs.Tree.{expr_tree}
+use Rattle.rl_spec.specs.Fold.{Binding, const_eval}
 use Rattle.rl_memory.specs.Memory.{Right}
-use Rattle.rl_names.specs.Names.{lookupIn, Standing}
+use Rattle.rl_names.specs.Names.{lookup_in, Standing}
 use Rattle.rl_fold.specs.declared.Head.{Head}
 use Rattle.rl_fold.specs.declared.Head.TheVariants.{Done, Grouping, Unary, Binary}
 
 -- what a node folds to
-abbrev pub foldedAt : Image → List (Binding ℕ) → ℕ → Folded
-foldedAt im env n = asFolded (constEval (text_of im) env (exprTree im n))
+abbrev pub folded_at : Image → List (Binding ℕ) → ℕ → Folded
+folded_at im env n = as_folded (const_eval (text_of im) env (expr_tree im n))
 
 -- ---- what folding a node needs, by its form; a part that is not before the node has no value
 
-abbrev pub unaryHead : ℕ → ℕ → ℕ → Head
-unaryHead n op e = cond (ltb e n) (Unary op e) (Done Nothing)
+abbrev pub unary_head : ℕ → ℕ → ℕ → Head
+unary_head n op e = cond (ltb e n) (Unary op e) (Done Nothing)
 
-abbrev pub binaryHead : ℕ → ℕ → ℕ → ℕ → Head
-binaryHead n l op r = cond (ltb l n) (cond (ltb r n) (Binary l op r) (Done Nothing)) (Done Nothing)
+abbrev pub binary_head : ℕ → ℕ → ℕ → ℕ → Head
+binary_head n l op r = cond (ltb l n) (cond (ltb r n) (Binary l op r) (Done Nothing)) (Done Nothing)
 
-abbrev pub groupingHead : ℕ → ℕ → Head
-groupingHead n e = cond (ltb e n) (Grouping e) (Done Nothing)
+abbrev pub grouping_head : ℕ → ℕ → Head
+grouping_head n e = cond (ltb e n) (Grouping e) (Done Nothing)
 
 unfoldable pub head_of : List ℕ → List ℕ → ℕ → ℕ → Form → Head
 head_of cs w count n form.Null = Done Nothing
 head_of cs w count n (form.Literal v) = Done v
-head_of cs w count n (form.Identifier t) = Done (lookupIn cs w t count)
-head_of cs w count n (form.Unary op e) = unaryHead n op e
-head_of cs w count n (form.Binary l op r) = binaryHead n l op r
-head_of cs w count n (form.Grouping e) = groupingHead n e
+head_of cs w count n (form.Identifier t) = Done (lookup_in cs w t count)
+head_of cs w count n (form.Unary op e) = unary_head n op e
+head_of cs w count n (form.Binary l op r) = binary_head n l op r
+head_of cs w count n (form.Grouping e) = grouping_head n e
 head_of cs w count n (form.Assign x e) = Done Nothing
 head_of cs w count n (form.OkLiteral e) = Done Nothing
 head_of cs w count n (form.ErrLiteral e) = Done Nothing
@@ -52,4 +52,4 @@ pub record Names (im : Image) (env : List (Binding ℕ)) (cs w : List ℕ) (coun
 -- what folding a node comes to where that stands and the memory m is right: the value, and a memory that is right
 abbrev pub Folds : Image → List ℕ → List ℕ → ℕ → ℕ → List ℕ → Folded → List ℕ → Type 0
 Folds im cs w count n m r out =
-    (env : List (Binding ℕ)) → Names im env cs w count → Right (foldedAt im env) count m → (r ≡ foldedAt im env n) × Right (foldedAt im env) count out
+    (env : List (Binding ℕ)) → Names im env cs w count → Right (folded_at im env) count m → (r ≡ folded_at im env n) × Right (folded_at im env) count out

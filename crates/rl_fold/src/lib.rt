@@ -1,11 +1,11 @@
 // Folding: `const_eval`, which remembers what it has found, so that a shared node is folded once.
 ghost use Rattle.std.specs.Prelude.{◌≡◌, List, ℕ};
 ghost use Rattle.rl_spec.specs.Image.{text_of};
-ghost use Rattle.rl_spec.specs.Folded.{const_of, foldedOf};
-ghost use Rattle.rl_spec.specs.Fold.{unaryFolded, binaryValue, binaryFolded};
-ghost use Rattle.rl_spec.specs.Found.{imageFound};
+ghost use Rattle.rl_spec.specs.Folded.{const_of, folded_of};
+ghost use Rattle.rl_spec.specs.Fold.{unary_folded, binary_value, binary_folded};
+ghost use Rattle.rl_spec.specs.Found.{image_found};
 ghost use Rattle.rl_operators.specs.Texts.{TextIs};
-ghost use Rattle.rl_fold.specs.Folding.{unaryHead, binaryHead, groupingHead, head_of, Folds};
+ghost use Rattle.rl_fold.specs.Folding.{unary_head, binary_head, grouping_head, head_of, Folds};
 
 use rl_bytes::part;
 use rl_memory::{Recalled, recall, remember};
@@ -16,7 +16,7 @@ use rl_spec::{ConstVal, Counts, Folded, Form};
 
 // The bytes of a value that is a text.
 pub fn value_text(image: &[u8], counts: Counts, v: ConstVal) -> &[u8]
-    ensures { (p : List ℕ) → TextIs (text_of (imageFound image.now p counts)) v result.now }
+    ensures { (p : List ℕ) → TextIs (text_of (image_found image.now p counts)) v result.now }
 {
     match v {
         ConstVal::Int(x) => part(image, 0, 0),
@@ -27,7 +27,7 @@ pub fn value_text(image: &[u8], counts: Counts, v: ConstVal) -> &[u8]
 }
 
 pub fn unary_folded(operator: u8, v: Folded) -> Folded
-    ensures { foldedOf result ≡ unaryFolded operator (foldedOf v) }
+    ensures { folded_of result ≡ unary_folded operator (folded_of v) }
 {
     match v {
         Folded::Value(x) => unary_value(operator, x),
@@ -36,7 +36,7 @@ pub fn unary_folded(operator: u8, v: Folded) -> Folded
 }
 
 fn values_folded(image: &[u8], counts: Counts, operator: u8, a: ConstVal, b: ConstVal) -> Folded
-    ensures { (p : List ℕ) → foldedOf result ≡ binaryValue (text_of (imageFound image.now p counts)) operator (const_of a) (const_of b) }
+    ensures { (p : List ℕ) → folded_of result ≡ binary_value (text_of (image_found image.now p counts)) operator (const_of a) (const_of b) }
 {
     binary_value(
         operator,
@@ -48,7 +48,7 @@ fn values_folded(image: &[u8], counts: Counts, operator: u8, a: ConstVal, b: Con
 }
 
 pub fn binary_folded(image: &[u8], counts: Counts, operator: u8, a: Folded, b: Folded) -> Folded
-    ensures { (p : List ℕ) → foldedOf result ≡ binaryFolded (text_of (imageFound image.now p counts)) operator (foldedOf a) (foldedOf b) }
+    ensures { (p : List ℕ) → folded_of result ≡ binary_folded (text_of (image_found image.now p counts)) operator (folded_of a) (folded_of b) }
 {
     match a {
         Folded::Value(x) => match b {
@@ -69,7 +69,7 @@ pub enum Head {
 }
 
 fn unary_head(n: u16, operator: u8, operand: u16) -> Head
-    ensures { result ≡ unaryHead n operator operand }
+    ensures { result ≡ unary_head n operator operand }
 {
     if n <= operand {
         return Head::Done(Folded::Nothing);
@@ -78,7 +78,7 @@ fn unary_head(n: u16, operator: u8, operand: u16) -> Head
 }
 
 fn binary_head(n: u16, left: u16, operator: u8, right: u16) -> Head
-    ensures { result ≡ binaryHead n left operator right }
+    ensures { result ≡ binary_head n left operator right }
 {
     if n <= left {
         return Head::Done(Folded::Nothing);
@@ -94,7 +94,7 @@ fn binary_head(n: u16, left: u16, operator: u8, right: u16) -> Head
 }
 
 fn grouping_head(n: u16, e: u16) -> Head
-    ensures { result ≡ groupingHead n e }
+    ensures { result ≡ grouping_head n e }
 {
     if n <= e {
         return Head::Done(Folded::Nothing);
@@ -138,7 +138,7 @@ pub fn const_eval(
     memory: &mut [u64],
     n: u16,
 ) -> Folded
-    ensures { Folds (imageFound image.now starts.now counts) classes.now names.now count n memory.old result memory.new }
+    ensures { Folds (image_found image.now starts.now counts) classes.now names.now count n memory.old result memory.new }
 {
     let seen = recall(memory, count, n);
     if let Recalled::Known(v) = seen {

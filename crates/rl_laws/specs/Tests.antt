@@ -5,19 +5,19 @@ use Rattle.std.proofs.Common.{ltb-true, ltb-false, eqb-true}
 use Rattle.std.proofs.lemmas.Bool.{eqb-false}
 
 -- by cases on an order
-pub by-ltb : {P : Type 0} (a b : ℕ) → (a < b → P) → (b ≤ a → P) → P
-by-ltb {P} a b f g = go (ltb a b) refl
+pub by_ltb : {P : Type 0} (a b : ℕ) → (a < b → P) → (b ≤ a → P) → P
+by_ltb {P} a b f g = go (ltb a b) refl
   where
     go : (t : Bool) → ltb a b ≡ t → P
     go true e = f (ltb-true a b e)
     go false e = g (ltb-false a b e)
 
-pub not-below : (a b : ℕ) → (a < b → ⊥) → b ≤ a
-not-below a b h = by-ltb a b (λ l. absurd (h l)) (λ l. l)
+pub not_below : (a b : ℕ) → (a < b → ⊥) → b ≤ a
+not_below a b h = by_ltb a b (λ l. absurd (h l)) (λ l. l)
 
-pub and-false : (a : Bool) → a && false ≡ false
-and-false true = refl
-and-false false = refl
+pub and_false : (a : Bool) → a && false ≡ false
+and_false true = refl
+and_false false = refl
 
 -- by cases on an equality
 pub by_eqb : {P : Type 0} (a b : ℕ) → (a ≡ b → P) → ((a ≡ b → ⊥) → P) → P

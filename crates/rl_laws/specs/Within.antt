@@ -4,17 +4,17 @@ use Rattle.std.specs.Prelude.{ℕ, ◌≤◌, ◌<◌, ◌≡◌, true, false, l
 use Rattle.std.proofs.Math.Path.{refl}
 use borrow.Author.Tests.{le-leb, lt-leb}
 use Rattle.rl_spec.specs.Utf8.{◌to◌, within}
-use Rattle.rl_laws.specs.Tests.{and-false}
+use Rattle.rl_laws.specs.Tests.{and_false}
 
 module _ (l h n : ℕ) where
-  pub within-yes : l ≤ n → n ≤ h → within (l to h) n ≡ true
+  pub within_yes : l ≤ n → n ≤ h → within (l to h) n ≡ true
   unfolding within
-  within-yes p q = rw (le-leb l n p, le-leb n h q) refl
+  within_yes p q = rw (le-leb l n p, le-leb n h q) refl
 
   pub within_low : n < l → within (l to h) n ≡ false
   unfolding within
   within_low p = rw (lt-leb l n p) refl
 
-  pub within-high : h < n → within (l to h) n ≡ false
+  pub within_high : h < n → within (l to h) n ≡ false
   unfolding within
-  within-high p = rw (lt-leb n h p) (and-false (leb l n))
+  within_high p = rw (lt-leb n h p) (and_false (leb l n))

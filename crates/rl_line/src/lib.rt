@@ -1,9 +1,9 @@
 // The line of a report, its message, and the line of a refusal, from the start of a lent buffer on. What has no room is left out.
 ghost use Rattle.std.specs.Prelude.{◌≡◌, ◌++◌, ◌≤◌, length};
-ghost use Rattle.rl_spec.specs.Found.{imageFound};
-ghost use Rattle.rl_spec.specs.Message.{defaultText, messageBy, opening};
-ghost use Rattle.rl_spec.specs.Printed.{refusedLine, lineWith, line_of};
-ghost use Rattle.rl_text_out.specs.Put.{afterText, withText};
+ghost use Rattle.rl_spec.specs.Found.{image_found};
+ghost use Rattle.rl_spec.specs.Message.{default_text, message_by, opening};
+ghost use Rattle.rl_spec.specs.Printed.{refused_line, line_with, line_of};
+ghost use Rattle.rl_text_out.specs.Put.{after_text, with_text};
 
 use rl_bytes::part;
 use rl_message::{default_text, message};
@@ -13,8 +13,8 @@ use rl_text_out::{put_number, put_text};
 
 // refused N at P
 pub fn refused_line(cause: Cause, place: usize, out: &mut [u8]) -> usize
-    ensures value { result ≡ afterText out.old 0 (refusedLine cause place) }
-    ensures out_after { out.new ≡ withText out.old 0 (refusedLine cause place) }
+    ensures value { result ≡ after_text out.old 0 (refused_line cause place) }
+    ensures out_after { out.new ≡ with_text out.old 0 (refused_line cause place) }
 {
     let mut at = put_text(out, 0, b"refused ");
     at = put_number(out, at, number_of(cause));
@@ -25,8 +25,8 @@ pub fn refused_line(cause: Cause, place: usize, out: &mut [u8]) -> usize
 
 // contract violation (proven at compile time): TEXT
 fn put_message(out: &mut [u8], at: usize, text: &[u8]) -> usize
-    ensures value { result ≡ afterText out.old at (opening ++ text.now) }
-    ensures out_after { out.new ≡ withText out.old at (opening ++ text.now) }
+    ensures value { result ≡ after_text out.old at (opening ++ text.now) }
+    ensures out_after { out.new ≡ with_text out.old at (opening ++ text.now) }
 {
     let start = put_text(out, at, b"contract violation (proven at compile time): ");
     put_text(out, start, text)
@@ -34,8 +34,8 @@ fn put_message(out: &mut [u8], at: usize, text: &[u8]) -> usize
 
 // CALL SPAN and the message of a text
 fn put_line(call: u32, span: u32, text: &[u8], out: &mut [u8]) -> usize
-    ensures value { result ≡ afterText out.old 0 (lineWith call span text.now) }
-    ensures out_after { out.new ≡ withText out.old 0 (lineWith call span text.now) }
+    ensures value { result ≡ after_text out.old 0 (line_with call span text.now) }
+    ensures out_after { out.new ≡ with_text out.old 0 (line_with call span text.now) }
 {
     let mut at = put_number(out, 0, call as u64);
     at = put_text(out, at, b" ");
@@ -57,9 +57,9 @@ pub fn report_line(
     room: &mut [u8],
     out: &mut [u8],
 ) -> usize
-    ensures value { length (defaultText (imageFound image.now starts.now counts) function violation) ≤ length room.old → result ≡ afterText out.old 0 (line_of (imageFound image.now starts.now counts) function call span violation) }
-    ensures out_after { length (defaultText (imageFound image.now starts.now counts) function violation) ≤ length room.old → out.new ≡ withText out.old 0 (line_of (imageFound image.now starts.now counts) function call span violation) }
-    ensures room_after { room.new ≡ withText room.old 0 (defaultText (imageFound image.now starts.now counts) function violation) }
+    ensures value { length (default_text (image_found image.now starts.now counts) function violation) ≤ length room.old → result ≡ after_text out.old 0 (line_of (image_found image.now starts.now counts) function call span violation) }
+    ensures out_after { length (default_text (image_found image.now starts.now counts) function violation) ≤ length room.old → out.new ≡ with_text out.old 0 (line_of (image_found image.now starts.now counts) function call span violation) }
+    ensures room_after { room.new ≡ with_text room.old 0 (default_text (image_found image.now starts.now counts) function violation) }
 {
     let n = default_text(image, counts, function, violation, room);
     let text = message(image, starts, counts, function, violation, part(room, 0, n));
@@ -76,9 +76,9 @@ pub fn report_message(
     room: &mut [u8],
     out: &mut [u8],
 ) -> usize
-    ensures value { length (defaultText (imageFound image.now starts.now counts) function violation) ≤ length room.old → result ≡ afterText out.old 0 (opening ++ messageBy (imageFound image.now starts.now counts) function violation) }
-    ensures out_after { length (defaultText (imageFound image.now starts.now counts) function violation) ≤ length room.old → out.new ≡ withText out.old 0 (opening ++ messageBy (imageFound image.now starts.now counts) function violation) }
-    ensures room_after { room.new ≡ withText room.old 0 (defaultText (imageFound image.now starts.now counts) function violation) }
+    ensures value { length (default_text (image_found image.now starts.now counts) function violation) ≤ length room.old → result ≡ after_text out.old 0 (opening ++ message_by (image_found image.now starts.now counts) function violation) }
+    ensures out_after { length (default_text (image_found image.now starts.now counts) function violation) ≤ length room.old → out.new ≡ with_text out.old 0 (opening ++ message_by (image_found image.now starts.now counts) function violation) }
+    ensures room_after { room.new ≡ with_text room.old 0 (default_text (image_found image.now starts.now counts) function violation) }
 {
     let n = default_text(image, counts, function, violation, room);
     let text = message(image, starts, counts, function, violation, part(room, 0, n));

@@ -11,13 +11,13 @@ use Rattle.rl_spec.specs.declared.Answer.TheVariants.{Accepted, Refused}
 use Rattle.rl_spec.specs.declared.ArenaNo.{ArenaNo}
 use Rattle.rl_spec.specs.declared.Counts.{Counts}
 use Rattle.rl_spec.specs.declared.Section.TheVariants.{Texts}
-use Rattle.rl_spec.specs.Read.{answer_of, startsOf}
+use Rattle.rl_spec.specs.Read.{answer_of, starts_of}
 use Rattle.rl_spec.specs.Image.{text_of, image_of, WellFormed}
-use Rattle.rl_spec.specs.Found.{imageFound}
-use Rattle.rl_images.specs.Encoding.Accepted.{accepted-well-formed}
-use Rattle.rl_images.specs.Images.Limits.{texts-within, all-bytes}
-use Rattle.rl_images.specs.Reading.Found.{found-is-image}
-use Rattle.rl_images.specs.Reading.Starts.{sizes-are-counts}
+use Rattle.rl_spec.specs.Found.{image_found}
+use Rattle.rl_images.specs.Encoding.Accepted.{accepted_well_formed}
+use Rattle.rl_images.specs.Images.Limits.{texts_within, all_bytes}
+use Rattle.rl_images.specs.Reading.Found.{found_is_image}
+use Rattle.rl_images.specs.Reading.Starts.{sizes_are_counts}
 use Rattle.rl_names.specs.Names.{Classes}
 use Rattle.rl_lines.specs.Opened.{Known, Opened}
 
@@ -26,32 +26,32 @@ module _ (s : List ℕ) (k : ℕ) (r : Answer) (e : r ≡ answer_of s k) where
   answered x f = sym f ∙ e
 
   module _ (bytes : (i : ℕ) → Fits w8 (get_or s i 0)) (a : ArenaNo) (c : Counts) (f : r ≡ Accepted a c) where
-    pub accepted-well : WellFormed (image_of s)
-    accepted-well = accepted-well-formed s k a c (all-bytes s (λ i. omega (arith, (bytes i).fits))) (sym e ∙ f)
+    pub accepted_well : WellFormed (image_of s)
+    accepted_well = accepted_well_formed s k a c (all_bytes s (λ i. omega (arith, (bytes i).fits))) (sym e ∙ f)
 
-    pub accepted-known : (p : List ℕ) → p ≡ startsOf s k → Known s p c
-    accepted-known p g =
+    pub accepted_known : (p : List ℕ) → p ≡ starts_of s k → Known s p c
+    accepted_known p g =
         record {
-          found = ap (λ x. imageFound s x c) g ∙ found-is-image s k a c (sym e ∙ f);
-          whole = accepted-well;
+          found = ap (λ x. image_found s x c) g ∙ found_is_image s k a c (sym e ∙ f);
+          whole = accepted_well;
         }
 
-    texts-few : c.texts ≤ 2048
-    texts-few = subst (λ (n : ℕ). n ≤ 2048) (sizes-are-counts s k a c (sym e ∙ f) Texts) (texts-within (image_of s) accepted-well)
+    texts_few : c.texts ≤ 2048
+    texts_few = subst (λ (n : ℕ). n ≤ 2048) (sizes_are_counts s k a c (sym e ∙ f) Texts) (texts_within (image_of s) accepted_well)
 
-    pub opened-accepted : (p cs l m : List ℕ) → p ≡ startsOf s k → length l ≡ 2048 → length m ≡ 2048
-        → ((q : List ℕ) → c.texts ≤ length l → c.texts ≤ length m → Classes (text_of (imageFound s q c)) cs) → Opened s p cs (Accepted a c)
-    opened-accepted p cs l m g x y d =
-        let kn : Known s p c = accepted-known p g in
-        (kn, subst (λ im. Classes (text_of im) cs) kn.found (d p (omega (arith, texts-few)) (omega (arith, texts-few))))
+    pub opened_accepted : (p cs l m : List ℕ) → p ≡ starts_of s k → length l ≡ 2048 → length m ≡ 2048
+        → ((q : List ℕ) → c.texts ≤ length l → c.texts ≤ length m → Classes (text_of (image_found s q c)) cs) → Opened s p cs (Accepted a c)
+    opened_accepted p cs l m g x y d =
+        let kn : Known s p c = accepted_known p g in
+        (kn, subst (λ im. Classes (text_of im) cs) kn.found (d p (omega (arith, texts_few)) (omega (arith, texts_few))))
 
 -- what an accepted image is opened to
 module _ (s p cs : List ℕ) (r : Answer) (o : Opened s p cs r) (a : ArenaNo) (c : Counts) (f : r ≡ Accepted a c) where
   both : Opened s p cs (Accepted a c)
   both = subst (Opened s p cs) f o
 
-  pub opened-known : Known s p c
-  opened-known = both.0
+  pub opened_known : Known s p c
+  opened_known = both.0
 
-  pub opened-classed : Classes (text_of (image_of s)) cs
-  opened-classed = both.1
+  pub opened_classed : Classes (text_of (image_of s)) cs
+  opened_classed = both.1

@@ -4,12 +4,12 @@ use Rattle.rl_spec.specs.declared.Answer.{Answer}
 use Rattle.rl_spec.specs.declared.Answer.TheVariants.{Accepted, Refused}
 use Rattle.rl_spec.specs.declared.Counts.{Counts}
 use Rattle.rl_spec.specs.Image.{text_of, image_of, WellFormed}
-use Rattle.rl_spec.specs.Found.{imageFound}
+use Rattle.rl_spec.specs.Found.{image_found}
 use Rattle.rl_names.specs.Names.{Classes}
 
 -- the starts p and the counts c are those of the accepted bytes s
 pub record Known (s p : List ℕ) (c : Counts) : Type 0 where
-  pub found : imageFound s p c ≡ image_of s
+  pub found : image_found s p c ≡ image_of s
   pub whole : WellFormed (image_of s)
 
 abbrev pub Opened : List ℕ → List ℕ → List ℕ → Answer → Type 0

@@ -1,12 +1,12 @@
 // The lines and messages of a call that is proved once. What each function asks of its caller is what `open` and `lines_of` leave.
 ghost use Rattle.std.specs.Prelude.{◌≡◌, ◌≤◌, ◌<◌, length};
 ghost use Rattle.rl_spec.specs.Image.{text_of, image_of};
-ghost use Rattle.rl_spec.specs.Printed.{refusedLine, line_at};
-ghost use Rattle.rl_spec.specs.Texts.{messageAt};
+ghost use Rattle.rl_spec.specs.Printed.{refused_line, line_at};
+ghost use Rattle.rl_spec.specs.Texts.{message_at};
 ghost use Rattle.rl_names.specs.Names.{Classes};
 ghost use Rattle.rl_prover.specs.Callees.{callee_in};
 ghost use Rattle.rl_lines.specs.Opened.{Known};
-ghost use Rattle.rl_lines.specs.Lines.{functionOr, padded, linesFor, entriesFor, ReportAt};
+ghost use Rattle.rl_lines.specs.Lines.{function_or, padded, lines_for, entries_for, ReportAt};
 
 use rl_bytes::{clear_bytes, clear_entries};
 use rl_line::{refused_line, report_line, report_message};
@@ -24,7 +24,7 @@ pub struct Lines {
 }
 
 fn function_of(callee: Callee) -> u16
-    ensures { result ≡ functionOr (callee_in callee) }
+    ensures { result ≡ function_or (callee_in callee) }
 {
     match callee {
         Callee::Found(f) => f,
@@ -47,8 +47,8 @@ pub fn lines_with(
     requires known { Known image.now starts.now counts }
     requires classes { Classes (text_of (image_of image.now)) classes.now }
     requires in_bounds { 768 ≤ length names.old }
-    ensures value { result ≡ linesFor (image_of image.now) call }
-    ensures reports_after { reports.new ≡ entriesFor (image_of image.now) call }
+    ensures value { result ≡ lines_for (image_of image.now) call }
+    ensures reports_after { reports.new ≡ entries_for (image_of image.now) call }
 {
     clear_entries(reports);
     let end = prove_call(
@@ -75,8 +75,8 @@ pub fn lines_of(
 ) -> Lines
     requires known { Known image.now starts.now counts }
     requires classes { Classes (text_of (image_of image.now)) classes.now }
-    ensures value { result ≡ linesFor (image_of image.now) call }
-    ensures reports_after { reports.new ≡ entriesFor (image_of image.now) call }
+    ensures value { result ≡ lines_for (image_of image.now) call }
+    ensures reports_after { reports.new ≡ entries_for (image_of image.now) call }
 {
     let mut names = [0u64; 768];
     let mut memory = [0u64; 8192];
@@ -116,8 +116,8 @@ pub fn put_line(
     out: &mut [u8; 65536],
 ) -> usize
     requires known { Known image.now starts.now counts }
-    requires lines_value { lines ≡ linesFor (image_of image.now) lines.call }
-    requires reports_value { reports.now ≡ entriesFor (image_of image.now) lines.call }
+    requires lines_value { lines ≡ lines_for (image_of image.now) lines.call }
+    requires reports_value { reports.now ≡ entries_for (image_of image.now) lines.call }
     ensures value { result ≡ length (line_at (image_of image.now) lines.call number) }
     ensures out_after { out.new ≡ padded 65536 (line_at (image_of image.now) lines.call number) }
 {
@@ -152,10 +152,10 @@ pub fn put_message(
     out: &mut [u8; 65535],
 ) -> usize
     requires known { Known image.now starts.now counts }
-    requires lines_value { lines ≡ linesFor (image_of image.now) lines.call }
-    requires reports_value { reports.now ≡ entriesFor (image_of image.now) lines.call }
-    ensures value { result ≡ length (messageAt (image_of image.now) lines.call number) }
-    ensures out_after { out.new ≡ padded 65535 (messageAt (image_of image.now) lines.call number) }
+    requires lines_value { lines ≡ lines_for (image_of image.now) lines.call }
+    requires reports_value { reports.now ≡ entries_for (image_of image.now) lines.call }
+    ensures value { result ≡ length (message_at (image_of image.now) lines.call number) }
+    ensures out_after { out.new ≡ padded 65535 (message_at (image_of image.now) lines.call number) }
 {
     let mut room = [0u8; 32800];
     clear_bytes(out);
@@ -176,8 +176,8 @@ pub fn put_message(
 
 // Puts the line of a refusal, with its newline.
 pub fn put_refused(cause: Cause, place: usize, out: &mut [u8; 65536]) -> usize
-    ensures value { result ≡ length (refusedLine cause place) }
-    ensures out_after { out.new ≡ padded 65536 (refusedLine cause place) }
+    ensures value { result ≡ length (refused_line cause place) }
+    ensures out_after { out.new ≡ padded 65536 (refused_line cause place) }
 {
     clear_bytes(out);
     refused_line(cause, place, out)

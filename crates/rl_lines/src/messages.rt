@@ -1,8 +1,8 @@
 // The message of a call's report, from the image's bytes.
 ghost use Rattle.std.specs.Prelude.{◌≡◌, length};
 ghost use Rattle.rl_spec.specs.Image.{text_of, image_of};
-ghost use Rattle.rl_spec.specs.Fold.{workUnless};
-ghost use Rattle.rl_spec.specs.Texts.{messageAt, messageAnswer, messageOut, messageNumber};
+ghost use Rattle.rl_spec.specs.Fold.{work_unless};
+ghost use Rattle.rl_spec.specs.Texts.{message_at, message_answer, message_out, message_number};
 ghost use Rattle.rl_names.specs.Names.{Classes};
 ghost use Rattle.rl_lines.specs.Opened.{Known};
 ghost use Rattle.rl_lines.specs.Lines.{padded};
@@ -23,8 +23,8 @@ fn message_in(
 ) -> usize
     requires known { Known image.now starts.now counts }
     requires classes { Classes (text_of (image_of image.now)) classes.now }
-    ensures value { result ≡ length (messageAt (image_of image.now) call report) }
-    ensures out_after { out.new ≡ padded 65535 (messageAt (image_of image.now) call report) }
+    ensures value { result ≡ length (message_at (image_of image.now) call report) }
+    ensures out_after { out.new ≡ padded 65535 (message_at (image_of image.now) call report) }
 {
     let mut reports = [0u32; 2048];
     let lines = lines_of(image, starts, counts, classes, call, &mut reports);
@@ -39,9 +39,9 @@ pub fn message(
     report: u32,
     out: &mut [u8; 65535],
 ) -> MessageAnswer
-    ensures value { result ≡ messageAnswer image.now (length work.old) call report }
-    ensures out_after { out.new ≡ messageOut image.now (length work.old) call report }
-    ensures work_after { work.new ≡ workUnless (messageNumber (messageAnswer image.now (length work.old) call report)) image.now (length work.old) }
+    ensures value { result ≡ message_answer image.now (length work.old) call report }
+    ensures out_after { out.new ≡ message_out image.now (length work.old) call report }
+    ensures work_after { work.new ≡ work_unless (message_number (message_answer image.now (length work.old) call report)) image.now (length work.old) }
 {
     let mut starts = [0u16; 6144];
     let mut classes = [0u16; 2048];

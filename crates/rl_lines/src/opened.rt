@@ -1,6 +1,6 @@
 // What is found of an image once: where its records start, and the classes of its texts.
 ghost use Rattle.std.specs.Prelude.{◌≡◌, length};
-ghost use Rattle.rl_spec.specs.Read.{answer_of, workOf};
+ghost use Rattle.rl_spec.specs.Read.{answer_of, work_of};
 ghost use Rattle.rl_lines.specs.Opened.{Opened};
 
 use rl_ast::read_starts;
@@ -15,7 +15,7 @@ pub fn open(
     classes: &mut [u16; 2048],
 ) -> Answer
     ensures value { result ≡ answer_of image.now (length work.old) }
-    ensures work_after { work.new ≡ workOf image.now (length work.old) }
+    ensures work_after { work.new ≡ work_of image.now (length work.old) }
     ensures opened { Opened image.now starts.new classes.new result }
 {
     let mut links = [0u64; 2048];

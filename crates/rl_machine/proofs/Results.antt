@@ -5,9 +5,9 @@ use mathlib.Core.Path.{◌≡◌, refl}
 use Rattle.rl_spec.specs.Run.{Env, Result, got, ended, Run, and_then}
 
 module _ {T A B C : Type 0} where
-  pub then-then : (r : Result T A) (f : A → Run T B) (g : B → Run T C) → and_then (and_then r f) g ≡ and_then r (λ a env n. and_then (f a env n) g)
-  then-then (got a env n) f g = refl
-  then-then (ended o n) f g = refl
+  pub then_then : (r : Result T A) (f : A → Run T B) (g : B → Run T C) → and_then (and_then r f) g ≡ and_then r (λ a env n. and_then (f a env n) g)
+  then_then (got a env n) f g = refl
+  then_then (ended o n) f g = refl
 
   -- by what is done with each value
   pub then_by : (r : Result T A) (h : A → Run T C) (f : A → Run T B) (g : B → Run T C) → ((a : A) (env : Env T) (n : ℕ) → h a env n ≡ and_then (f a env n) g) → and_then r h ≡ and_then (and_then r f) g

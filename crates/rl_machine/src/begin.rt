@@ -1,10 +1,10 @@
 // What a list and a statement begin with.
 ghost use Rattle.std.specs.Prelude.{◌≡◌, ℕ, ◌<◌, ◌≤◌};
 ghost use Rattle.rl_spec.specs.Image.{Image};
-ghost use Rattle.rl_spec.specs.Tree.{optionalTree};
-ghost use Rattle.rl_spec.specs.Statement.{asStatement, itemTree, statementOf};
-ghost use Rattle.rl_spec.specs.Found.{imageFound};
-ghost use Rattle.rl_machine.specs.Machine.{Means, Room, Low, lastAs, itemUnder, guarded, Begins, Follows, weight};
+ghost use Rattle.rl_spec.specs.Tree.{optional_tree};
+ghost use Rattle.rl_spec.specs.Statement.{as_statement, item_tree, statement_of};
+ghost use Rattle.rl_spec.specs.Found.{image_found};
+ghost use Rattle.rl_machine.specs.Machine.{Means, Room, Low, last_as, item_under, guarded, Begins, Follows, weight};
 
 use crate::fault;
 use crate::types::{Flow, Frame, State};
@@ -24,7 +24,7 @@ fn evaluate(frame: Frame, node: u16) -> State
 
 // A list begins with its condition, or with its first statement.
 pub fn condition_first(condition: Optional) -> State
-    ensures means { (im : Image) → Means im result (λ base rest k. guarded im (optionalTree im condition) rest) }
+    ensures means { (im : Image) → Means im result (λ base rest k. guarded im (optional_tree im condition) rest) }
     ensures room { (im : Image) (bound : ℕ) → Low im → Room im bound 0 result }
 {
     match condition {
@@ -35,7 +35,7 @@ pub fn condition_first(condition: Optional) -> State
 
 // What the statement s of a form begins with, once its step is charged. The last bare expression of a body gives the value.
 fn begun_form(form: StatementForm, s: u16, last: bool) -> State
-    ensures begins { (im : Image) → statementOf im s ≡ form → Begins im (lastAs last (asStatement (itemTree im s))) result }
+    ensures begins { (im : Image) → statement_of im s ≡ form → Begins im (last_as last (as_statement (item_tree im s))) result }
     ensures room { (im : Image) (bound : ℕ) → s < bound → Low im → Room im bound 0 result }
 {
     match form {
@@ -62,7 +62,7 @@ fn begun_form(form: StatementForm, s: u16, last: bool) -> State
 
 // What a statement below a limit begins with, once its step is charged.
 pub fn begun(image: &[u8], starts: &[u16], counts: Counts, s: u16, limit: u32, last: bool) -> State
-    ensures begins { Begins (imageFound image.now starts.now counts) (lastAs last (asStatement (itemUnder (imageFound image.now starts.now counts) limit s))) result }
+    ensures begins { Begins (image_found image.now starts.now counts) (last_as last (as_statement (item_under (image_found image.now starts.now counts) limit s))) result }
     ensures room { (im : Image) → Low im → Room im limit 0 result }
 {
     if limit <= (s as u32) {

@@ -1,9 +1,9 @@
 // What a node asks for.
 ghost use Rattle.std.specs.Prelude.{◌≡◌};
 ghost use Rattle.rl_spec.specs.Image.{Image};
-ghost use Rattle.rl_spec.specs.Tree.{treeBy};
-ghost use Rattle.rl_spec.specs.Found.{imageFound};
-ghost use Rattle.rl_machine.specs.Machine.{treeUnder, Enters, EntersRoom};
+ghost use Rattle.rl_spec.specs.Tree.{tree_by};
+ghost use Rattle.rl_spec.specs.Found.{image_found};
+ghost use Rattle.rl_machine.specs.Machine.{tree_under, Enters, EntersRoom};
 
 use crate::types::{Frame, State};
 use crate::{fault, folded};
@@ -22,8 +22,8 @@ fn push(frame: Frame, node: u16, at: u16) -> State
 
 // What a node of a form comes to, once its step is charged.
 fn entered_form(form: Form, at: u16) -> State
-    ensures enters { (im : Image) → Enters im (treeBy im form (treeUnder im at)) result }
-    ensures enters_room { (im : Image) → EntersRoom im (treeBy im form (treeUnder im at)) result }
+    ensures enters { (im : Image) → Enters im (tree_by im form (tree_under im at)) result }
+    ensures enters_room { (im : Image) → EntersRoom im (tree_by im form (tree_under im at)) result }
 {
     match form {
         Form::Null => State::Give(Value::Plain(Plain::Null)),
@@ -61,8 +61,8 @@ fn entered_form(form: Form, at: u16) -> State
 
 // What a node below a limit comes to, once its step is charged.
 pub fn entered(image: &[u8], starts: &[u16], counts: Counts, node: u16, limit: u32) -> State
-    ensures enters { Enters (imageFound image.now starts.now counts) (treeUnder (imageFound image.now starts.now counts) limit node) result }
-    ensures enters_room { EntersRoom (imageFound image.now starts.now counts) (treeUnder (imageFound image.now starts.now counts) limit node) result }
+    ensures enters { Enters (image_found image.now starts.now counts) (tree_under (image_found image.now starts.now counts) limit node) result }
+    ensures enters_room { EntersRoom (image_found image.now starts.now counts) (tree_under (image_found image.now starts.now counts) limit node) result }
 {
     if limit <= (node as u32) {
         return fault(1);

@@ -7,8 +7,8 @@ mod types;
 
 ghost use Rattle.std.specs.Prelude.{◌≡◌, ℕ};
 ghost use Rattle.rl_spec.specs.Image.{Image};
-ghost use Rattle.rl_spec.specs.Folded.{foldedOf};
-ghost use Rattle.rl_spec.specs.Run.{and_then, orFault, folds};
+ghost use Rattle.rl_spec.specs.Folded.{folded_of};
+ghost use Rattle.rl_spec.specs.Run.{and_then, or_fault, folds};
 ghost use Rattle.rl_machine.specs.Machine.{Means, Room};
 
 pub use begin::{begun, condition_first, followed};
@@ -25,7 +25,7 @@ fn fault(number: u8) -> State
 
 // A folded value; fault 4 where there is none.
 fn folded(v: Folded) -> State
-    ensures means { (im : Image) → Means im result (λ base rest k env n. and_then (orFault 4 (foldedOf v) env n) (λ w. k (folds w))) }
+    ensures means { (im : Image) → Means im result (λ base rest k env n. and_then (or_fault 4 (folded_of v) env n) (λ w. k (folds w))) }
     ensures room { (im : Image) (bound t : ℕ) → Room im bound t result }
 {
     match v {

@@ -1,10 +1,10 @@
 // What a frame does with the value that it waited for.
 ghost use Rattle.std.specs.Prelude.{◌≡◌, List, ℕ};
 ghost use Rattle.rl_spec.specs.Image.{Image};
-ghost use Rattle.rl_spec.specs.Folded.{foldedOf};
+ghost use Rattle.rl_spec.specs.Folded.{folded_of};
 ghost use Rattle.rl_spec.specs.Run.{operand};
 ghost use Rattle.rl_spec.specs.Runner.{value_of};
-ghost use Rattle.rl_spec.specs.Found.{imageFound};
+ghost use Rattle.rl_spec.specs.Found.{image_found};
 ghost use Rattle.rl_machine.specs.Machine.{Room, Resumes, ResumesRoom};
 
 use crate::types::{Flow, Frame, State};
@@ -14,7 +14,7 @@ use rl_spec::{ConstVal, Counts, Folded, Outcome, Plain, Value};
 
 // What an operator works on.
 fn operand(v: Value) -> Folded
-    ensures { foldedOf result ≡ operand (value_of v) }
+    ensures { folded_of result ≡ operand (value_of v) }
 {
     match v {
         Value::Plain(p) => match p {
@@ -88,7 +88,7 @@ fn tested(v: Value) -> State
 }
 
 pub fn resumed(image: &[u8], counts: Counts, frame: Frame, v: Value) -> State
-    ensures by_index { (p : List ℕ) → Resumes (imageFound image.now p counts) frame (value_of v) result }
+    ensures by_index { (p : List ℕ) → Resumes (image_found image.now p counts) frame (value_of v) result }
     ensures resumes_room { (im : Image) → ResumesRoom im frame result }
 {
     match frame {

@@ -12,57 +12,57 @@ use Rattle.rl_laws.specs.Tests.{by_eqb}
 use Rattle.rl_spec.specs.declared.ConstVal.TheVariants as kind
 use Rattle.rl_spec.specs.declared.Folded.{Folded}
 use Rattle.rl_spec.specs.declared.Folded.TheVariants.{Value, Nothing}
-use Rattle.rl_spec.specs.Words.{sortWordOf, payloadWordOf, wordsValue}
+use Rattle.rl_spec.specs.Words.{sort_word_of, payload_word_of, words_value}
 use Rattle.rl_memory.specs.declared.Recalled.{Recalled}
 use Rattle.rl_memory.specs.declared.Recalled.TheVariants.{Known, Unknown}
-use Rattle.rl_memory.specs.Memory.{recalled, recallOf, tagWord, rememberOf, Right}
+use Rattle.rl_memory.specs.Memory.{recalled, recall_of, tag_word, remember_of, Right}
 
 -- ---- recalling
 
 module _ (k tag payload : ℕ) where
-  pub recalled-unknown : tag ≡ 0 → Unknown ≡ recalled k tag payload
+  pub recalled_unknown : tag ≡ 0 → Unknown ≡ recalled k tag payload
   unfolding recalled
-  recalled-unknown h = rw h refl
+  recalled_unknown h = rw h refl
 
   module _ (z : tag ≡ 0 → ⊥) where
-    pub recalled-none : 4 < tag → tag ≡ 5 + k → Known Nothing ≡ recalled k tag payload
+    pub recalled_none : 4 < tag → tag ≡ 5 + k → Known Nothing ≡ recalled k tag payload
     unfolding recalled
-    recalled-none h e = rw (ne_eqb tag 0 z, lt-ltb 4 tag h, eq-eqb tag (5 + k) e) refl
+    recalled_none h e = rw (ne_eqb tag 0 z, lt-ltb 4 tag h, eq-eqb tag (5 + k) e) refl
 
-    pub recalled-stale : 4 < tag → (tag ≡ 5 + k → ⊥) → Unknown ≡ recalled k tag payload
+    pub recalled_stale : 4 < tag → (tag ≡ 5 + k → ⊥) → Unknown ≡ recalled k tag payload
     unfolding recalled
-    recalled-stale h d = rw (ne_eqb tag 0 z, lt-ltb 4 tag h, ne_eqb tag (5 + k) d) refl
+    recalled_stale h d = rw (ne_eqb tag 0 z, lt-ltb 4 tag h, ne_eqb tag (5 + k) d) refl
 
-    pub recalled-value : tag ≤ 4 → (v : Folded) → v ≡ wordsValue tag payload → Known v ≡ recalled k tag payload
+    pub recalled_value : tag ≤ 4 → (v : Folded) → v ≡ words_value tag payload → Known v ≡ recalled k tag payload
     unfolding recalled
-    recalled-value h v g = rw (ne_eqb tag 0 z, le-ltb 4 tag h, ← g) refl
+    recalled_value h v g = rw (ne_eqb tag 0 z, le-ltb 4 tag h, ← g) refl
 
-pub recall-is : (m : List ℕ) (k n tag payload : ℕ) (r : Recalled) → tag ≡ get_or m (n * 2) 0 → payload ≡ get_or m (n * 2 + 1) 0 → r ≡ recalled k tag payload → r ≡ recallOf m k n
-unfolding recallOf
-recall-is m k n tag payload r e f g = g ∙ rw (e, f) refl
+pub recall_is : (m : List ℕ) (k n tag payload : ℕ) (r : Recalled) → tag ≡ get_or m (n * 2) 0 → payload ≡ get_or m (n * 2 + 1) 0 → r ≡ recalled k tag payload → r ≡ recall_of m k n
+unfolding recall_of
+recall_is m k n tag payload r e f g = g ∙ rw (e, f) refl
 
 -- ---- remembering
 
-pub tag-none : (k : ℕ) (v : Folded) (r : ℕ) → r ≡ sortWordOf v → r ≡ 0 → 5 + k ≡ tagWord k v
-tag-none k (Value (kind.Int x)) r e h = absurd (omega arith)
-tag-none k (Value (kind.Float x)) r e h = absurd (omega arith)
-tag-none k (Value (kind.Str x)) r e h = absurd (omega arith)
-tag-none k (Value (kind.Bool x)) r e h = absurd (omega arith)
-tag-none k Nothing r e h = refl
+pub tag_none : (k : ℕ) (v : Folded) (r : ℕ) → r ≡ sort_word_of v → r ≡ 0 → 5 + k ≡ tag_word k v
+tag_none k (Value (kind.Int x)) r e h = absurd (omega arith)
+tag_none k (Value (kind.Float x)) r e h = absurd (omega arith)
+tag_none k (Value (kind.Str x)) r e h = absurd (omega arith)
+tag_none k (Value (kind.Bool x)) r e h = absurd (omega arith)
+tag_none k Nothing r e h = refl
 
-pub tag-some : (k : ℕ) (v : Folded) (r : ℕ) → r ≡ sortWordOf v → (r ≡ 0 → ⊥) → r ≡ tagWord k v
-tag-some k (Value v) r e h = e
-tag-some k Nothing r e h = absurd (h e)
+pub tag_some : (k : ℕ) (v : Folded) (r : ℕ) → r ≡ sort_word_of v → (r ≡ 0 → ⊥) → r ≡ tag_word k v
+tag_some k (Value v) r e h = e
+tag_some k Nothing r e h = absurd (h e)
 
-tag-early : (k : ℕ) (v : Folded) → tagWord k v ≤ 5 + k
-tag-early k (Value (kind.Int x)) = omega arith
-tag-early k (Value (kind.Float x)) = omega arith
-tag-early k (Value (kind.Str x)) = omega arith
-tag-early k (Value (kind.Bool x)) = omega arith
-tag-early k Nothing = omega arith
+tag_early : (k : ℕ) (v : Folded) → tag_word k v ≤ 5 + k
+tag_early k (Value (kind.Int x)) = omega arith
+tag_early k (Value (kind.Float x)) = omega arith
+tag_early k (Value (kind.Str x)) = omega arith
+tag_early k (Value (kind.Bool x)) = omega arith
+tag_early k Nothing = omega arith
 
 -- the words of a value are known again
-tag_back : (k : ℕ) (v : Folded) (p : ℕ) → wordsValue (sortWordOf v) p ≡ v → recalled k (tagWord k v) p ≡ Known v
+tag_back : (k : ℕ) (v : Folded) (p : ℕ) → words_value (sort_word_of v) p ≡ v → recalled k (tag_word k v) p ≡ Known v
 unfolding recalled
 tag_back k (Value (kind.Int x)) p e = ap Known e
 tag_back k (Value (kind.Float x)) p e = ap Known e
@@ -82,21 +82,21 @@ module _ (m : List ℕ) (n sort payload : ℕ) (h : n * 2 + 1 < length m) where
   abbrev written : List ℕ
   written = set (set m (n * 2) sort) (n * 2 + 1) payload
 
-  own-tag : get_or written (n * 2) 0 ≡ sort
-  own-tag = get_or-set_other (set m (n * 2) sort) (n * 2 + 1) (n * 2) payload 0 (λ q. omega arith) ∙ get_or-set_same m (n * 2) sort 0 (omega arith)
+  own_tag : get_or written (n * 2) 0 ≡ sort
+  own_tag = get_or-set_other (set m (n * 2) sort) (n * 2 + 1) (n * 2) payload 0 (λ q. omega arith) ∙ get_or-set_same m (n * 2) sort 0 (omega arith)
 
-  own : (k : ℕ) → recallOf written k n ≡ recalled k sort payload
-  unfolding recallOf
+  own : (k : ℕ) → recall_of written k n ≡ recalled k sort payload
+  unfolding recall_of
   own k =
       let p : length (set m (n * 2) sort) ≡ length m = length-set m (n * 2) sort in
       let y : get_or written (n * 2 + 1) 0 ≡ payload = get_or-set_same (set m (n * 2) sort) (n * 2 + 1) payload 0 (omega arith) in
-      rw (own-tag, y) refl
+      rw (own_tag, y) refl
 
   other_tag : (j : ℕ) → (j ≡ n → ⊥) → get_or written (j * 2) 0 ≡ get_or m (j * 2) 0
   other_tag j d = get_or-set_other (set m (n * 2) sort) (n * 2 + 1) (j * 2) payload 0 (λ q. omega arith) ∙ get_or-set_other m (n * 2) (j * 2) sort 0 (λ q. d (omega arith))
 
-  others : (k j : ℕ) → (j ≡ n → ⊥) → recallOf written k j ≡ recallOf m k j
-  unfolding recallOf
+  others : (k j : ℕ) → (j ≡ n → ⊥) → recall_of written k j ≡ recall_of m k j
+  unfolding recall_of
   others k j d =
       let y : get_or written (j * 2 + 1) 0 ≡ get_or m (j * 2 + 1) 0 = get_or-set_other (set m (n * 2) sort) (n * 2 + 1) (j * 2 + 1) payload 0 (λ q. d (omega arith)) ∙ get_or-set_other m (n * 2) (j * 2 + 1) sort 0 (λ q. omega arith) in
       rw (other_tag j d, y) refl
@@ -105,32 +105,32 @@ module _ (m : List ℕ) (k n : ℕ) (v : Folded) where
   abbrev Keeps : List ℕ → Type 0
   Keeps out = (f : ℕ → Folded) → Right f k m → v ≡ f n → Right f k out
 
-  module _ (sort payload : ℕ) (e : sort ≡ tagWord k v) (g : payload ≡ payloadWordOf v) (h : n * 2 + 1 < length m) where
-    pub remember-is : written m n sort payload h ≡ rememberOf m k n v
-    unfolding rememberOf
-    remember-is = rw (lt-ltb (n * 2 + 1) (length m) h, e, g) refl
+  module _ (sort payload : ℕ) (e : sort ≡ tag_word k v) (g : payload ≡ payload_word_of v) (h : n * 2 + 1 < length m) where
+    pub remember_is : written m n sort payload h ≡ remember_of m k n v
+    unfolding remember_of
+    remember_is = rw (lt-ltb (n * 2 + 1) (length m) h, e, g) refl
 
-    pub remember-keeps : wordsValue (sortWordOf v) payload ≡ v → Keeps (written m n sort payload h)
-    remember-keeps b f r q =
+    pub remember_keeps : words_value (sort_word_of v) payload ≡ v → Keeps (written m n sort payload h)
+    remember_keeps b f r q =
         let s : recalled k sort payload ≡ Known v = ap (λ (x : ℕ). recalled k x payload) e ∙ tag_back k v payload b in
         record {
           known =
               λ j w t.
               by_eqb j n
               (λ (p : j ≡ n).
-              let o : Known v ≡ Known w = sym s ∙ sym (own m n sort payload h k) ∙ subst (λ (i : ℕ). recallOf (written m n sort payload h) k i ≡ Known w) p t in
+              let o : Known v ≡ Known w = sym s ∙ sym (own m n sort payload h k) ∙ subst (λ (i : ℕ). recall_of (written m n sort payload h) k i ≡ Known w) p t in
               sym (known_is v w o) ∙ q ∙ ap f (sym p))
               (λ p. r.known j w (sym (others m n sort payload h k j p) ∙ t));
           early =
               λ j.
               by_eqb j n
-              (λ (p : j ≡ n). subst (λ (i : ℕ). get_or (written m n sort payload h) (i * 2) 0 ≤ 5 + k) (sym p) (subst (λ (i : ℕ). i ≤ 5 + k) (sym (own-tag m n sort payload h ∙ e)) (tag-early k v)))
+              (λ (p : j ≡ n). subst (λ (i : ℕ). get_or (written m n sort payload h) (i * 2) 0 ≤ 5 + k) (sym p) (subst (λ (i : ℕ). i ≤ 5 + k) (sym (own_tag m n sort payload h ∙ e)) (tag_early k v)))
               (λ p. subst (λ (i : ℕ). i ≤ 5 + k) (sym (other_tag m n sort payload h j p)) (r.early j));
         }
 
-  pub remember-not : length m ≤ n * 2 + 1 → m ≡ rememberOf m k n v
-  unfolding rememberOf
-  remember-not h = rw (le-ltb (n * 2 + 1) (length m) h) refl
+  pub remember_not : length m ≤ n * 2 + 1 → m ≡ remember_of m k n v
+  unfolding remember_of
+  remember_not h = rw (le-ltb (n * 2 + 1) (length m) h) refl
 
   pub keeps_same : Keeps m
   keeps_same f r q = r

@@ -4,7 +4,7 @@
 use Rattle.std.specs.Prelude.{ℕ, ◌+◌, ◌*◌, ◌≤◌, ◌≡◌, cond, List, length, get_or, set, ltb, eqb}
 use Rattle.rl_spec.specs.declared.Folded.{Folded}
 use Rattle.rl_spec.specs.declared.Folded.TheVariants.{Value, Nothing}
-use Rattle.rl_spec.specs.Words.{sortWord, payloadWordOf, wordsValue}
+use Rattle.rl_spec.specs.Words.{sort_word, payload_word_of, words_value}
 use Rattle.rl_memory.specs.declared.Recalled.{Recalled}
 use Rattle.rl_memory.specs.declared.Recalled.TheVariants.{Known, Unknown}
 
@@ -12,21 +12,21 @@ use Rattle.rl_memory.specs.declared.Recalled.TheVariants.{Known, Unknown}
 unfoldable pub recalled : ℕ → ℕ → ℕ → Recalled
 recalled k tag payload =
     cond (eqb tag 0) Unknown
-    (cond (ltb 4 tag) (cond (eqb tag (5 + k)) (Known Nothing) Unknown) (Known (wordsValue tag payload)))
+    (cond (ltb 4 tag) (cond (eqb tag (5 + k)) (Known Nothing) Unknown) (Known (words_value tag payload)))
 
-unfoldable pub recallOf : List ℕ → ℕ → ℕ → Recalled
-recallOf m k n = recalled k (get_or m (n * 2) 0) (get_or m (n * 2 + 1) 0)
+unfoldable pub recall_of : List ℕ → ℕ → ℕ → Recalled
+recall_of m k n = recalled k (get_or m (n * 2) 0) (get_or m (n * 2 + 1) 0)
 
-abbrev pub tagWord : ℕ → Folded → ℕ
-tagWord k (Value v) = sortWord v
-tagWord k Nothing = 5 + k
+abbrev pub tag_word : ℕ → Folded → ℕ
+tag_word k (Value v) = sort_word v
+tag_word k Nothing = 5 + k
 
 -- a node that has no place is not remembered
-unfoldable pub rememberOf : List ℕ → ℕ → ℕ → Folded → List ℕ
-rememberOf m k n v =
-    cond (ltb (n * 2 + 1) (length m)) (set (set m (n * 2) (tagWord k v)) (n * 2 + 1) (payloadWordOf v)) m
+unfoldable pub remember_of : List ℕ → ℕ → ℕ → Folded → List ℕ
+remember_of m k n v =
+    cond (ltb (n * 2 + 1) (length m)) (set (set m (n * 2) (tag_word k v)) (n * 2 + 1) (payload_word_of v)) m
 
 -- what is remembered under k names is right: f says what each node folds to
 pub record Right (f : ℕ → Folded) (k : ℕ) (m : List ℕ) : Type 0 where
-  pub known : (n : ℕ) (v : Folded) → recallOf m k n ≡ Known v → v ≡ f n
+  pub known : (n : ℕ) (v : Folded) → recall_of m k n ≡ Known v → v ≡ f n
   pub early : (n : ℕ) → get_or m (n * 2) 0 ≤ 5 + k

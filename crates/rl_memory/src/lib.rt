@@ -1,6 +1,6 @@
 // What is remembered of nodes that were folded under some names, in lent words.
 ghost use Rattle.std.specs.Prelude.{◌≡◌, ℕ, length, replicate};
-ghost use Rattle.rl_memory.specs.Memory.{recalled, recallOf, tagWord, rememberOf, Right};
+ghost use Rattle.rl_memory.specs.Memory.{recalled, recall_of, tag_word, remember_of, Right};
 
 use rl_bytes::long_at;
 use rl_spec::Folded;
@@ -29,14 +29,14 @@ fn recalled_by(count: u16, tag: u64, payload: u64) -> Recalled
 
 // What is known of a node under `count` names.
 pub fn recall(memory: &[u64], count: u16, n: u16) -> Recalled
-    ensures { result ≡ recallOf memory.now count n }
+    ensures { result ≡ recall_of memory.now count n }
 {
     let at = (n as usize) * 2;
     recalled_by(count, long_at(memory, at), long_at(memory, at + 1))
 }
 
 fn tag_word(count: u16, v: Folded) -> u64
-    ensures { result ≡ tagWord count v }
+    ensures { result ≡ tag_word count v }
 {
     let sort = sort_word(v);
     if sort == 0 {
@@ -48,7 +48,7 @@ fn tag_word(count: u16, v: Folded) -> u64
 // Remembers the value of a node, and hands it on. What was right stays right where this value is.
 pub fn remember(memory: &mut [u64], count: u16, n: u16, v: Folded) -> Folded
     ensures value { result ≡ v }
-    ensures memory_after { memory.new ≡ rememberOf memory.old count n v }
+    ensures memory_after { memory.new ≡ remember_of memory.old count n v }
     ensures by_index { (f : ℕ → Folded) → Right f count memory.old → v ≡ f n → Right f count memory.new }
 {
     let at = (n as usize) * 2;

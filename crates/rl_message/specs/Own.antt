@@ -4,6 +4,6 @@ use Rattle.std.proofs.Math.Option.{Option, none, some}
 use Rattle.rl_spec.specs.declared.Optional.{Optional}
 use Rattle.rl_spec.specs.declared.Optional.TheVariants.{None, Some}
 
-abbrev pub textOption : Optional → Option ℕ
-textOption None = none
-textOption (Some t) = some t
+abbrev pub text_option : Optional → Option ℕ
+text_option None = none
+text_option (Some t) = some t

@@ -2,14 +2,14 @@
 ghost use Rattle.std.specs.Prelude.{◌≡◌, List, ◌++◌, ℕ, ◌+◌};
 ghost use Rattle.rl_spec.specs.Folded.{op_of};
 ghost use Rattle.rl_spec.specs.Tree.{ascii};
-ghost use Rattle.rl_spec.specs.Records.{param_at, functionAt};
-ghost use Rattle.rl_spec.specs.Contracts.{operandOf, refinementOf};
-ghost use Rattle.rl_spec.specs.Found.{imageFound};
+ghost use Rattle.rl_spec.specs.Records.{param_at, function_at};
+ghost use Rattle.rl_spec.specs.FnContracts.{operand_of, refinement_of};
+ghost use Rattle.rl_spec.specs.Found.{image_found};
 ghost use Rattle.std.proofs.Math.Option.{map};
 ghost use Rattle.rl_spec.specs.Image.{text_of};
-ghost use Rattle.rl_spec.specs.Mapped.{mapOperand, mapRefinement};
-ghost use Rattle.rl_spec.specs.Message.{refineOpStr, boolText, integerText, operandStr, refinementText, defaultText};
-ghost use Rattle.rl_text_out.specs.Put.{afterText, withText};
+ghost use Rattle.rl_spec.specs.Mapped.{map_operand, map_refinement};
+ghost use Rattle.rl_spec.specs.Message.{refine_op_str, bool_text, integer_text, operand_str, refinement_text, default_text};
+ghost use Rattle.rl_text_out.specs.Put.{after_text, with_text};
 
 use rl_records::{function_at, param_at, text_at};
 use rl_spec::{Counts, Param, ParamRefinement, RefineOp, RefineOperand, Violation};
@@ -17,8 +17,8 @@ use rl_text_out::{put_number, put_text};
 use rl_values::magnitude;
 
 fn refine_op_str(out: &mut [u8], at: usize, op: RefineOp) -> usize
-    ensures value { result ≡ afterText out.old at (refineOpStr (op_of op)) }
-    ensures out_after { out.new ≡ withText out.old at (refineOpStr (op_of op)) }
+    ensures value { result ≡ after_text out.old at (refine_op_str (op_of op)) }
+    ensures out_after { out.new ≡ with_text out.old at (refine_op_str (op_of op)) }
 {
     match op {
         RefineOp::Gt => put_text(out, at, b">"),
@@ -31,8 +31,8 @@ fn refine_op_str(out: &mut [u8], at: usize, op: RefineOp) -> usize
 }
 
 fn put_bool(out: &mut [u8], at: usize, b: bool) -> usize
-    ensures value { result ≡ afterText out.old at (boolText b) }
-    ensures out_after { out.new ≡ withText out.old at (boolText b) }
+    ensures value { result ≡ after_text out.old at (bool_text b) }
+    ensures out_after { out.new ≡ with_text out.old at (bool_text b) }
 {
     if b {
         return put_text(out, at, b"true");
@@ -41,8 +41,8 @@ fn put_bool(out: &mut [u8], at: usize, b: bool) -> usize
 }
 
 fn put_integer(out: &mut [u8], at: usize, x: i64) -> usize
-    ensures value { result ≡ afterText out.old at (integerText x) }
-    ensures out_after { out.new ≡ withText out.old at (integerText x) }
+    ensures value { result ≡ after_text out.old at (integer_text x) }
+    ensures out_after { out.new ≡ with_text out.old at (integer_text x) }
 {
     if x < 0 {
         let digits = put_text(out, at, b"-");
@@ -53,8 +53,8 @@ fn put_integer(out: &mut [u8], at: usize, x: i64) -> usize
 
 // A text in quotes, as it is.
 fn put_quoted(out: &mut [u8], at: usize, text: &[u8]) -> usize
-    ensures value { result ≡ afterText out.old at (ascii "\"" ++ text.now ++ ascii "\"") }
-    ensures out_after { out.new ≡ withText out.old at (ascii "\"" ++ text.now ++ ascii "\"") }
+    ensures value { result ≡ after_text out.old at (ascii "\"" ++ text.now ++ ascii "\"") }
+    ensures out_after { out.new ≡ with_text out.old at (ascii "\"" ++ text.now ++ ascii "\"") }
 {
     let start = put_text(out, at, b"\"");
     let end = put_text(out, start, text);
@@ -68,8 +68,8 @@ fn operand_str(
     out: &mut [u8],
     at: usize,
 ) -> usize
-    ensures by_index { (p : List ℕ) → result ≡ afterText out.old at (operandStr (mapOperand (text_of (imageFound image.now p counts)) (operandOf operand))) }
-    ensures by_index_2 { (p : List ℕ) → out.new ≡ withText out.old at (operandStr (mapOperand (text_of (imageFound image.now p counts)) (operandOf operand))) }
+    ensures by_index { (p : List ℕ) → result ≡ after_text out.old at (operand_str (map_operand (text_of (image_found image.now p counts)) (operand_of operand))) }
+    ensures by_index_2 { (p : List ℕ) → out.new ≡ with_text out.old at (operand_str (map_operand (text_of (image_found image.now p counts)) (operand_of operand))) }
 {
     match operand {
         RefineOperand::Integer(x) => put_integer(out, at, x),
@@ -88,8 +88,8 @@ fn put_refinement(
     operand: RefineOperand,
     out: &mut [u8],
 ) -> usize
-    ensures by_index { (p : List ℕ) → result ≡ afterText out.old 0 (refinementText (text_of (imageFound image.now p counts) name) (map (mapRefinement (text_of (imageFound image.now p counts))) (refinementOf (ParamRefinement.Refined op operand)))) }
-    ensures by_index_2 { (p : List ℕ) → out.new ≡ withText out.old 0 (refinementText (text_of (imageFound image.now p counts) name) (map (mapRefinement (text_of (imageFound image.now p counts))) (refinementOf (ParamRefinement.Refined op operand)))) }
+    ensures by_index { (p : List ℕ) → result ≡ after_text out.old 0 (refinement_text (text_of (image_found image.now p counts) name) (map (map_refinement (text_of (image_found image.now p counts))) (refinement_of (ParamRefinement.Refined op operand)))) }
+    ensures by_index_2 { (p : List ℕ) → out.new ≡ with_text out.old 0 (refinement_text (text_of (image_found image.now p counts) name) (map (map_refinement (text_of (image_found image.now p counts))) (refinement_of (ParamRefinement.Refined op operand)))) }
 {
     let mut at = put_text(out, 0, b"refinement failed: ");
     at = put_text(out, at, text_at(image, counts, name));
@@ -101,7 +101,7 @@ fn put_refinement(
 
 // The parameter of a function, by its number.
 fn param_of(image: &[u8], counts: Counts, function: u16, number: u16) -> Param
-    ensures { (p : List ℕ) → result ≡ param_at (imageFound image.now p counts) ((functionAt (imageFound image.now p counts) function).params.first + number) }
+    ensures { (p : List ℕ) → result ≡ param_at (image_found image.now p counts) ((function_at (image_found image.now p counts) function).params.first + number) }
 {
     let f = function_at(image, counts, function);
     let params = f.params;
@@ -116,8 +116,8 @@ pub fn default_text(
     violation: Violation,
     out: &mut [u8],
 ) -> usize
-    ensures by_index { (p : List ℕ) → result ≡ afterText out.old 0 (defaultText (imageFound image.now p counts) function violation) }
-    ensures by_index_2 { (p : List ℕ) → out.new ≡ withText out.old 0 (defaultText (imageFound image.now p counts) function violation) }
+    ensures by_index { (p : List ℕ) → result ≡ after_text out.old 0 (default_text (image_found image.now p counts) function violation) }
+    ensures by_index_2 { (p : List ℕ) → out.new ≡ with_text out.old 0 (default_text (image_found image.now p counts) function violation) }
 {
     match violation {
         Violation::Refinement(number) => {

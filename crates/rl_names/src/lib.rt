@@ -1,7 +1,7 @@
 // Names bound to values, in lent words.
 ghost use Rattle.std.specs.Prelude.{◌≡◌};
-ghost use Rattle.rl_spec.specs.Words.{sortWordOf, payloadWordOf, wordsValue};
-ghost use Rattle.rl_names.specs.Names.{lookupIn, bindIn};
+ghost use Rattle.rl_spec.specs.Words.{sort_word_of, payload_word_of, words_value};
+ghost use Rattle.rl_names.specs.Names.{lookup_in, bind_in};
 
 use rl_bytes::{long_at, put_long, word_at};
 use rl_spec::Folded;
@@ -9,7 +9,7 @@ use rl_words::{payload_word, sort_word, words_value};
 
 // The value of the latest of the first `count` bindings whose name has the class of the text t.
 pub fn lookup(classes: &[u16], names: &[u64], count: u16, t: u16) -> Folded
-    ensures { result ≡ lookupIn classes.now names.now t count }
+    ensures { result ≡ lookup_in classes.now names.now t count }
 {
     let class = word_at(classes, t as usize);
     let mut k = count as usize;
@@ -25,8 +25,8 @@ pub fn lookup(classes: &[u16], names: &[u64], count: u16, t: u16) -> Folded
 
 // Binds a name as the k-th.
 pub fn bind_name(names: &mut [u64], k: u16, t: u16, v: Folded)
-    ensures names_after { names.new ≡ bindIn names.old k t v }
-    ensures v_value { wordsValue (sortWordOf v) (payloadWordOf v) ≡ v }
+    ensures names_after { names.new ≡ bind_in names.old k t v }
+    ensures v_value { words_value (sort_word_of v) (payload_word_of v) ≡ v }
 {
     let at = (k as usize) * 3;
     put_long(names, at, t as u64);

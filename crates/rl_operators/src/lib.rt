@@ -1,15 +1,15 @@
 // The operators by their bytes in the image.
 ghost use Rattle.std.specs.Prelude.{◌≡◌, List, ℕ};
-ghost use Rattle.rl_spec.specs.Values.{compareValues};
-ghost use Rattle.rl_spec.specs.Folded.{const_of, op_of, foldedOf};
-ghost use Rattle.rl_spec.specs.Fold.{boolean, unaryValue, binaryValue};
+ghost use Rattle.rl_spec.specs.Values.{compare_values};
+ghost use Rattle.rl_spec.specs.Folded.{const_of, op_of, folded_of};
+ghost use Rattle.rl_spec.specs.Fold.{boolean, unary_value, binary_value};
 ghost use Rattle.rl_operators.specs.Texts.{TextIs};
 
 use rl_spec::{ArithOp, ConstVal, Folded, RefineOp, Verdict};
 use rl_values::{arith_values, bang, compare_values, negate};
 
 pub fn unary_value(operator: u8, v: ConstVal) -> Folded
-    ensures { foldedOf result ≡ unaryValue operator (const_of v) }
+    ensures { folded_of result ≡ unary_value operator (const_of v) }
 {
     match operator {
         5 => bang(v),
@@ -19,7 +19,7 @@ pub fn unary_value(operator: u8, v: ConstVal) -> Folded
 }
 
 fn comparison(op: RefineOp, a: ConstVal, b: ConstVal, left: &[u8], right: &[u8]) -> Folded
-    ensures { (bytes : ℕ → List ℕ) → TextIs bytes a left.now → TextIs bytes b right.now → foldedOf result ≡ boolean (compareValues bytes (op_of op) (const_of a) (const_of b)) }
+    ensures { (bytes : ℕ → List ℕ) → TextIs bytes a left.now → TextIs bytes b right.now → folded_of result ≡ boolean (compare_values bytes (op_of op) (const_of a) (const_of b)) }
 {
     let verdict = compare_values(op, a, b, left, right);
     match verdict {
@@ -31,7 +31,7 @@ fn comparison(op: RefineOp, a: ConstVal, b: ConstVal, left: &[u8], right: &[u8])
 
 // left and right are the bytes of a and of b where they are texts.
 pub fn binary_value(operator: u8, a: ConstVal, b: ConstVal, left: &[u8], right: &[u8]) -> Folded
-    ensures { (bytes : ℕ → List ℕ) → TextIs bytes a left.now → TextIs bytes b right.now → foldedOf result ≡ binaryValue bytes operator (const_of a) (const_of b) }
+    ensures { (bytes : ℕ → List ℕ) → TextIs bytes a left.now → TextIs bytes b right.now → folded_of result ≡ binary_value bytes operator (const_of a) (const_of b) }
 {
     match operator {
         6 => comparison(RefineOp::Eq, a, b, left, right),

@@ -1,12 +1,12 @@
 // The pages of an image, from its bytes.
 ghost use Rattle.std.specs.Prelude.{◌≡◌, ◌≤◌, length};
 ghost use Rattle.rl_spec.specs.Image.{text_of, image_of};
-ghost use Rattle.rl_spec.specs.Fold.{workUnless};
-ghost use Rattle.rl_spec.specs.Pages.{allReportLines, linesBytes, pagesOf, pagesAnswer, pagesOut, pagesNumber};
+ghost use Rattle.rl_spec.specs.Fold.{work_unless};
+ghost use Rattle.rl_spec.specs.Pages.{all_report_lines, lines_bytes, pages_of, pages_answer, pages_out, pages_number};
 ghost use Rattle.rl_names.specs.Names.{Classes};
 ghost use Rattle.rl_lines.specs.Opened.{Known};
 ghost use Rattle.rl_prover.specs.Reports.{kept_at};
-ghost use Rattle.rl_pages.specs.Added.{Adds, answerAt};
+ghost use Rattle.rl_pages.specs.Added.{Adds, answer_at};
 
 use crate::lines::{Placed, put_call};
 use crate::put::put_blanks;
@@ -28,8 +28,8 @@ fn put_calls(
     requires known { Known image.now starts.now counts }
     requires classes { Classes (text_of (image_of image.now)) classes.now }
     requires in_bounds { 768 ≤ length names.old }
-    ensures adds { Adds pages.old 0 (linesBytes (allReportLines (image_of image.now) counts.calls)) pages.new result.at }
-    ensures lines_value { result.lines ≡ length (allReportLines (image_of image.now) counts.calls) }
+    ensures adds { Adds pages.old 0 (lines_bytes (all_report_lines (image_of image.now) counts.calls)) pages.new result.at }
+    ensures lines_value { result.lines ≡ length (all_report_lines (image_of image.now) counts.calls) }
     ensures at_bound { result.at ≤ 38273024 }
 {
     let mut at = 0;
@@ -56,7 +56,7 @@ fn put_pages(
 ) -> usize
     requires known { Known image.now starts.now counts }
     requires classes { Classes (text_of (image_of image.now)) classes.now }
-    ensures adds { Adds pages.old 0 (pagesOf (image_of image.now) counts.calls) pages.new result }
+    ensures adds { Adds pages.old 0 (pages_of (image_of image.now) counts.calls) pages.new result }
     ensures upper_bound { result ≤ 38290544 }
 {
     let mut names = [0u64; 768];
@@ -78,7 +78,7 @@ fn put_pages(
 // Answers for bytes up to a place, or refuses a slice that is too short for them; then both slices are cleared.
 fn answer_at(work: &mut [u16], pages: &mut [u8], at: usize) -> PagesAnswer
     requires { at ≤ 38290544 }
-    ensures value { result ≡ answerAt (length pages.old) at }
+    ensures value { result ≡ answer_at (length pages.old) at }
     ensures pages_after { pages.new ≡ kept_at (length pages.old) at pages.old }
     ensures work_after { work.new ≡ kept_at (length pages.old) at work.old }
 {
@@ -95,9 +95,9 @@ fn answer_at(work: &mut [u16], pages: &mut [u8], at: usize) -> PagesAnswer
 
 // Reads an image and puts the reports of all its calls on pages. 22 for a slice that is shorter than the pages.
 pub fn pages(image: &[u8], work: &mut [u16], pages: &mut [u8]) -> PagesAnswer
-    ensures value { result ≡ pagesAnswer image.now (length work.old) (length pages.old) }
-    ensures pages_after { pages.new ≡ pagesOut image.now (length work.old) (length pages.old) }
-    ensures work_after { work.new ≡ workUnless (pagesNumber (pagesAnswer image.now (length work.old) (length pages.old))) image.now (length work.old) }
+    ensures value { result ≡ pages_answer image.now (length work.old) (length pages.old) }
+    ensures pages_after { pages.new ≡ pages_out image.now (length work.old) (length pages.old) }
+    ensures work_after { work.new ≡ work_unless (pages_number (pages_answer image.now (length work.old) (length pages.old))) image.now (length work.old) }
 {
     let mut starts = [0u16; 6144];
     let mut classes = [0u16; 2048];

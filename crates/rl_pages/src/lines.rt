@@ -1,13 +1,13 @@
 // The lines of a call's reports, behind what a slice of pages holds.
 ghost use Rattle.std.specs.Prelude.{◌≡◌, ◌+◌, ◌≤◌, ◌<◌, length};
 ghost use Rattle.rl_spec.specs.Image.{text_of, image_of};
-ghost use Rattle.rl_spec.specs.Prove.{violationsOf};
-ghost use Rattle.rl_spec.specs.Pages.{reportLines, linesBytes};
+ghost use Rattle.rl_spec.specs.Prove.{violations_of};
+ghost use Rattle.rl_spec.specs.Pages.{report_lines, lines_bytes};
 ghost use Rattle.rl_names.specs.Names.{Classes};
 ghost use Rattle.rl_lines.specs.Opened.{Known};
-ghost use Rattle.rl_lines.specs.Lines.{linesFor, entriesFor};
-ghost use Rattle.rl_text_out.specs.Put.{afterText, withText};
-ghost use Rattle.rl_pages.specs.Added.{Adds, lineBytes};
+ghost use Rattle.rl_lines.specs.Lines.{lines_for, entries_for};
+ghost use Rattle.rl_text_out.specs.Put.{after_text, with_text};
+ghost use Rattle.rl_pages.specs.Added.{Adds, line_bytes};
 
 use crate::put::put_behind;
 use rl_bytes::part;
@@ -35,11 +35,11 @@ fn put_report_line(
     out: &mut [u8],
 ) -> usize
     requires known { Known image.now starts.now counts }
-    requires lines_value { lines ≡ linesFor (image_of image.now) lines.call }
-    requires reports_value { reports.now ≡ entriesFor (image_of image.now) lines.call }
+    requires lines_value { lines ≡ lines_for (image_of image.now) lines.call }
+    requires reports_value { reports.now ≡ entries_for (image_of image.now) lines.call }
     requires number_lt_count { number < lines.count }
-    ensures value { result ≡ afterText out.old 0 (lineBytes (image_of image.now) lines.call number) }
-    ensures out_after { out.new ≡ withText out.old 0 (lineBytes (image_of image.now) lines.call number) }
+    ensures value { result ≡ after_text out.old 0 (line_bytes (image_of image.now) lines.call number) }
+    ensures out_after { out.new ≡ with_text out.old 0 (line_bytes (image_of image.now) lines.call number) }
 {
     let mut room = [0u8; 156];
     let violation = violation_at(reports, number);
@@ -70,11 +70,11 @@ fn put_report(
     at: usize,
 ) -> usize
     requires known { Known image.now starts.now counts }
-    requires lines_value { lines ≡ linesFor (image_of image.now) lines.call }
-    requires reports_value { reports.now ≡ entriesFor (image_of image.now) lines.call }
+    requires lines_value { lines ≡ lines_for (image_of image.now) lines.call }
+    requires reports_value { reports.now ≡ entries_for (image_of image.now) lines.call }
     requires number_lt_count { number < lines.count }
     requires at_bound { at ≤ 1099511627776 }
-    ensures adds { Adds pages.old at (lineBytes (image_of image.now) lines.call number) pages.new result }
+    ensures adds { Adds pages.old at (line_bytes (image_of image.now) lines.call number) pages.new result }
     ensures upper_bound { result ≤ at + 292 }
 {
     let mut line = [0u8; 292];
@@ -92,10 +92,10 @@ fn put_reports(
     at: usize,
 ) -> usize
     requires known { Known image.now starts.now counts }
-    requires lines_value { lines ≡ linesFor (image_of image.now) lines.call }
-    requires reports_value { reports.now ≡ entriesFor (image_of image.now) lines.call }
+    requires lines_value { lines ≡ lines_for (image_of image.now) lines.call }
+    requires reports_value { reports.now ≡ entries_for (image_of image.now) lines.call }
     requires at_bound { at ≤ 549755813888 }
-    ensures adds { Adds pages.old at (linesBytes (reportLines (image_of image.now) lines.call)) pages.new result }
+    ensures adds { Adds pages.old at (lines_bytes (report_lines (image_of image.now) lines.call)) pages.new result }
     ensures upper_bound { result ≤ at + 149504 }
 {
     let mut place = at;
@@ -123,8 +123,8 @@ pub fn put_call(
     requires classes { Classes (text_of (image_of image.now)) classes.now }
     requires in_bounds { 768 ≤ length names.old }
     requires at_bound { at ≤ 549755813888 }
-    ensures adds { Adds pages.old at (linesBytes (reportLines (image_of image.now) call)) pages.new result.at }
-    ensures lines_value { result.lines ≡ length (violationsOf (image_of image.now) call) }
+    ensures adds { Adds pages.old at (lines_bytes (report_lines (image_of image.now) call)) pages.new result.at }
+    ensures lines_value { result.lines ≡ length (violations_of (image_of image.now) call) }
     ensures at_bound_2 { result.at ≤ at + 149504 }
 {
     let mut reports = [0u32; 2048];

@@ -1,6 +1,6 @@
 // Lines behind what a slice of pages holds; what has no room is left out.
 ghost use Rattle.std.specs.Prelude.{◌≡◌, ◌+◌, ◌≤◌, length, replicate};
-ghost use Rattle.rl_spec.specs.Pages.{spaces, linesBytes};
+ghost use Rattle.rl_spec.specs.Pages.{spaces, lines_bytes};
 ghost use Rattle.rl_pages.specs.Added.{Adds};
 
 use rl_bytes::part;
@@ -22,7 +22,7 @@ pub fn put_behind(pages: &mut [u8], at: usize, text: &[u8]) -> usize
 pub fn put_blanks(pages: &mut [u8], at: usize, count: u32) -> usize
     requires at_bound { at ≤ 549755813888 }
     requires count_bound { count ≤ 60 }
-    ensures adds { Adds pages.old at (linesBytes (replicate count (spaces 72))) pages.new result }
+    ensures adds { Adds pages.old at (lines_bytes (replicate count (spaces 72))) pages.new result }
     ensures upper_bound { result ≤ at + 17520 }
 {
     let mut line = [0u8; 292];

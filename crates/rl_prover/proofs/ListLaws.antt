@@ -7,7 +7,7 @@ use native.Mathlib.Omega.{arith}
 use lib.Dec.{eqb}
 use borrow.Author.Tests.{ne_eqb}
 use Rattle.rl_spec.specs.Ranges.{up_from}
-use Rattle.rl_spec.specs.Contracts.{is_empty}
+use Rattle.rl_spec.specs.FnContracts.{is_empty}
 
 pub from_start : (k n : ℕ) → up_from (k + 0) (n - 0) ≡ up_from k n
 from_start k n =
@@ -26,7 +26,7 @@ from_next k n i h =
     let b : k + i + 1 ≡ k + (i + 1) = omega arith in
     rw (a, b) refl
 
-pub empty-is : {A : Type 0} (f : ℕ → A) (k n : ℕ) → is_empty (map f (up_from k n)) ≡ eqb n 0
+pub empty_is : {A : Type 0} (f : ℕ → A) (k n : ℕ) → is_empty (map f (up_from k n)) ≡ eqb n 0
 unfolding up_from
-empty-is f k zero = refl
-empty-is f k (suc n) = rw (ne_eqb (suc n) 0 (λ e. omega arith)) refl
+empty_is f k zero = refl
+empty_is f k (suc n) = rw (ne_eqb (suc n) 0 (λ e. omega arith)) refl

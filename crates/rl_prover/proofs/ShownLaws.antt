@@ -8,14 +8,14 @@ use borrow.Author.Tests.{lt-ltb, le-ltb}
 use lib.ListN.{length, take, replicate, length-replicate, length-take}
 use Rattle.rl_prover.specs.Reports.{Shown, kept_at}
 
-take-zeros : (n : ℕ) → take n (replicate {A = ℕ} n 0) ≡ replicate n 0
-take-zeros zero = refl
-take-zeros (suc n) = ap (λ (l : List ℕ). 0 ∷ l) (take-zeros n)
+take_zeros : (n : ℕ) → take n (replicate {A = ℕ} n 0) ≡ replicate n 0
+take_zeros zero = refl
+take_zeros (suc n) = ap (λ (l : List ℕ). 0 ∷ l) (take_zeros n)
 
-pub none-shown : (l : List ℕ) (n : ℕ) → l ≡ replicate n 0 → Shown l [] 0
-none-shown l n e =
+pub none_shown : (l : List ℕ) (n : ℕ) → l ≡ replicate n 0 → Shown l [] 0
+none_shown l n e =
     let k : length l ≡ n = ap length e ∙ length-replicate n 0 in
-    record { slice = rw k (e ∙ sym (take-zeros n)); place = refl }
+    record { slice = rw k (e ∙ sym (take_zeros n)); place = refl }
 
 few : (n k : ℕ) → n ≤ k → take n (replicate {A = ℕ} k 0) ≡ replicate n 0
 few zero k l = refl
@@ -31,14 +31,14 @@ all_shown (suc n) k (x ∷ e) h l =
 
 -- what is kept
 
-pub kept-none : (room at : ℕ) (l out : List ℕ) → room < at → out ≡ replicate (length l) 0 → out ≡ kept_at room at l
+pub kept_none : (room at : ℕ) (l out : List ℕ) → room < at → out ≡ replicate (length l) 0 → out ≡ kept_at room at l
 unfolding kept_at
-kept-none room at l out h e = rw (lt-ltb room at h) e
+kept_none room at l out h e = rw (lt-ltb room at h) e
 
-pub kept-all : (room at : ℕ) (l : List ℕ) → at ≤ room → l ≡ kept_at room at l
+pub kept_all : (room at : ℕ) (l : List ℕ) → at ≤ room → l ≡ kept_at room at l
 unfolding kept_at
-kept-all room at l h = rw (le-ltb room at h) refl
+kept_all room at l h = rw (le-ltb room at h) refl
 
 -- the first n words of a memory of zeros
-pub part-size : (n k : ℕ) → n ≤ k → n ≡ length (take n (replicate {A = ℕ} k 0))
-part-size n k h = let e : length (replicate {A = ℕ} k 0) ≡ k = length-replicate k 0 in sym (length-take n (replicate {A = ℕ} k 0) ∙ omega arith)
+pub part_size : (n k : ℕ) → n ≤ k → n ≡ length (take n (replicate {A = ℕ} k 0))
+part_size n k h = let e : length (replicate {A = ℕ} k 0) ≡ k = length-replicate k 0 in sym (length-take n (replicate {A = ℕ} k 0) ∙ omega arith)

@@ -20,104 +20,104 @@ use Rattle.rl_spec.specs.declared.Verdict.{Verdict}
 use Rattle.rl_spec.specs.declared.Verdict.TheVariants.{Yes, No, Unknown}
 use Rattle.rl_spec.specs.Image.{Image, text_of}
 use Rattle.rl_spec.specs.Values as value
-use Rattle.rl_spec.specs.Values.{compareValues}
-use Rattle.rl_spec.specs.Folded.{const_of, foldedOf, op_of, verdictOf, withText}
-use Rattle.rl_spec.specs.Tree.{exprTree}
-use Rattle.rl_spec.specs.Fold.{Binding, lookup, constEval}
-use Rattle.rl_spec.specs.Found.{imageFound}
-use Rattle.rl_spec.specs.Contracts.{operandOf}
-use Rattle.rl_spec.specs.Prove.{isNo, isFalse, refineBound, refutes, failsAt}
+use Rattle.rl_spec.specs.Values.{compare_values}
+use Rattle.rl_spec.specs.Folded.{const_of, folded_of, op_of, verdict_of, with_text}
+use Rattle.rl_spec.specs.Tree.{expr_tree}
+use Rattle.rl_spec.specs.Fold.{Binding, lookup, const_eval}
+use Rattle.rl_spec.specs.Found.{image_found}
+use Rattle.rl_spec.specs.FnContracts.{operand_of}
+use Rattle.rl_spec.specs.Prove.{is_no, is_false, refine_bound, refutes, fails_at}
 use Rattle.rl_operators.specs.Texts.{TextIs}
-use Rattle.rl_operators.proofs.Laws.{compare-at}
-use Rattle.rl_names.specs.Names.{lookupIn}
+use Rattle.rl_operators.proofs.Laws.{compare_at}
+use Rattle.rl_names.specs.Names.{lookup_in}
 use Rattle.rl_names.proofs.Laws.{walk_is}
 use Rattle.rl_fold.specs.Folding.{Names, Folds}
-use Rattle.rl_fold.proofs.FoldLaws.{from-forth}
+use Rattle.rl_fold.proofs.FoldLaws.{from_forth}
 use Rattle.rl_prover.specs.Violations.{FailsRefinement, FailsClause}
 
 -- ---- a comparison that says no
 
 module _ (s : List ℕ) (c : Counts) (op : RefineOp) where
-  module _ (a b : ConstVal) (l r : List ℕ) (x : (p : List ℕ) → TextIs (text_of (imageFound s p c)) a l) (y : (p : List ℕ) → TextIs (text_of (imageFound s p c)) b r) (v : Verdict) (e : verdictOf v ≡ compareValues (λ t. t) (op_of op) (withText a l) (withText b r)) where
+  module _ (a b : ConstVal) (l r : List ℕ) (x : (p : List ℕ) → TextIs (text_of (image_found s p c)) a l) (y : (p : List ℕ) → TextIs (text_of (image_found s p c)) b r) (v : Verdict) (e : verdict_of v ≡ compare_values (λ t. t) (op_of op) (with_text a l) (with_text b r)) where
     abbrev By : Bool → Type 0
-    By o = (p : List ℕ) → o ≡ isNo (compareValues (text_of (imageFound s p c)) (op_of op) (const_of a) (const_of b))
+    By o = (p : List ℕ) → o ≡ is_no (compare_values (text_of (image_found s p c)) (op_of op) (const_of a) (const_of b))
 
-    said : (p : List ℕ) → verdictOf v ≡ compareValues (text_of (imageFound s p c)) (op_of op) (const_of a) (const_of b)
-    said p = e ∙ compare-at (text_of (imageFound s p c)) (op_of op) a b l r (x p) (y p)
+    said : (p : List ℕ) → verdict_of v ≡ compare_values (text_of (image_found s p c)) (op_of op) (const_of a) (const_of b)
+    said p = e ∙ compare_at (text_of (image_found s p c)) (op_of op) a b l r (x p) (y p)
 
-    pub by-yes : v ≡ Yes → By false
-    by-yes q p = rw (← said p, q) refl
+    pub by_yes : v ≡ Yes → By false
+    by_yes q p = rw (← said p, q) refl
 
-    pub by-no : v ≡ No → By true
-    by-no q p = rw (← said p, q) refl
+    pub by_no : v ≡ No → By true
+    by_no q p = rw (← said p, q) refl
 
-    pub by-unknown : v ≡ Unknown → By false
-    by-unknown q p = rw (← said p, q) refl
+    pub by_unknown : v ≡ Unknown → By false
+    by_unknown q p = rw (← said p, q) refl
 
   module _ (a b : Folded) where
     abbrev Refuted : Bool → Type 0
-    Refuted o = (p : List ℕ) → o ≡ refutes (text_of (imageFound s p c)) (op_of op) (foldedOf a) (foldedOf b)
+    Refuted o = (p : List ℕ) → o ≡ refutes (text_of (image_found s p c)) (op_of op) (folded_of a) (folded_of b)
 
-    pub refuted-both : (x y : ConstVal) (o : Bool) → a ≡ Value x → b ≡ Value y → ((p : List ℕ) → o ≡ isNo (compareValues (text_of (imageFound s p c)) (op_of op) (const_of x) (const_of y))) → Refuted o
+    pub refuted_both : (x y : ConstVal) (o : Bool) → a ≡ Value x → b ≡ Value y → ((p : List ℕ) → o ≡ is_no (compare_values (text_of (image_found s p c)) (op_of op) (const_of x) (const_of y))) → Refuted o
     unfolding refutes
-    refuted-both x y o e f g p = rw (e, f) (g p)
+    refuted_both x y o e f g p = rw (e, f) (g p)
 
-    pub refuted-right : (x : ConstVal) → a ≡ Value x → b ≡ Nothing → Refuted false
+    pub refuted_right : (x : ConstVal) → a ≡ Value x → b ≡ Nothing → Refuted false
     unfolding refutes
-    refuted-right x e f p = rw (e, f) refl
+    refuted_right x e f p = rw (e, f) refl
 
-    pub refuted-left : a ≡ Nothing → Refuted false
+    pub refuted_left : a ≡ Nothing → Refuted false
     unfolding refutes
-    refuted-left e p = rw e refl
+    refuted_left e p = rw e refl
 
 -- ---- what the value is compared with
 
 module _ (cs w : List ℕ) (count : ℕ) (o : RefineOperand) where
   abbrev Bound : Option (value.ConstVal ℕ) → Type 0
-  Bound v = (im : Image) (env : List (Binding ℕ)) → Names im env cs w count → v ≡ refineBound (text_of im) env (operandOf o)
+  Bound v = (im : Image) (env : List (Binding ℕ)) → Names im env cs w count → v ≡ refine_bound (text_of im) env (operand_of o)
 
-  pub bound-integer : (x : ℤ) → o ≡ Integer x → Bound (some (value.int x))
-  unfolding refineBound
-  bound-integer x e im env n = rw e refl
+  pub bound_integer : (x : ℤ) → o ≡ Integer x → Bound (some (value.int x))
+  unfolding refine_bound
+  bound_integer x e im env n = rw e refl
 
-  pub bound-str : (t : ℕ) → o ≡ Str t → Bound (some (value.str t))
-  unfolding refineBound
-  bound-str t e im env n = rw e refl
+  pub bound_str : (t : ℕ) → o ≡ Str t → Bound (some (value.str t))
+  unfolding refine_bound
+  bound_str t e im env n = rw e refl
 
-  pub bound-bool : (b : Bool) → o ≡ Truth b → Bound (some (value.bool b))
-  unfolding refineBound
-  bound-bool b e im env n = rw e refl
+  pub bound_bool : (b : Bool) → o ≡ Truth b → Bound (some (value.bool b))
+  unfolding refine_bound
+  bound_bool b e im env n = rw e refl
 
-  pub bound-param : (t : ℕ) (v : Folded) → o ≡ Named t → v ≡ lookupIn cs w t count → Bound (foldedOf v)
-  unfolding refineBound
-  bound-param t v e f im env n = rw e (from-forth v (lookup (text_of im) env t) (f ∙ ap (lookupIn cs w t) (sym n.counted) ∙ walk_is (text_of im) cs w t env n.standing))
+  pub bound_param : (t : ℕ) (v : Folded) → o ≡ Named t → v ≡ lookup_in cs w t count → Bound (folded_of v)
+  unfolding refine_bound
+  bound_param t v e f im env n = rw e (from_forth v (lookup (text_of im) env t) (f ∙ ap (lookup_in cs w t) (sym n.counted) ∙ walk_is (text_of im) cs w t env n.standing))
 
 -- ---- a refinement, a clause
 
 module _ (im : Image) (cs w : List ℕ) (count : ℕ) (m : List ℕ) where
-  pub fails-unrefined : (q : ParamRefinement) (arg : ℕ) → q ≡ Unrefined → FailsRefinement im cs w count m q arg false m
-  unfolding failsAt
-  fails-unrefined q arg e env p = (rw e refl, p)
+  pub fails_unrefined : (q : ParamRefinement) (arg : ℕ) → q ≡ Unrefined → FailsRefinement im cs w count m q arg false m
+  unfolding fails_at
+  fails_unrefined q arg e env p = (rw e refl, p)
 
-  fails-refined-at : (q : ParamRefinement) (arg : ℕ) (op : RefineOp) (x : RefineOperand) (v u : Folded) (r : Bool) (out : List ℕ) → q ≡ Refined op x → Folds im cs w count arg m v out → Bound cs w count x (foldedOf u) → r ≡ refutes (text_of im) (op_of op) (foldedOf v) (foldedOf u) → FailsRefinement im cs w count m q arg r out
-  unfolding failsAt
-  fails-refined-at q arg op x v u r out e f g h env p =
+  fails_refined_at : (q : ParamRefinement) (arg : ℕ) (op : RefineOp) (x : RefineOperand) (v u : Folded) (r : Bool) (out : List ℕ) → q ≡ Refined op x → Folds im cs w count arg m v out → Bound cs w count x (folded_of u) → r ≡ refutes (text_of im) (op_of op) (folded_of v) (folded_of u) → FailsRefinement im cs w count m q arg r out
+  unfolding fails_at
+  fails_refined_at q arg op x v u r out e f g h env p =
       let folded = f env p.names p.right in
-      let actual : foldedOf v ≡ constEval (text_of im) env (exprTree im arg) = from-forth v (constEval (text_of im) env (exprTree im arg)) folded.0 in
+      let actual : folded_of v ≡ const_eval (text_of im) env (expr_tree im arg) = from_forth v (const_eval (text_of im) env (expr_tree im arg)) folded.0 in
       (h ∙ rw (e, ← actual, ← g im env p.names) refl, record { names = p.names; right = folded.1 })
 
-  pub fails-clause : (n : ℕ) (v : Folded) (r : Bool) (out : List ℕ) → Folds im cs w count n m v out → r ≡ isFalse (foldedOf v) → FailsClause im cs w count m n r out
-  fails-clause n v r out f g env p =
+  pub fails_clause : (n : ℕ) (v : Folded) (r : Bool) (out : List ℕ) → Folds im cs w count n m v out → r ≡ is_false (folded_of v) → FailsClause im cs w count m n r out
+  fails_clause n v r out f g env p =
       let folded = f env p.names p.right in
-      let found : foldedOf v ≡ constEval (text_of im) env (exprTree im n) = from-forth v (constEval (text_of im) env (exprTree im n)) folded.0 in
-      (g ∙ ap isFalse found, record { names = p.names; right = folded.1 })
+      let found : folded_of v ≡ const_eval (text_of im) env (expr_tree im n) = from_forth v (const_eval (text_of im) env (expr_tree im n)) folded.0 in
+      (g ∙ ap is_false found, record { names = p.names; right = folded.1 })
 
 module _ (s p : List ℕ) (c : Counts) (cs w : List ℕ) (count : ℕ) (m : List ℕ) where
-  pub fails-refined : (q : ParamRefinement) (arg : ℕ) (op : RefineOp) (x : RefineOperand) (v u : Folded) (r : Bool) (out : List ℕ) → q ≡ Refined op x → Folds (imageFound s p c) cs w count arg m v out → Bound cs w count x (foldedOf u) → Refuted s c op v u r → FailsRefinement (imageFound s p c) cs w count m q arg r out
-  fails-refined q arg op x v u r out e f g h = fails-refined-at (imageFound s p c) cs w count m q arg op x v u r out e f g (h p)
+  pub fails_refined : (q : ParamRefinement) (arg : ℕ) (op : RefineOp) (x : RefineOperand) (v u : Folded) (r : Bool) (out : List ℕ) → q ≡ Refined op x → Folds (image_found s p c) cs w count arg m v out → Bound cs w count x (folded_of u) → Refuted s c op v u r → FailsRefinement (image_found s p c) cs w count m q arg r out
+  fails_refined q arg op x v u r out e f g h = fails_refined_at (image_found s p c) cs w count m q arg op x v u r out e f g (h p)
 
 -- ---- a value that is false
 
-pub false-bool : (v : Folded) (w : ConstVal) (b : Bool) → v ≡ Value w → w ≡ kind.Bool b → not b ≡ isFalse (foldedOf v)
-false-bool v w true e f = rw (e, f) refl
-false-bool v w false e f = rw (e, f) refl
+pub false_bool : (v : Folded) (w : ConstVal) (b : Bool) → v ≡ Value w → w ≡ kind.Bool b → not b ≡ is_false (folded_of v)
+false_bool v w true e f = rw (e, f) refl
+false_bool v w false e f = rw (e, f) refl

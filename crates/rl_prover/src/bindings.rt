@@ -1,7 +1,7 @@
 // The first pass: the names of parameters bound to the values of arguments.
 ghost use Rattle.std.specs.Prelude.{◌≡◌, ◌+◌, ◌≤◌, ◌<◌, min};
-ghost use Rattle.rl_spec.specs.Found.{imageFound};
-ghost use Rattle.rl_prover.specs.Passes.{forgetFor, Binds, BindsAll};
+ghost use Rattle.rl_spec.specs.Found.{image_found};
+ghost use Rattle.rl_prover.specs.Passes.{forget_for, Binds, BindsAll};
 
 use rl_fold::const_eval;
 use rl_memory::clear;
@@ -12,7 +12,7 @@ use rl_spec::{Counts, Folded, Interval};
 // Forgets what a binding can change, by the value that its name had. Without one every value stays, and that a node had none is
 // forgotten by itself, since there is a name more.
 fn forget_for(memory: &mut [u64], old: Folded)
-    ensures { memory.new ≡ forgetFor memory.old old }
+    ensures { memory.new ≡ forget_for memory.old old }
 {
     match old {
         Folded::Value(v) => clear(memory),
@@ -61,7 +61,7 @@ pub fn bind_arguments(
     names: &mut [u64],
     memory: &mut [u64],
 ) -> u16
-    ensures { BindsAll (imageFound image.now starts.now counts) classes.now params args names.old memory.old names.new result memory.new }
+    ensures { BindsAll (image_found image.now starts.now counts) classes.now params args names.old memory.old names.new result memory.new }
 {
     let most = smaller(params.count, args.count);
     let mut count: u16 = 0;

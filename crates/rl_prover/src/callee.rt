@@ -1,11 +1,11 @@
 // The callee of a call.
 ghost use Rattle.std.specs.Prelude.{◌≡◌, List, map, ℕ};
 ghost use Rattle.rl_spec.specs.Image.{text_of};
-ghost use Rattle.rl_spec.specs.Found.{imageFound};
-ghost use Rattle.rl_spec.specs.Ranges.{numbersIn};
-ghost use Rattle.rl_spec.specs.Contracts.{paramOf, anyRefined, isCallee, calleeAmong};
+ghost use Rattle.rl_spec.specs.Found.{image_found};
+ghost use Rattle.rl_spec.specs.Ranges.{numbers_in};
+ghost use Rattle.rl_spec.specs.FnContracts.{param_of, any_refined, is_callee, callee_among};
 ghost use Rattle.rl_names.specs.Names.{Classes};
-ghost use Rattle.rl_prover.specs.Callees.{isRefined, recorded, callee_in};
+ghost use Rattle.rl_prover.specs.Callees.{is_refined, recorded, callee_in};
 
 use rl_bytes::word_at;
 use rl_records::{function_at, param_at};
@@ -18,7 +18,7 @@ pub enum Callee {
 }
 
 fn is_refined(refinement: ParamRefinement) -> bool
-    ensures { result ≡ isRefined refinement }
+    ensures { result ≡ is_refined refinement }
 {
     match refinement {
         ParamRefinement::Unrefined => false,
@@ -27,7 +27,7 @@ fn is_refined(refinement: ParamRefinement) -> bool
 }
 
 pub fn any_refined(image: &[u8], counts: Counts, params: Interval) -> bool
-    ensures { (p : List ℕ) → result ≡ anyRefined (map (paramOf (imageFound image.now p counts)) (numbersIn params)) }
+    ensures { (p : List ℕ) → result ≡ any_refined (map (param_of (image_found image.now p counts)) (numbers_in params)) }
 {
     let first = params.first as u32;
     let count = params.count as u32;
@@ -45,7 +45,7 @@ pub fn any_refined(image: &[u8], counts: Counts, params: Interval) -> bool
 
 // Whether a function is recorded: one without requires and without a refinement is not.
 fn record_fn_contracts(image: &[u8], counts: Counts, function: Function) -> bool
-    ensures { (p : List ℕ) → result ≡ recorded (imageFound image.now p counts) function }
+    ensures { (p : List ℕ) → result ≡ recorded (image_found image.now p counts) function }
 {
     let required = function.required;
     if required.count != 0 {
@@ -55,7 +55,7 @@ fn record_fn_contracts(image: &[u8], counts: Counts, function: Function) -> bool
 }
 
 fn is_callee(image: &[u8], counts: Counts, classes: &[u16], name: u16, f: u16) -> bool
-    ensures { (p : List ℕ) → Classes (text_of (imageFound image.now p counts)) classes.now → result ≡ isCallee (imageFound image.now p counts) (text_of (imageFound image.now p counts) name) f }
+    ensures { (p : List ℕ) → Classes (text_of (image_found image.now p counts)) classes.now → result ≡ is_callee (image_found image.now p counts) (text_of (image_found image.now p counts) name) f }
 {
     let function = function_at(image, counts, f);
     if word_at(classes, function.name as usize) != word_at(classes, name as usize) {
@@ -66,7 +66,7 @@ fn is_callee(image: &[u8], counts: Counts, classes: &[u16], name: u16, f: u16) -
 
 // The last function of that name that has requires or a refinement.
 pub fn find_callee(image: &[u8], counts: Counts, classes: &[u16], name: u16) -> Callee
-    ensures { (p : List ℕ) → Classes (text_of (imageFound image.now p counts)) classes.now → callee_in result ≡ calleeAmong (imageFound image.now p counts) (text_of (imageFound image.now p counts) name) counts.functions }
+    ensures { (p : List ℕ) → Classes (text_of (image_found image.now p counts)) classes.now → callee_in result ≡ callee_among (image_found image.now p counts) (text_of (image_found image.now p counts) name) counts.functions }
 {
     let mut n = counts.functions;
     while 0 < n {

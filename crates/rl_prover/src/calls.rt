@@ -1,6 +1,6 @@
 // A call's reports.
 ghost use Rattle.std.specs.Prelude.{◌<◌, ◌≤◌, ◌+◌};
-ghost use Rattle.rl_spec.specs.Found.{imageFound};
+ghost use Rattle.rl_spec.specs.Found.{image_found};
 ghost use Rattle.rl_prover.specs.Calls.{ProvesCallee, ProvesCall};
 
 use crate::bindings::bind_arguments;
@@ -34,7 +34,7 @@ fn prove_callee(
     start: usize,
 ) -> usize
     requires { start < 1125899906842624 }
-    ensures proves_callee { ProvesCallee (imageFound image.now starts.now counts) classes.now f args call span names.old reports.old start reports.new result }
+    ensures proves_callee { ProvesCallee (image_found image.now starts.now counts) classes.now f args call span names.old reports.old start reports.new result }
     ensures upper_bound { result ≤ start + 524280 }
 {
     let function = function_at(image, counts, f);
@@ -64,7 +64,7 @@ pub fn prove_call(
     reports: &mut [u32],
     start: usize,
 ) -> usize
-    ensures proves_call { ProvesCall (imageFound image.now starts.now counts) classes.now call names.old reports.old start reports.new result }
+    ensures proves_call { ProvesCall (image_found image.now starts.now counts) classes.now call names.old reports.old start reports.new result }
     ensures upper_bound { result ≤ start + 524280 }
 {
     if 1125899906842624 <= start {

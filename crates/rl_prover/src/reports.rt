@@ -1,6 +1,6 @@
 // Reports in a lent slice, four entries each; what has no room is left out.
 ghost use Rattle.std.specs.Prelude.{◌≡◌, ◌<◌, ◌≤◌, ◌+◌, set};
-ghost use Rattle.rl_prover.specs.Reports.{putFour, putViolation, Reports};
+ghost use Rattle.rl_prover.specs.Reports.{put_four, put_violation, Reports};
 
 use rl_spec::Violation;
 
@@ -14,7 +14,7 @@ fn put_entry(reports: &mut [u32], at: usize, x: u32)
 
 fn put_four(reports: &mut [u32], at: usize, call: u32, span: u32, kind: u32, number: u32)
     requires { at < 2251799813685248 }
-    ensures { reports.new ≡ putFour reports.old at call span kind number }
+    ensures { reports.new ≡ put_four reports.old at call span kind number }
 {
     put_entry(reports, at, call);
     put_entry(reports, at + 1, span);
@@ -24,7 +24,7 @@ fn put_four(reports: &mut [u32], at: usize, call: u32, span: u32, kind: u32, num
 
 fn put_violation(reports: &mut [u32], at: usize, call: u32, span: u32, violation: Violation)
     requires { at < 2251799813685248 }
-    ensures { reports.new ≡ putViolation reports.old at call span violation }
+    ensures { reports.new ≡ put_violation reports.old at call span violation }
 {
     match violation {
         Violation::Refinement(n) => put_four(reports, at, call, span, 0, n as u32),

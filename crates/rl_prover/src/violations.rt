@@ -1,12 +1,12 @@
 // The second pass: refinements that arguments fail, and requires that are false.
 ghost use Rattle.std.specs.Prelude.{◌≡◌, List, ℕ, ◌<◌, ◌≤◌, ◌+◌};
 ghost use Rattle.rl_spec.specs.Image.{Image, text_of};
-ghost use Rattle.rl_spec.specs.Values.{compareValues};
-ghost use Rattle.rl_spec.specs.Folded.{const_of, foldedOf, op_of};
+ghost use Rattle.rl_spec.specs.Values.{compare_values};
+ghost use Rattle.rl_spec.specs.Folded.{const_of, folded_of, op_of};
 ghost use Rattle.rl_spec.specs.Fold.{Binding};
-ghost use Rattle.rl_spec.specs.Found.{imageFound};
-ghost use Rattle.rl_spec.specs.Contracts.{operandOf};
-ghost use Rattle.rl_spec.specs.Prove.{isNo, isFalse, refineBound, refutes};
+ghost use Rattle.rl_spec.specs.Found.{image_found};
+ghost use Rattle.rl_spec.specs.FnContracts.{operand_of};
+ghost use Rattle.rl_spec.specs.Prove.{is_no, is_false, refine_bound, refutes};
 ghost use Rattle.rl_fold.specs.Folding.{Names};
 ghost use Rattle.rl_prover.specs.Violations.{FailsRefinement, FailsClause, ReportsRefinements, ReportsRequires};
 
@@ -22,7 +22,7 @@ use rl_spec::{
 use rl_values::compare_values;
 
 fn refuted_by(image: &[u8], counts: Counts, op: RefineOp, a: ConstVal, b: ConstVal) -> bool
-    ensures { (p : List ℕ) → result ≡ isNo (compareValues (text_of (imageFound image.now p counts)) (op_of op) (const_of a) (const_of b)) }
+    ensures { (p : List ℕ) → result ≡ is_no (compare_values (text_of (image_found image.now p counts)) (op_of op) (const_of a) (const_of b)) }
 {
     let verdict = compare_values(
         op,
@@ -40,7 +40,7 @@ fn refuted_by(image: &[u8], counts: Counts, op: RefineOp, a: ConstVal, b: ConstV
 
 // Whether a value provably fails a comparison; one that is missing fails none.
 fn is_refuted(image: &[u8], counts: Counts, op: RefineOp, a: Folded, b: Folded) -> bool
-    ensures { (p : List ℕ) → result ≡ refutes (text_of (imageFound image.now p counts)) (op_of op) (foldedOf a) (foldedOf b) }
+    ensures { (p : List ℕ) → result ≡ refutes (text_of (image_found image.now p counts)) (op_of op) (folded_of a) (folded_of b) }
 {
     match a {
         Folded::Value(x) => match b {
@@ -52,7 +52,7 @@ fn is_refuted(image: &[u8], counts: Counts, op: RefineOp, a: Folded, b: Folded) 
 }
 
 fn refine_bound(classes: &[u16], names: &[u64], count: u16, operand: RefineOperand) -> Folded
-    ensures { (im : Image) (env : List (Binding ℕ)) → Names im env classes.now names.now count → foldedOf result ≡ refineBound (text_of im) env (operandOf operand) }
+    ensures { (im : Image) (env : List (Binding ℕ)) → Names im env classes.now names.now count → folded_of result ≡ refine_bound (text_of im) env (operand_of operand) }
 {
     match operand {
         RefineOperand::Integer(x) => Folded::Value(ConstVal::Int(x)),
@@ -73,7 +73,7 @@ fn fails_refinement(
     refinement: ParamRefinement,
     arg: u16,
 ) -> bool
-    ensures { FailsRefinement (imageFound image.now starts.now counts) classes.now names.now count memory.old refinement arg result memory.new }
+    ensures { FailsRefinement (image_found image.now starts.now counts) classes.now names.now count memory.old refinement arg result memory.new }
 {
     match refinement {
         ParamRefinement::Unrefined => false,
@@ -91,7 +91,7 @@ fn fails_refinement(
 }
 
 fn is_false(v: Folded) -> bool
-    ensures { result ≡ isFalse (foldedOf v) }
+    ensures { result ≡ is_false (folded_of v) }
 {
     match v {
         Folded::Nothing => false,
@@ -114,7 +114,7 @@ fn fails_clause(
     memory: &mut [u64],
     condition: u16,
 ) -> bool
-    ensures { FailsClause (imageFound image.now starts.now counts) classes.now names.now count memory.old condition result memory.new }
+    ensures { FailsClause (image_found image.now starts.now counts) classes.now names.now count memory.old condition result memory.new }
 {
     is_false(const_eval(
         image, starts, counts, classes, names, count, memory, condition,
@@ -139,7 +139,7 @@ pub fn report_refinements(
     start: usize,
 ) -> usize
     requires { start < 1125899906842624 }
-    ensures reports_refinements { ReportsRefinements (imageFound image.now starts.now counts) classes.now names.now count memory.old params args call span reports.old start memory.new reports.new result }
+    ensures reports_refinements { ReportsRefinements (image_found image.now starts.now counts) classes.now names.now count memory.old params args call span reports.old start memory.new reports.new result }
     ensures upper_bound { result ≤ start + 262140 }
 {
     let most = smaller(params.count, args.count);
@@ -174,7 +174,7 @@ pub fn report_requires(
     start: usize,
 ) -> usize
     requires { start < 1125899907104764 }
-    ensures reports_requires { ReportsRequires (imageFound image.now starts.now counts) classes.now names.now count memory.old clauses call span reports.old start memory.new reports.new result }
+    ensures reports_requires { ReportsRequires (image_found image.now starts.now counts) classes.now names.now count memory.old clauses call span reports.old start memory.new reports.new result }
     ensures upper_bound { result ≤ start + 262140 }
 {
     let most = clauses.count;

@@ -1,7 +1,7 @@
 // Parameters, clauses, functions and calls: records of one width each, at the end of the image.
 ghost use Rattle.std.specs.Prelude.{◌≡◌, ℕ, ◌-◌, List};
-ghost use Rattle.rl_spec.specs.Records.{refineOp, refineOperand, refinementBy, param_at, clauseAt, functionAt, call_at};
-ghost use Rattle.rl_spec.specs.Found.{calls_at, functionsAt, clausesAt, parametersAt, imageFound};
+ghost use Rattle.rl_spec.specs.Records.{refine_op, refine_operand, refinement_by, param_at, clause_at, function_at, call_at};
+ghost use Rattle.rl_spec.specs.Found.{calls_at, functions_at, clauses_at, parameters_at, image_found};
 
 use crate::texts::{interval_at, optional_at};
 use rl_bytes::{byte_at, u16_at, u32_at, u64_at};
@@ -30,19 +30,19 @@ fn calls_at(image: &[u8], counts: Counts) -> usize
 }
 
 pub fn functions_at(image: &[u8], counts: Counts) -> usize
-    ensures { result ≡ functionsAt image.now counts }
+    ensures { result ≡ functions_at image.now counts }
 {
     before(calls_at(image, counts), (counts.functions as usize) * 24)
 }
 
 fn clauses_at(image: &[u8], counts: Counts) -> usize
-    ensures { result ≡ clausesAt image.now counts }
+    ensures { result ≡ clauses_at image.now counts }
 {
     before(functions_at(image, counts), (counts.clauses as usize) * 5)
 }
 
 pub fn parameters_at(image: &[u8], counts: Counts) -> usize
-    ensures { result ≡ parametersAt image.now counts }
+    ensures { result ≡ parameters_at image.now counts }
 {
     before(clauses_at(image, counts), (counts.parameters as usize) * 17)
 }
@@ -50,7 +50,7 @@ pub fn parameters_at(image: &[u8], counts: Counts) -> usize
 // ---- the records
 
 fn refine_op(n: u8) -> RefineOp
-    ensures { result ≡ refineOp n }
+    ensures { result ≡ refine_op n }
 {
     match n {
         1 => RefineOp::Gt,
@@ -63,7 +63,7 @@ fn refine_op(n: u8) -> RefineOp
 }
 
 fn refine_operand(sort: u8, x: u64) -> RefineOperand
-    ensures { result ≡ refineOperand sort x }
+    ensures { result ≡ refine_operand sort x }
 {
     match sort {
         1 => RefineOperand::Integer(signed64(x)),
@@ -74,7 +74,7 @@ fn refine_operand(sort: u8, x: u64) -> RefineOperand
 }
 
 fn refinement(op: u8, sort: u8, x: u64) -> ParamRefinement
-    ensures { result ≡ refinementBy op sort x }
+    ensures { result ≡ refinement_by op sort x }
 {
     if op == 0 {
         return ParamRefinement::Unrefined;
@@ -87,7 +87,7 @@ fn refinement(op: u8, sort: u8, x: u64) -> ParamRefinement
 
 // A parameter: name, type, refinement, operand's sort, operand.
 pub fn param_at(image: &[u8], counts: Counts, i: u32) -> Param
-    ensures { (p : List ℕ) → result ≡ param_at (imageFound image.now p counts) i }
+    ensures { (p : List ℕ) → result ≡ param_at (image_found image.now p counts) i }
 {
     let most = counts.parameters as u32;
     if most <= i {
@@ -108,7 +108,7 @@ pub fn param_at(image: &[u8], counts: Counts, i: u32) -> Param
 
 // A clause: condition, message or none.
 pub fn clause_at(image: &[u8], counts: Counts, i: u32) -> Clause
-    ensures { (p : List ℕ) → result ≡ clauseAt (imageFound image.now p counts) i }
+    ensures { (p : List ℕ) → result ≡ clause_at (image_found image.now p counts) i }
 {
     let most = counts.clauses as u32;
     if most <= i {
@@ -127,7 +127,7 @@ pub fn clause_at(image: &[u8], counts: Counts, i: u32) -> Clause
 
 // A function: name, span, parameters, result flag, body, requires, ensures.
 pub fn function_at(image: &[u8], counts: Counts, i: u16) -> Function
-    ensures { (p : List ℕ) → result ≡ functionAt (imageFound image.now p counts) i }
+    ensures { (p : List ℕ) → result ≡ function_at (image_found image.now p counts) i }
 {
     if counts.functions <= i {
         let none = Interval { first: 0, count: 0 };
@@ -159,7 +159,7 @@ pub fn function_at(image: &[u8], counts: Counts, i: u16) -> Function
 
 // A call: callee, span, arguments.
 pub fn call_at(image: &[u8], counts: Counts, i: u16) -> Call
-    ensures { (p : List ℕ) → result ≡ call_at (imageFound image.now p counts) i }
+    ensures { (p : List ℕ) → result ≡ call_at (image_found image.now p counts) i }
 {
     if counts.calls <= i {
         let args = Interval { first: 0, count: 0 };

@@ -1,9 +1,9 @@
 // The forms of expressions.
 ghost use Rattle.std.specs.Prelude.{◌≡◌, ℕ, List, slice_index};
-ghost use Rattle.rl_spec.specs.Values.{sameText};
+ghost use Rattle.rl_spec.specs.Values.{same_text};
 ghost use Rattle.rl_spec.specs.Image.{pair, entry_of, text_of};
-ghost use Rattle.rl_spec.specs.Tree.{isResPath, callForm, formBy, form_of};
-ghost use Rattle.rl_spec.specs.Found.{imageFound, recordAs};
+ghost use Rattle.rl_spec.specs.Tree.{is_res_path, call_form, form_by, form_of};
+ghost use Rattle.rl_spec.specs.Found.{image_found, record_as};
 
 use crate::texts::{entry_at, interval_at, text_at};
 use rl_bytes::{byte_at, u16_at, u32_at, u64_at, word_at};
@@ -13,14 +13,14 @@ use rl_words::{float32, float64, signed8, signed16, signed32, signed64, unsigned
 
 // Whether the k-th list entry names a text of these bytes.
 fn is_entry(image: &[u8], counts: Counts, k: u32, name: &[u8]) -> bool
-    ensures { (p : List ℕ) → result ≡ sameText (text_of (imageFound image.now p counts) (entry_of (imageFound image.now p counts) k)) name.now }
+    ensures { (p : List ℕ) → result ≡ same_text (text_of (image_found image.now p counts) (entry_of (image_found image.now p counts) k)) name.now }
 {
     same_text(text_at(image, counts, entry_at(image, counts, k)), name)
 }
 
 // Whether a list of texts is the path std::res::NAME.
 fn is_res_path(image: &[u8], counts: Counts, path: Interval, name: &[u8]) -> bool
-    ensures { (p : List ℕ) → result ≡ isResPath (imageFound image.now p counts) (pair path.first path.count) name.now }
+    ensures { (p : List ℕ) → result ≡ is_res_path (image_found image.now p counts) (pair path.first path.count) name.now }
 {
     if path.count != 3 {
         return false;
@@ -36,7 +36,7 @@ fn is_res_path(image: &[u8], counts: Counts, path: Interval, name: &[u8]) -> boo
 }
 
 fn call_form(image: &[u8], counts: Counts, path: Interval, args: Interval) -> Form
-    ensures { (p : List ℕ) → result ≡ callForm (imageFound image.now p counts) (pair path.first path.count) (pair args.first args.count) }
+    ensures { (p : List ℕ) → result ≡ call_form (image_found image.now p counts) (pair path.first path.count) (pair args.first args.count) }
 {
     if args.count != 1 {
         return Form::Other;
@@ -59,7 +59,7 @@ fn literal(v: ConstVal) -> Form
 
 // The form of the record at a place. Its fields stand behind the kind and the span.
 fn form_in(image: &[u8], counts: Counts, start: u16) -> Form
-    ensures { (p : List ℕ) → result ≡ formBy (imageFound image.now p counts) (recordAs image.now (slice_index image.now start) start) }
+    ensures { (p : List ℕ) → result ≡ form_by (image_found image.now p counts) (record_as image.now (slice_index image.now start) start) }
 {
     let at = (start as usize) + 1 + 4;
     match byte_at(image, start as usize) {
@@ -105,7 +105,7 @@ fn form_in(image: &[u8], counts: Counts, start: u16) -> Form
 
 // The form of the n-th expression.
 pub fn form_at(image: &[u8], starts: &[u16], counts: Counts, n: u16) -> Form
-    ensures { result ≡ form_of (imageFound image.now starts.now counts) n }
+    ensures { result ≡ form_of (image_found image.now starts.now counts) n }
 {
     if counts.expressions <= n {
         return Form::Other;

@@ -1,7 +1,7 @@
 // The forms of statements.
 ghost use Rattle.std.specs.Prelude.{◌≡◌, slice_index};
-ghost use Rattle.rl_spec.specs.Statement.{statementBy, statementOf};
-ghost use Rattle.rl_spec.specs.Found.{imageFound, recordAs};
+ghost use Rattle.rl_spec.specs.Statement.{statement_by, statement_of};
+ghost use Rattle.rl_spec.specs.Found.{image_found, record_as};
 
 use crate::texts::{interval_at, optional_at};
 use rl_bytes::{byte_at, u16_at, word_at};
@@ -9,7 +9,7 @@ use rl_spec::{Counts, StatementForm};
 
 // The form of the record at a place. Its fields stand behind the kind and the span.
 fn statement_in(image: &[u8], start: u16) -> StatementForm
-    ensures { result ≡ statementBy (recordAs image.now (slice_index image.now start) start) }
+    ensures { result ≡ statement_by (record_as image.now (slice_index image.now start) start) }
 {
     let at = (start as usize) + 1 + 4;
     match byte_at(image, start as usize) {
@@ -41,7 +41,7 @@ fn statement_in(image: &[u8], start: u16) -> StatementForm
 
 // The form of the n-th statement.
 pub fn statement_at(image: &[u8], starts: &[u16], counts: Counts, n: u16) -> StatementForm
-    ensures { result ≡ statementOf (imageFound image.now starts.now counts) n }
+    ensures { result ≡ statement_of (image_found image.now starts.now counts) n }
 {
     if counts.statements <= n {
         return StatementForm::Other;

@@ -1,17 +1,17 @@
 // Texts and list entries. They do not depend on where expressions and statements start.
 ghost use Rattle.std.specs.Prelude.{◌≡◌, ℕ, ◌+◌, List};
-ghost use Rattle.rl_spec.specs.Bytes.{u16At};
+ghost use Rattle.rl_spec.specs.Bytes.{u16_at};
 ghost use Rattle.rl_spec.specs.Image.{num, pair, entry_of, text_of};
 ghost use Rattle.rl_spec.specs.Ranges.{interval, optional};
-ghost use Rattle.rl_spec.specs.Found.{imageFound};
-ghost use Rattle.rl_spec.specs.Texts.{textPart};
+ghost use Rattle.rl_spec.specs.Found.{image_found};
+ghost use Rattle.rl_spec.specs.Texts.{text_part};
 
 use rl_bytes::{part, second_u16, u16_at};
 use rl_spec::{Counts, Interval, Optional, TextPart};
 
 // The k-th list entry.
 pub fn entry_at(image: &[u8], counts: Counts, k: u32) -> u16
-    ensures { (p : List ℕ) → result ≡ entry_of (imageFound image.now p counts) k }
+    ensures { (p : List ℕ) → result ≡ entry_of (image_found image.now p counts) k }
 {
     let most = counts.lists as u32;
     if most <= k {
@@ -23,7 +23,7 @@ pub fn entry_at(image: &[u8], counts: Counts, k: u32) -> u16
 
 // The bytes of a text, as a part of the image.
 pub fn text_at(image: &[u8], counts: Counts, t: u16) -> &[u8]
-    ensures { (p : List ℕ) → result.now ≡ text_of (imageFound image.now p counts) t }
+    ensures { (p : List ℕ) → result.now ≡ text_of (image_found image.now p counts) t }
 {
     let bytes = part(image, 23, counts.bytes as usize);
     if counts.texts <= t {
@@ -37,7 +37,7 @@ pub fn text_at(image: &[u8], counts: Counts, t: u16) -> &[u8]
 
 // Where the bytes of a text are in the image.
 pub fn text_part(image: &[u8], counts: Counts, t: u16) -> TextPart
-    ensures { (p : List ℕ) → result ≡ textPart (imageFound image.now p counts) t }
+    ensures { (p : List ℕ) → result ≡ text_part (image_found image.now p counts) t }
 {
     if counts.texts <= t {
         return TextPart {
@@ -54,7 +54,7 @@ pub fn text_part(image: &[u8], counts: Counts, t: u16) -> TextPart
 
 // The first and the count of a list or a range.
 pub fn interval_at(image: &[u8], at: usize) -> Interval
-    ensures { result ≡ interval (pair (u16At image.now at) (u16At image.now (at + 2))) }
+    ensures { result ≡ interval (pair (u16_at image.now at) (u16_at image.now (at + 2))) }
 {
     Interval {
         first: u16_at(image, at),
@@ -64,7 +64,7 @@ pub fn interval_at(image: &[u8], at: usize) -> Interval
 
 // The index at a place; 65,535 means none.
 pub fn optional_at(image: &[u8], at: usize) -> Optional
-    ensures { result ≡ optional (num (u16At image.now at)) }
+    ensures { result ≡ optional (num (u16_at image.now at)) }
 {
     let n = u16_at(image, at);
     if n == 65535 {

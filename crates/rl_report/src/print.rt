@@ -1,11 +1,11 @@
 // Copying the lines of an image to standard output, in the order of its calls. What the lines are is proved of `rl_lines`; what the
 // operating system writes is not stated. Where it takes no more, nothing more is made.
 ghost use Rattle.std.specs.Prelude.{◌≡◌, length};
-ghost use Rattle.rl_spec.specs.Read.{workOf};
+ghost use Rattle.rl_spec.specs.Read.{work_of};
 ghost use Rattle.rl_spec.specs.Image.{text_of, image_of};
 ghost use Rattle.rl_names.specs.Names.{Classes};
 ghost use Rattle.rl_lines.specs.Opened.{Known};
-ghost use Rattle.rl_lines.specs.Lines.{linesFor, entriesFor};
+ghost use Rattle.rl_lines.specs.Lines.{lines_for, entries_for};
 
 use libc::STDOUT_FILENO;
 use rl_bytes::part;
@@ -22,8 +22,8 @@ fn print_lines(
     out: &mut [u8; 65536],
 ) -> bool
     requires known { Known image.now starts.now counts }
-    requires lines_value { lines ≡ linesFor (image_of image.now) lines.call }
-    requires reports_value { reports.now ≡ entriesFor (image_of image.now) lines.call }
+    requires lines_value { lines ≡ lines_for (image_of image.now) lines.call }
+    requires reports_value { reports.now ≡ entries_for (image_of image.now) lines.call }
 {
     let mut number: u32 = 0;
     while number < lines.count {
@@ -78,7 +78,7 @@ fn print_refused(cause: Cause, place: usize, out: &mut [u8; 65536]) {
 
 // Writes a line for each report of the image's calls, or one for its refusal.
 pub fn print_reports(image: &[u8], work: &mut [u16])
-    ensures { work.new ≡ workOf image.now (length work.old) }
+    ensures { work.new ≡ work_of image.now (length work.old) }
 {
     let mut starts = [0u16; 6144];
     let mut classes = [0u16; 2048];

@@ -1,10 +1,10 @@
 // Reading, the checks, the lowered image.
 ghost use Rattle.std.specs.Prelude.{true, ◌≡◌, List, ℕ, ◌<◌, ◌≤◌, length};
-ghost use Rattle.rl_spec.specs.Fold.{workUnless};
-ghost use Rattle.rl_spec.specs.Found.{imageFound};
-ghost use Rattle.rl_spec.specs.Records.{functionAt};
-ghost use Rattle.rl_spec.specs.Lower.{hasContracts, newBody, start, finished, lowered};
-ghost use Rattle.rl_spec.specs.Lowerer.{lowerOf, lowerAnswer, lowerNumber, lowerOut};
+ghost use Rattle.rl_spec.specs.Fold.{work_unless};
+ghost use Rattle.rl_spec.specs.Found.{image_found};
+ghost use Rattle.rl_spec.specs.Records.{function_at};
+ghost use Rattle.rl_spec.specs.Lower.{has_contracts, new_body, start, finished, lowered};
+ghost use Rattle.rl_spec.specs.Lowerer.{lower_of, lower_answer, lower_number, lower_out};
 ghost use Rattle.rl_assemble.specs.Pieces.{Source};
 ghost use Rattle.rl_resolver.specs.Begun as specs;
 ghost use Rattle.rl_assemble.specs.Written.{Written};
@@ -23,7 +23,7 @@ use rl_text_out::put_text;
 
 // Requires, ensures, or a refined parameter.
 fn has_contracts(image: &[u8], counts: Counts, function: u16) -> bool
-    ensures { (p : List ℕ) → result ≡ hasContracts (imageFound image.now p counts) function }
+    ensures { (p : List ℕ) → result ≡ has_contracts (image_found image.now p counts) function }
 {
     let f = function_at(image, counts, function);
     let required = f.required;
@@ -40,7 +40,7 @@ fn has_contracts(image: &[u8], counts: Counts, function: u16) -> bool
 
 // The context that lowering begins with.
 fn begun(image: &[u8], counts: Counts, function: u16) -> Ctx
-    ensures { (p : List ℕ) → result ≡ specs.begun counts (functionAt (imageFound image.now p counts) function) }
+    ensures { (p : List ℕ) → result ≡ specs.begun counts (function_at (image_found image.now p counts) function) }
 {
     let f = function_at(image, counts, function);
     Ctx {
@@ -67,10 +67,10 @@ fn put_finished(
     function: u16,
     out: &mut [u8],
 ) -> Assembled
-    requires source { Source (imageFound image.now starts.now counts) image.now starts.now counts }
+    requires source { Source (image_found image.now starts.now counts) image.now starts.now counts }
     requires function_lt_functions { function < counts.functions }
     requires in_bounds { 65535 ≤ length out.old }
-    ensures { Written (finished true function (newBody (imageFound image.now starts.now counts) function (start (imageFound image.now starts.now counts) function))) out.old result out.new }
+    ensures { Written (finished true function (new_body (image_found image.now starts.now counts) function (start (image_found image.now starts.now counts) function))) out.old result out.new }
 {
     let mut scratch = [0u8; 186496];
     let mut waiting = [0u16; 4096];
@@ -104,10 +104,10 @@ fn put_lowered(
     function: u16,
     out: &mut [u8],
 ) -> Assembled
-    requires source { Source (imageFound image.now starts.now counts) image.now starts.now counts }
+    requires source { Source (image_found image.now starts.now counts) image.now starts.now counts }
     requires function_lt_functions { function < counts.functions }
     requires in_bounds { 65535 ≤ length out.old }
-    ensures { Written (lowered (imageFound image.now starts.now counts) function) out.old result out.new }
+    ensures { Written (lowered (image_found image.now starts.now counts) function) out.old result out.new }
 {
     if has_contracts(image, counts, function) {
         return put_finished(image, starts, counts, function, out);
@@ -120,9 +120,9 @@ fn put_lowered(
 // there, 12 for an expression over 64 or a statement over 32 anywhere, 13 for an output of under 65,535 bytes, 14 where a limit of the
 // format would be passed.
 pub fn lower(image: &[u8], work: &mut [u16], function: u32, out: &mut [u8]) -> LowerAnswer
-    ensures value { result ≡ lowerAnswer (lowerOf image.now (length work.old) function (length out.old)) }
-    ensures out_after { out.new ≡ lowerOut (length out.old) (lowerOf image.now (length work.old) function (length out.old)) }
-    ensures work_after { work.new ≡ workUnless (lowerNumber (lowerOf image.now (length work.old) function (length out.old))) image.now (length work.old) }
+    ensures value { result ≡ lower_answer (lower_of image.now (length work.old) function (length out.old)) }
+    ensures out_after { out.new ≡ lower_out (length out.old) (lower_of image.now (length work.old) function (length out.old)) }
+    ensures work_after { work.new ≡ work_unless (lower_number (lower_of image.now (length work.old) function (length out.old))) image.now (length work.old) }
 {
     clear_bytes(out);
     let mut starts = [0u16; 6144];

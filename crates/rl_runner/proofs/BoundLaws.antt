@@ -15,30 +15,30 @@ use Rattle.rl_spec.specs.declared.Plain.TheVariants.{Null}
 use Rattle.rl_spec.specs.declared.Value.{Value}
 use Rattle.rl_spec.specs.declared.Value.TheVariants.{Plain as Bare}
 use Rattle.rl_spec.specs.Image.{Image}
-use Rattle.rl_spec.specs.Found.{imageFound}
+use Rattle.rl_spec.specs.Found.{image_found}
 use Rattle.rl_spec.specs.Records.{param_at}
 use Rattle.rl_spec.specs.Ranges.{up_from}
 use Rattle.rl_spec.specs.Run as run
-use Rattle.rl_spec.specs.Reading.{bindAll}
+use Rattle.rl_spec.specs.Reading.{bind_all}
 use Rattle.rl_spec.specs.Runner.{value_of, given, values_of}
 use Rattle.rl_statements.specs.declared.types.Binding.{Binding}
 use Rattle.rl_statements.specs.declared.types.Env.{Env}
-use Rattle.rl_statements.specs.Bindings.{boundOf, boundsIn, Held, bounds}
-use Rattle.rl_statements.proofs.BindingLaws.{bounds-length, bounds-pushed}
-use Rattle.rl_runner.specs.Bound.{paramNames, BindsAll}
+use Rattle.rl_statements.specs.Bindings.{bound_of, bounds_in, Held, bounds}
+use Rattle.rl_statements.proofs.BindingLaws.{bounds_length, bounds_pushed}
+use Rattle.rl_runner.specs.Bound.{param_names, BindsAll}
 
 -- ---- lists
 
-abbrev pub noArgument : Argument
-noArgument = record { value = Bare Null }
+abbrev pub no_argument : Argument
+no_argument = record { value = Bare Null }
 
 -- the next of the values that are given
-next-given : (vs : List Argument) (count i : ℕ) → i < count → count ≤ length vs →
-    drop i (take count vs) ≡ get_or vs i noArgument ∷ drop (suc i) (take count vs)
-next-given [] count i h l = absurd (omega (arith, h, l))
-next-given (v ∷ vs) zero i h l = absurd (omega (arith, h))
-next-given (v ∷ vs) (suc count) zero h l = refl
-next-given (v ∷ vs) (suc count) (suc i) h l = next-given vs count i (omega (arith, h)) (omega (arith, l))
+next_given : (vs : List Argument) (count i : ℕ) → i < count → count ≤ length vs →
+    drop i (take count vs) ≡ get_or vs i no_argument ∷ drop (suc i) (take count vs)
+next_given [] count i h l = absurd (omega (arith, h, l))
+next_given (v ∷ vs) zero i h l = absurd (omega (arith, h))
+next_given (v ∷ vs) (suc count) zero h l = refl
+next_given (v ∷ vs) (suc count) (suc i) h l = next_given vs count i (omega (arith, h)) (omega (arith, l))
 
 module _ (im : Image) where
   abbrev names : ℕ → ℕ → List ℕ
@@ -47,27 +47,27 @@ module _ (im : Image) where
   same_names : (k j m n : ℕ) → k ≡ j → m ≡ n → names k m ≡ names j n
   same_names k j m n e d = ap (λ x. names x m) e ∙ ap (names j) d
 
-  names-suc : (k n : ℕ) → names k (suc n) ≡ (param_at im k).name ∷ names (k + 1) n
+  names_suc : (k n : ℕ) → names k (suc n) ≡ (param_at im k).name ∷ names (k + 1) n
   unfolding up_from
-  names-suc k n = refl
+  names_suc k n = refl
 
-  names-zero : (k : ℕ) → names k 0 ≡ []
+  names_zero : (k : ℕ) → names k 0 ≡ []
   unfolding up_from
-  names-zero k = refl
+  names_zero k = refl
 
-  next-name : (first count i : ℕ) → i < count → names (first + i) (count - i) ≡ (param_at im (first + i)).name ∷ names (first + (i + 1)) (count - (i + 1))
-  next-name first count i h =
+  next_name : (first count i : ℕ) → i < count → names (first + i) (count - i) ≡ (param_at im (first + i)).name ∷ names (first + (i + 1)) (count - (i + 1))
+  next_name first count i h =
       same_names (first + i) (first + i) (count - i) (suc (count - (i + 1))) refl (omega (arith, h))
-      ∙ names-suc (first + i) (count - (i + 1))
+      ∙ names_suc (first + i) (count - (i + 1))
       ∙ ap (λ l. (param_at im (first + i)).name ∷ l) (same_names (first + i + 1) (first + (i + 1)) (count - (i + 1)) (count - (i + 1)) (omega arith) refl)
 
 -- ---- the parameters that are not bound yet
 
-abbrev namesLeft : Image → Interval → ℕ → List ℕ
-namesLeft im params i = names im (params.first + i) (params.count - i)
+abbrev names_left : Image → Interval → ℕ → List ℕ
+names_left im params i = names im (params.first + i) (params.count - i)
 
-abbrev valuesLeft : Arguments → ℕ → List (run.Value ℕ)
-valuesLeft args i = values_of (drop i (given args))
+abbrev values_left : Arguments → ℕ → List (run.Value ℕ)
+values_left args i = values_of (drop i (given args))
 
 -- the first i parameters are bound
 pub record Bound (image : List ℕ) (counts : Counts) (params : Interval) (args : Arguments) (e : Env) (i : ℕ) : Type 0 where
@@ -75,74 +75,74 @@ pub record Bound (image : List ℕ) (counts : Counts) (params : Interval) (args 
   pub held : Held e
   pub within : i ≤ 16
   pub left : args.count ≤ 16 → params.count ≤ args.count → (p : List ℕ) (n : ℕ)
-      → bindAll (namesLeft (imageFound image p counts) params i) (valuesLeft args i) (bounds e) n
-      ≡ bindAll (paramNames (imageFound image p counts) params) (values_of (given args)) [] n
+      → bind_all (names_left (image_found image p counts) params i) (values_left args i) (bounds e) n
+      ≡ bind_all (param_names (image_found image p counts) params) (values_of (given args)) [] n
 
 module _ (image : List ℕ) (counts : Counts) (params : Interval) (args : Arguments) where
-  start : (im : Image) → namesLeft im params 0 ≡ paramNames im params
+  start : (im : Image) → names_left im params 0 ≡ param_names im params
   start im = same_names im (params.first + 0) params.first (params.count - 0) params.count (omega arith) (omega arith)
 
-  pub bound-none : (b : Binding) → Bound image counts params args (record { slots = replicate 128 b; len = 0 }) 0
-  unfolding boundsIn
-  bound-none b =
+  pub bound_none : (b : Binding) → Bound image counts params args (record { slots = replicate 128 b; len = 0 }) 0
+  unfolding bounds_in
+  bound_none b =
       record {
         at = refl;
         held = record { fits = omega arith; slots = length-replicate 128 b };
         within = omega arith;
-        left = λ l h p n. ap (λ xs. bindAll xs (values_of (given args)) [] n) (start (imageFound image p counts));
+        left = λ l h p n. ap (λ xs. bind_all xs (values_of (given args)) [] n) (start (image_found image p counts));
       }
 
   pub bound_all : (e : Env) (i : ℕ) → Bound image counts params args e i → params.count ≤ i
-      → (p : List ℕ) → args.count ≤ 16 → params.count ≤ args.count → BindsAll (imageFound image p counts) params args e
+      → (p : List ℕ) → args.count ≤ 16 → params.count ≤ args.count → BindsAll (image_found image p counts) params args e
   bound_all e i h k p l m n =
       sym (h.left l m p n)
-      ∙ ap (λ xs. bindAll xs (valuesLeft args i) (bounds e) n)
-      (same_names (imageFound image p counts) (params.first + i) (params.first + i) (params.count - i) 0 refl (omega (arith, k))
-      ∙ names-zero (imageFound image p counts) (params.first + i))
+      ∙ ap (λ xs. bind_all xs (values_left args i) (bounds e) n)
+      (same_names (image_found image p counts) (params.first + i) (params.first + i) (params.count - i) 0 refl (omega (arith, k))
+      ∙ names_zero (image_found image p counts) (params.first + i))
 
-  pub bound-most : (e : Env) (i : ℕ) → Bound image counts params args e i → 16 ≤ i
-      → (p : List ℕ) → args.count ≤ 16 → params.count ≤ args.count → BindsAll (imageFound image p counts) params args e
-  bound-most e i h k p l m = bound_all e i h (omega (arith, k, l, m)) p l m
+  pub bound_most : (e : Env) (i : ℕ) → Bound image counts params args e i → 16 ≤ i
+      → (p : List ℕ) → args.count ≤ 16 → params.count ≤ args.count → BindsAll (image_found image p counts) params args e
+  bound_most e i h k p l m = bound_all e i h (omega (arith, k, l, m)) p l m
 
   plus_one : (n : ℕ) → suc n ≡ n + 1
   plus_one n = omega arith
 
   -- one more
-  bind-one : (x : ℕ) (v : run.Value ℕ) (xs : List ℕ) (vs : List (run.Value ℕ)) (e : Env) (n : ℕ) → e.len < 128
-      → bindAll (x ∷ xs) (v ∷ vs) (bounds e) n ≡ bindAll xs vs (run.named x v ∷ bounds e) n
-  bind-one x v xs vs e n h = rw (ap (λ k. ltb k 128) (bounds-length e.slots e.len) ∙ lt-ltb e.len 128 h) refl
+  bind_one : (x : ℕ) (v : run.Value ℕ) (xs : List ℕ) (vs : List (run.Value ℕ)) (e : Env) (n : ℕ) → e.len < 128
+      → bind_all (x ∷ xs) (v ∷ vs) (bounds e) n ≡ bind_all xs vs (run.named x v ∷ bounds e) n
+  bind_one x v xs vs e n h = rw (ap (λ k. ltb k 128) (bounds_length e.slots e.len) ∙ lt-ltb e.len 128 h) refl
 
-  bound-step : (im : Image) (e : Env) (i : ℕ) (x : Param) (b : Binding) → e.len ≡ i → Held e → i < 16 → i < params.count → args.count ≤ 16
+  bound_step : (im : Image) (e : Env) (i : ℕ) (x : Param) (b : Binding) → e.len ≡ i → Held e → i < 16 → i < params.count → args.count ≤ 16
       → params.count ≤ args.count → length args.values ≡ 16 → x ≡ param_at im (params.first + i)
-      → boundOf b ≡ run.named x.name (value_of (get_or args.values i noArgument).value) → (n : ℕ)
-      → bindAll (namesLeft im params i) (valuesLeft args i) (bounds e) n
-      ≡ bindAll (namesLeft im params (i + 1)) (valuesLeft args (i + 1)) (boundsIn (set e.slots i b) (i + 1)) n
-  bound-step im e i x b a d h k l m z y w n =
-      ap (λ xs. bindAll xs (valuesLeft args i) (bounds e) n) (next-name im params.first params.count i k)
-      ∙ ap (λ vs. bindAll (nm ∷ namesLeft im params (i + 1)) vs (bounds e) n)
-      (ap values_of (next-given args.values args.count i (omega (arith, k, m)) (omega (arith, l, z)))
-      ∙ ap (λ j. v ∷ valuesLeft args j) (plus_one i))
-      ∙ bind-one nm v (namesLeft im params (i + 1)) (valuesLeft args (i + 1)) e n (omega (arith, a, h))
-      ∙ ap (λ env. bindAll (namesLeft im params (i + 1)) (valuesLeft args (i + 1)) env n)
-      (ap (λ j. run.named nm v ∷ boundsIn e.slots j) a
-      ∙ ap (λ z. z ∷ boundsIn e.slots i) (sym (w ∙ ap (λ q. run.named q.name v) y))
-      ∙ sym (bounds-pushed e.slots i b (omega (arith, h, d.slots)))
-      ∙ ap (boundsIn (set e.slots i b)) (plus_one i))
+      → bound_of b ≡ run.named x.name (value_of (get_or args.values i no_argument).value) → (n : ℕ)
+      → bind_all (names_left im params i) (values_left args i) (bounds e) n
+      ≡ bind_all (names_left im params (i + 1)) (values_left args (i + 1)) (bounds_in (set e.slots i b) (i + 1)) n
+  bound_step im e i x b a d h k l m z y w n =
+      ap (λ xs. bind_all xs (values_left args i) (bounds e) n) (next_name im params.first params.count i k)
+      ∙ ap (λ vs. bind_all (nm ∷ names_left im params (i + 1)) vs (bounds e) n)
+      (ap values_of (next_given args.values args.count i (omega (arith, k, m)) (omega (arith, l, z)))
+      ∙ ap (λ j. v ∷ values_left args j) (plus_one i))
+      ∙ bind_one nm v (names_left im params (i + 1)) (values_left args (i + 1)) e n (omega (arith, a, h))
+      ∙ ap (λ env. bind_all (names_left im params (i + 1)) (values_left args (i + 1)) env n)
+      (ap (λ j. run.named nm v ∷ bounds_in e.slots j) a
+      ∙ ap (λ z. z ∷ bounds_in e.slots i) (sym (w ∙ ap (λ q. run.named q.name v) y))
+      ∙ sym (bounds_pushed e.slots i b (omega (arith, h, d.slots)))
+      ∙ ap (bounds_in (set e.slots i b)) (plus_one i))
     where
       nm : ℕ
       nm = (param_at im (params.first + i)).name
 
       v : run.Value ℕ
-      v = value_of (get_or args.values i noArgument).value
+      v = value_of (get_or args.values i no_argument).value
 
-  pub bound-one : (e : Env) (i : ℕ) (x : Param) (b : Binding) → Bound image counts params args e i → i < 16 → i < params.count
-      → length args.values ≡ 16 → ((p : List ℕ) → x ≡ param_at (imageFound image p counts) (params.first + i))
-      → boundOf b ≡ run.named x.name (value_of (get_or args.values i noArgument).value)
+  pub bound_one : (e : Env) (i : ℕ) (x : Param) (b : Binding) → Bound image counts params args e i → i < 16 → i < params.count
+      → length args.values ≡ 16 → ((p : List ℕ) → x ≡ param_at (image_found image p counts) (params.first + i))
+      → bound_of b ≡ run.named x.name (value_of (get_or args.values i no_argument).value)
       → Bound image counts params args (record { slots = set e.slots i b; len = i + 1 }) (i + 1)
-  bound-one e i x b h k c z y w =
+  bound_one e i x b h k c z y w =
       record {
         at = refl;
         held = record { fits = omega (arith, k); slots = length-set e.slots i b ∙ h.held.slots };
         within = omega (arith, k);
-        left = λ l m p n. sym (bound-step (imageFound image p counts) e i x b h.at h.held k c l m z (y p) w n) ∙ h.left l m p n;
+        left = λ l m p n. sym (bound_step (image_found image p counts) e i x b h.at h.held k c l m z (y p) w n) ∙ h.left l m p n;
       }

@@ -21,32 +21,32 @@ use Rattle.rl_spec.specs.declared.Function.{Function}
 use Rattle.rl_spec.specs.declared.RunAnswer.TheVariants.{Ran as Answered}
 use Rattle.rl_spec.specs.declared.Value.{Value}
 use Rattle.rl_spec.specs.declared.Value.TheVariants.{Plain as Bare, Ok, Err}
-use Rattle.rl_spec.specs.Bytes.{u16At}
+use Rattle.rl_spec.specs.Bytes.{u16_at}
 use Rattle.rl_spec.specs.Image.{Image, entry_of, text_of}
-use Rattle.rl_spec.specs.Found.{imageFound}
-use Rattle.rl_spec.specs.Folded.{const_of, asConst}
-use Rattle.rl_spec.specs.Records.{functionAt}
+use Rattle.rl_spec.specs.Found.{image_found}
+use Rattle.rl_spec.specs.Folded.{const_of, as_const}
+use Rattle.rl_spec.specs.Records.{function_at}
 use Rattle.rl_spec.specs.Ranges.{up_from}
 use Rattle.rl_spec.specs.Tree.{Expr}
-use Rattle.rl_spec.specs.Statement.{Stmt, declaration, expression, return, returnAlone, conditional, while, loop, break, continue, otherStatement, Body, nil, ◌▸◌, Item, aStatement, bodyFrom, itemTree, bodyTree}
+use Rattle.rl_spec.specs.Statement.{Stmt, declaration, expression, return, return_alone, conditional, while, loop, break, continue, other_statement, Body, nil, ◌▸◌, Item, a_statement, body_from, item_tree, body_tree}
 use Rattle.rl_spec.specs.Run as run
 use Rattle.rl_spec.specs.Run.{Env, Result, got, ended, and_then, leaving, eval}
 use Rattle.rl_spec.specs.Reading as reading
-use Rattle.rl_spec.specs.Reading.{plainly, stmt, body, top, followed, followedTop, bindAll, runFunction}
-use Rattle.rl_spec.specs.Functions.{plainFunction}
-use Rattle.rl_spec.specs.Runner.{plain_of, value_of, asPlain, asValue, asOutcome, given, values_of, ranOf, ranIn}
-use Rattle.rl_laws.specs.Tests.{by-ltb}
-use Rattle.rl_laws.specs.Found.{entry_found, entry-missing}
-use Rattle.rl_laws.specs.Descend.{under-earlier}
+use Rattle.rl_spec.specs.Reading.{plainly, stmt, body, top, followed, followed_top, bind_all, run_function}
+use Rattle.rl_spec.specs.Functions.{plain_function}
+use Rattle.rl_spec.specs.Runner.{plain_of, value_of, as_plain, as_value, as_outcome, given, values_of, ran_of, ran_in}
+use Rattle.rl_laws.specs.Tests.{by_ltb}
+use Rattle.rl_laws.specs.Found.{entry_found, entry_missing}
+use Rattle.rl_laws.specs.Descend.{under_earlier}
 use Rattle.rl_machine.specs.declared.types.Flow.{Flow}
 use Rattle.rl_machine.specs.declared.types.Flow.TheVariants.{Onward, Breaks, Continues, Skipped, Over}
-use Rattle.rl_machine.specs.Machine.{outcomeOf, result_of, flows, itemUnder, asReturn, bodyRun}
+use Rattle.rl_machine.specs.Machine.{outcome_of, result_of, flows, item_under, as_return, body_run}
 use Rattle.rl_statements.specs.declared.types.Env.{Env as Held}
 use Rattle.rl_statements.specs.declared.types.Ran.{Ran}
 use Rattle.rl_statements.specs.Bindings.{bounds}
-use Rattle.rl_statements.specs.Lists.{lastReturned, bodyLeft, listRun, Runs}
-use Rattle.rl_runner.specs.Bound.{paramNames, BindsAll}
-use Rattle.rl_runner.specs.Ends.{outcomeAfter}
+use Rattle.rl_statements.specs.Lists.{last_returned, body_left, list_run, Runs}
+use Rattle.rl_runner.specs.Bound.{param_names, BindsAll}
+use Rattle.rl_runner.specs.Ends.{outcome_after}
 
 -- the outcome and the steps used
 abbrev finish : ℕ → Result ℕ (run.Value ℕ) → run.Outcome ℕ × ℕ
@@ -54,161 +54,161 @@ finish budget r = run.used budget (run.ending r)
 
 -- ---- the declared types and the definitions' say the same
 
-same_const : (v : ConstVal) → asConst (const_of v) ≡ v
+same_const : (v : ConstVal) → as_const (const_of v) ≡ v
 same_const (Int x) = refl
 same_const (Float x) = refl
 same_const (Str t) = refl
 same_const (Truth b) = refl
 
-same-plain : (p : Plain) → asPlain (plain_of p) ≡ p
-same-plain Null = refl
-same-plain (Const v) = ap Const (same_const v)
+same_plain : (p : Plain) → as_plain (plain_of p) ≡ p
+same_plain Null = refl
+same_plain (Const v) = ap Const (same_const v)
 
-same-value : (v : Value) → asValue (value_of v) ≡ v
-same-value (Bare p) = ap Bare (same-plain p)
-same-value (Ok p) = ap Ok (same-plain p)
-same-value (Err p) = ap Err (same-plain p)
+same_value : (v : Value) → as_value (value_of v) ≡ v
+same_value (Bare p) = ap Bare (same_plain p)
+same_value (Ok p) = ap Ok (same_plain p)
+same_value (Err p) = ap Err (same_plain p)
 
-same_outcome : (o : Outcome) → asOutcome (outcomeOf o) ≡ o
-same_outcome (Returned v) = ap Returned (same-value v)
-same_outcome (Stopped p) = ap Stopped (same-plain p)
+same_outcome : (o : Outcome) → as_outcome (outcome_of o) ≡ o
+same_outcome (Returned v) = ap Returned (same_value v)
+same_outcome (Stopped p) = ap Stopped (same_plain p)
 same_outcome (Fault k) = refl
 same_outcome Spent = refl
 
 -- ---- how a body's end ends the run
 
 module _ (budget : ℕ) where
-  abbrev byFlow : Flow → run.Outcome ℕ
-  byFlow f = outcomeOf (outcomeAfter f)
+  abbrev by_flow : Flow → run.Outcome ℕ
+  by_flow f = outcome_of (outcome_after f)
 
   abbrev end_of : Result ℕ Flow → run.Outcome ℕ × ℕ
-  end_of (got f env n) = (byFlow f, budget - n)
+  end_of (got f env n) = (by_flow f, budget - n)
   end_of (ended o n) = (o, budget - n)
 
-  end-left : (k : ℕ) (r : Result ℕ Flow) → end_of (leaving k r) ≡ end_of r
-  end-left k (got f env n) = refl
-  end-left k (ended o n) = refl
+  end_left : (k : ℕ) (r : Result ℕ Flow) → end_of (leaving k r) ≡ end_of r
+  end_left k (got f env n) = refl
+  end_left k (ended o n) = refl
 
-  end-result : (f : Flow) (env : Env ℕ) (n : ℕ) → end_of (result_of f env n) ≡ (byFlow f, budget - n)
-  end-result Onward env n = refl
-  end-result Breaks env n = refl
-  end-result Continues env n = refl
-  end-result Skipped env n = refl
-  end-result (Over o) env n = refl
+  end_result : (f : Flow) (env : Env ℕ) (n : ℕ) → end_of (result_of f env n) ≡ (by_flow f, budget - n)
+  end_result Onward env n = refl
+  end_result Breaks env n = refl
+  end_result Continues env n = refl
+  end_result Skipped env n = refl
+  end_result (Over o) env n = refl
 
   module _ (bytes : ℕ → List ℕ) where
     -- a last bare expression gives the value
-    last-value : (r : Result ℕ (run.Value ℕ)) →
+    last_value : (r : Result ℕ (run.Value ℕ)) →
         finish budget r ≡ end_of (flows (and_then (and_then r (λ v. run.halt (run.returned v))) (λ f. followed f (body bytes plainly nil))))
-    last-value (got v env n) = refl
-    last-value (ended o n) = refl
+    last_value (got v env n) = refl
+    last_value (ended o n) = refl
 
-    last-expression : (e : Expr ℕ) (env : Env ℕ) (n : ℕ) →
+    last_expression : (e : Expr ℕ) (env : Env ℕ) (n : ℕ) →
         finish budget (top bytes plainly (expression e ▸ nil) env n) ≡ end_of (flows (body bytes plainly (return e ▸ nil) env n))
     unfolding top body stmt
-    last-expression e env zero = refl
-    last-expression e env (suc n) = last-value (eval bytes e env n)
+    last_expression e env zero = refl
+    last_expression e env (suc n) = last_value (eval bytes e env n)
 
     abbrev nothing : run.Run ℕ (run.Value ℕ)
     nothing = run.give (run.plain run.nothing)
 
-    last-flow : (r : Result ℕ reading.Flow) →
-        finish budget (and_then r (λ f. followedTop f nothing)) ≡ end_of (flows (and_then r (λ f. followed f (body bytes plainly nil))))
+    last_flow : (r : Result ℕ reading.Flow) →
+        finish budget (and_then r (λ f. followed_top f nothing)) ≡ end_of (flows (and_then r (λ f. followed f (body bytes plainly nil))))
     unfolding body
-    last-flow (got reading.onward env n) = refl
-    last-flow (got reading.breaks env n) = refl
-    last-flow (got reading.continues env n) = refl
-    last-flow (ended o n) = refl
+    last_flow (got reading.onward env n) = refl
+    last_flow (got reading.breaks env n) = refl
+    last_flow (got reading.continues env n) = refl
+    last_flow (ended o n) = refl
 
     last_one : (s : Stmt ℕ) (env : Env ℕ) (n : ℕ) →
-        finish budget (top bytes plainly (s ▸ nil) env n) ≡ end_of (flows (body bytes plainly (asReturn s ▸ nil) env n))
+        finish budget (top bytes plainly (s ▸ nil) env n) ≡ end_of (flows (body bytes plainly (as_return s ▸ nil) env n))
     unfolding top body
-    last_one (declaration x e) env n = last-flow (stmt bytes plainly (declaration x e) env n)
-    last_one (expression e) env n = last-expression e env n
-    last_one (return e) env n = last-flow (stmt bytes plainly (return e) env n)
-    last_one returnAlone env n = last-flow (stmt bytes plainly returnAlone env n)
-    last_one (conditional b e) env n = last-flow (stmt bytes plainly (conditional b e) env n)
-    last_one (while e b) env n = last-flow (stmt bytes plainly (while e b) env n)
-    last_one (loop b) env n = last-flow (stmt bytes plainly (loop b) env n)
-    last_one break env n = last-flow (stmt bytes plainly break env n)
-    last_one continue env n = last-flow (stmt bytes plainly continue env n)
-    last_one otherStatement env n = last-flow (stmt bytes plainly otherStatement env n)
+    last_one (declaration x e) env n = last_flow (stmt bytes plainly (declaration x e) env n)
+    last_one (expression e) env n = last_expression e env n
+    last_one (return e) env n = last_flow (stmt bytes plainly (return e) env n)
+    last_one return_alone env n = last_flow (stmt bytes plainly return_alone env n)
+    last_one (conditional b e) env n = last_flow (stmt bytes plainly (conditional b e) env n)
+    last_one (while e b) env n = last_flow (stmt bytes plainly (while e b) env n)
+    last_one (loop b) env n = last_flow (stmt bytes plainly (loop b) env n)
+    last_one break env n = last_flow (stmt bytes plainly break env n)
+    last_one continue env n = last_flow (stmt bytes plainly continue env n)
+    last_one other_statement env n = last_flow (stmt bytes plainly other_statement env n)
 
     -- a statement, and then the rest
-    first-flow : (b c : Body ℕ) → ((env : Env ℕ) (n : ℕ) → finish budget (top bytes plainly b env n) ≡ end_of (flows (body bytes plainly c env n)))
+    first_flow : (b c : Body ℕ) → ((env : Env ℕ) (n : ℕ) → finish budget (top bytes plainly b env n) ≡ end_of (flows (body bytes plainly c env n)))
         → (r : Result ℕ reading.Flow)
-        → finish budget (and_then r (λ f. followedTop f (top bytes plainly b))) ≡ end_of (flows (and_then r (λ f. followed f (body bytes plainly c))))
-    first-flow b c h (got reading.onward env n) = h env n
-    first-flow b c h (got reading.breaks env n) = refl
-    first-flow b c h (got reading.continues env n) = refl
-    first-flow b c h (ended o n) = refl
+        → finish budget (and_then r (λ f. followed_top f (top bytes plainly b))) ≡ end_of (flows (and_then r (λ f. followed f (body bytes plainly c))))
+    first_flow b c h (got reading.onward env n) = h env n
+    first_flow b c h (got reading.breaks env n) = refl
+    first_flow b c h (got reading.continues env n) = refl
+    first_flow b c h (ended o n) = refl
 
-    top-ends : (b : Body ℕ) (env : Env ℕ) (n : ℕ) →
-        finish budget (top bytes plainly b env n) ≡ end_of (flows (body bytes plainly (lastReturned b) env n))
+    top_ends : (b : Body ℕ) (env : Env ℕ) (n : ℕ) →
+        finish budget (top bytes plainly b env n) ≡ end_of (flows (body bytes plainly (last_returned b) env n))
     unfolding top body
-    top-ends nil env n = refl
-    top-ends (s ▸ nil) env n = last_one s env n
-    top-ends (s ▸ (t ▸ b)) env n = first-flow (t ▸ b) (lastReturned (t ▸ b)) (top-ends (t ▸ b)) (stmt bytes plainly s env n)
+    top_ends nil env n = refl
+    top_ends (s ▸ nil) env n = last_one s env n
+    top_ends (s ▸ (t ▸ b)) env n = first_flow (t ▸ b) (last_returned (t ▸ b)) (top_ends (t ▸ b)) (stmt bytes plainly s env n)
 
 -- ---- the list of a body is its tree
 
-small : (s : List ℕ) → ((i : ℕ) → Fits w8 (get_or s i 0)) → (at : ℕ) → u16At s at < 65536
-unfolding u16At
+small : (s : List ℕ) → ((i : ℕ) → Fits w8 (get_or s i 0)) → (at : ℕ) → u16_at s at < 65536
+unfolding u16_at
 small s h at = omega (arith, (h at).fits, (h (at + 1)).fits)
 
-entry-small : (s p : List ℕ) (c : Counts) → ((i : ℕ) → Fits w8 (get_or s i 0)) → (k : ℕ) → entry_of (imageFound s p c) k < 65536
-entry-small s p c h k =
-    by-ltb k c.lists
+entry_small : (s p : List ℕ) (c : Counts) → ((i : ℕ) → Fits w8 (get_or s i 0)) → (k : ℕ) → entry_of (image_found s p c) k < 65536
+entry_small s p c h k =
+    by_ltb k c.lists
     (λ l. subst (λ (x : ℕ). x < 65536) (sym (entry_found s p c k l)) (small s h _))
-    (λ l. subst (λ (x : ℕ). x < 65536) (sym (entry-missing s p c k l)) (omega arith))
+    (λ l. subst (λ (x : ℕ). x < 65536) (sym (entry_missing s p c k l)) (omega arith))
 
 same_map : (f g : ℕ → Item ℕ) → ((k : ℕ) → f k ≡ g k) → (l : List ℕ) → map f l ≡ map g l
 same_map f g h [] = refl
 same_map f g h (k ∷ l) = ap (λ x. x ∷ map f l) (h k) ∙ ap (λ y. g k ∷ y) (same_map f g h l)
 
-whole-body : (im : Image) → ((k : ℕ) → entry_of im k < 65536) → (list : Interval) → bodyLeft im 65536 list 0 ≡ bodyTree im list
-whole-body im h list =
-    ap (λ k. bodyFrom (map under (up_from k (list.count - 0)))) (first-is list.first)
-    ∙ ap (λ n. bodyFrom (map under (up_from list.first n))) (count-is list.count)
-    ∙ ap bodyFrom (same_map under (λ k. itemTree im (entry_of im k)) (λ k. under-earlier (λ _. aStatement otherStatement) (itemTree im) 65536 (entry_of im k) (h k)) (up_from list.first list.count))
+whole_body : (im : Image) → ((k : ℕ) → entry_of im k < 65536) → (list : Interval) → body_left im 65536 list 0 ≡ body_tree im list
+whole_body im h list =
+    ap (λ k. body_from (map under (up_from k (list.count - 0)))) (first_is list.first)
+    ∙ ap (λ n. body_from (map under (up_from list.first n))) (count_is list.count)
+    ∙ ap body_from (same_map under (λ k. item_tree im (entry_of im k)) (λ k. under_earlier (λ _. a_statement other_statement) (item_tree im) 65536 (entry_of im k) (h k)) (up_from list.first list.count))
   where
     under : ℕ → Item ℕ
-    under k = itemUnder im 65536 (entry_of im k)
+    under k = item_under im 65536 (entry_of im k)
 
-    first-is : (n : ℕ) → n + 0 ≡ n
-    first-is n = omega arith
+    first_is : (n : ℕ) → n + 0 ≡ n
+    first_is n = omega arith
 
-    count-is : (n : ℕ) → n - 0 ≡ n
-    count-is n = omega arith
+    count_is : (n : ℕ) → n - 0 ≡ n
+    count_is n = omega arith
 
 -- ---- the function
 
 module _ (s p : List ℕ) (c : Counts) (bytes : (i : ℕ) → Fits w8 (get_or s i 0)) where
   abbrev im : Image
-  im = imageFound s p c
+  im = image_found s p c
 
-  body-ran : (list : Interval) (e : Held) (budget : ℕ) (r : Ran) → Runs (listRun im 65536 true false None list) e budget r
-      → finish budget (top (text_of im) plainly (bodyTree im list) (bounds e) budget)
-      ≡ (outcomeOf (outcomeAfter r.flow), budget - r.left)
-  body-ran list e budget r h =
-      top-ends budget (text_of im) (bodyTree im list) (bounds e) budget
-      ∙ ap (λ b. end_of budget (bodyRun im (lastReturned b) (bounds e) budget)) (sym (whole-body im (entry-small s p c bytes) list))
-      ∙ sym (end-left budget (length (bounds e)) (bodyRun im (lastReturned (bodyLeft im 65536 list 0)) (bounds e) budget))
+  body_ran : (list : Interval) (e : Held) (budget : ℕ) (r : Ran) → Runs (list_run im 65536 true false None list) e budget r
+      → finish budget (top (text_of im) plainly (body_tree im list) (bounds e) budget)
+      ≡ (outcome_of (outcome_after r.flow), budget - r.left)
+  body_ran list e budget r h =
+      top_ends budget (text_of im) (body_tree im list) (bounds e) budget
+      ∙ ap (λ b. end_of budget (body_run im (last_returned b) (bounds e) budget)) (sym (whole_body im (entry_small s p c bytes) list))
+      ∙ sym (end_left budget (length (bounds e)) (body_run im (last_returned (body_left im 65536 list 0)) (bounds e) budget))
       ∙ ap (end_of budget) (sym h.does)
-      ∙ end-result budget r.flow (bounds r.env) r.left
+      ∙ end_result budget r.flow (bounds r.env) r.left
 
-  pub function-ran : (f : ℕ) (x : Function) (args : Arguments) (budget : ℕ) (e : Held) (r : Ran) (o : Outcome)
-      → ((q : List ℕ) → x ≡ functionAt (imageFound s q c) f) → args.count ≤ 16 → args.count ≡ (functionAt im f).params.count
-      → ((q : List ℕ) → args.count ≤ 16 → x.params.count ≤ args.count → BindsAll (imageFound s q c) x.params args e)
-      → Runs (listRun im 65536 true false None x.body) e budget r → o ≡ outcomeAfter r.flow
-      → Answered o (budget - r.left) ≡ ranIn im f (given args) budget
-  unfolding ranIn runFunction plainFunction
-  function-ran f x args budget e r o k l m b h d =
-      ap (λ z. Answered z (budget - r.left)) (d ∙ sym (same_outcome (outcomeAfter r.flow)))
+  pub function_ran : (f : ℕ) (x : Function) (args : Arguments) (budget : ℕ) (e : Held) (r : Ran) (o : Outcome)
+      → ((q : List ℕ) → x ≡ function_at (image_found s q c) f) → args.count ≤ 16 → args.count ≡ (function_at im f).params.count
+      → ((q : List ℕ) → args.count ≤ 16 → x.params.count ≤ args.count → BindsAll (image_found s q c) x.params args e)
+      → Runs (list_run im 65536 true false None x.body) e budget r → o ≡ outcome_after r.flow
+      → Answered o (budget - r.left) ≡ ran_in im f (given args) budget
+  unfolding ran_in run_function plain_function
+  function_ran f x args budget e r o k l m b h d =
+      ap (λ z. Answered z (budget - r.left)) (d ∙ sym (same_outcome (outcome_after r.flow)))
       ∙ sym
-      (ap (λ z. ranOf (finish budget (and_then (bindAll (paramNames im z.params) (values_of (given args)) [] budget) (λ _. top (text_of im) plainly (bodyTree im z.body))))) (sym (k p))
-      ∙ ap (λ z. ranOf (finish budget (and_then z (λ _. top (text_of im) plainly (bodyTree im x.body))))) (b p l (omega (arith, m, ap (λ z. z.params.count) (k p))) budget)
-      ∙ ap ranOf (body-ran x.body e budget r h))
+      (ap (λ z. ran_of (finish budget (and_then (bind_all (param_names im z.params) (values_of (given args)) [] budget) (λ _. top (text_of im) plainly (body_tree im z.body))))) (sym (k p))
+      ∙ ap (λ z. ran_of (finish budget (and_then z (λ _. top (text_of im) plainly (body_tree im x.body))))) (b p l (omega (arith, m, ap (λ z. z.params.count) (k p))) budget)
+      ∙ ap ran_of (body_ran x.body e budget r h))
 
-pub after-onward : (f : Flow) → f ≡ Onward → Returned (Bare Null) ≡ outcomeAfter f
-after-onward f e = sym (ap outcomeAfter e)
+pub after_onward : (f : Flow) → f ≡ Onward → Returned (Bare Null) ≡ outcome_after f
+after_onward f e = sym (ap outcome_after e)

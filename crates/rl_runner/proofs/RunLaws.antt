@@ -19,22 +19,22 @@ use Rattle.rl_spec.specs.declared.Counts.{Counts}
 use Rattle.rl_spec.specs.declared.RunAnswer.{RunAnswer}
 use Rattle.rl_spec.specs.declared.RunAnswer.TheVariants as answer
 use Rattle.rl_spec.specs.declared.Section.TheVariants.{Texts}
-use Rattle.rl_spec.specs.Read.{answer_of, workOf, startsOf}
+use Rattle.rl_spec.specs.Read.{answer_of, work_of, starts_of}
 use Rattle.rl_spec.specs.Image.{Image, image_of}
-use Rattle.rl_spec.specs.Fold.{workUnless}
-use Rattle.rl_spec.specs.Found.{imageFound}
-use Rattle.rl_spec.specs.Records.{functionAt}
-use Rattle.rl_spec.specs.Runner.{isFor, allHave, given, ranIn, run_of, runNumber}
-use Rattle.rl_images.specs.Encoding.Accepted.{accepted-well-formed}
-use Rattle.rl_images.specs.Reading.Found.{found-is-image}
-use Rattle.rl_images.specs.Images.Heights.{found-low}
-use Rattle.rl_images.specs.Images.Limits.{texts-within, all-bytes}
-use Rattle.rl_images.specs.Reading.Refusals.{zeros-unless, refused-work}
-use Rattle.rl_images.specs.Reading.Starts.{sizes-are-counts}
+use Rattle.rl_spec.specs.Fold.{work_unless}
+use Rattle.rl_spec.specs.Found.{image_found}
+use Rattle.rl_spec.specs.Records.{function_at}
+use Rattle.rl_spec.specs.Runner.{is_for, all_have_lem, given, ran_in, run_of, run_number}
+use Rattle.rl_images.specs.Encoding.Accepted.{accepted_well_formed}
+use Rattle.rl_images.specs.Reading.Found.{found_is_image}
+use Rattle.rl_images.specs.Images.Heights.{found_low}
+use Rattle.rl_images.specs.Images.Limits.{texts_within, all_bytes}
+use Rattle.rl_images.specs.Reading.Refusals.{zeros_unless, refused_work}
+use Rattle.rl_images.specs.Reading.Starts.{sizes_are_counts}
 use Rattle.rl_machine.specs.Machine.{Low}
 use Rattle.rl_admission.specs.declared.Admission.{Admission}
 use Rattle.rl_admission.specs.declared.Admission.TheVariants.{Admitted, Refused}
-use Rattle.rl_admission.specs.Running.{runAdmission, runOr}
+use Rattle.rl_admission.specs.Running.{run_admission, run_or}
 
 -- ---- what an admission says
 
@@ -46,27 +46,27 @@ abbrev Checked : Bool → Bool → Bool → Bool → Admission
 Checked b c d e =
     cond b (Refused NoSuchFunction) (cond c (Refused WrongValues) (cond d (Refused NoSuchText) (cond e (Refused BudgetOverLimit) Admitted)))
 
-as-checked : (b c d e : Bool) (r : RunAnswer) →
-    runOr (Checked b c d e) r
+as_checked : (b c d e : Bool) (r : RunAnswer) →
+    run_or (Checked b c d e) r
     ≡ cond b (answer.Refused NoSuchFunction 0) (cond c (answer.Refused WrongValues 0) (cond d (answer.Refused NoSuchText 0) (cond e (answer.Refused BudgetOverLimit 0) r)))
-as-checked true c d e r = refl
-as-checked false true d e r = refl
-as-checked false false true e r = refl
-as-checked false false false true r = refl
-as-checked false false false false r = refl
+as_checked true c d e r = refl
+as_checked false true d e r = refl
+as_checked false false true e r = refl
+as_checked false false false true r = refl
+as_checked false false false false r = refl
 
-first-held : (b c d e : Bool) → Checked b c d e ≡ Admitted → b ≡ false
-first-held true c d e h = absurd (subst IsRefused h tt)
-first-held false c d e h = refl
+first_held : (b c d e : Bool) → Checked b c d e ≡ Admitted → b ≡ false
+first_held true c d e h = absurd (subst IsRefused h tt)
+first_held false c d e h = refl
 
-second-held : (b c d e : Bool) → Checked b c d e ≡ Admitted → c ≡ false
-second-held true c d e h = absurd (subst IsRefused h tt)
-second-held false true d e h = absurd (subst IsRefused h tt)
-second-held false false d e h = refl
+second_held : (b c d e : Bool) → Checked b c d e ≡ Admitted → c ≡ false
+second_held true c d e h = absurd (subst IsRefused h tt)
+second_held false true d e h = absurd (subst IsRefused h tt)
+second_held false false d e h = refl
 
-not-not : (b : Bool) → not b ≡ false → b ≡ true
-not-not true h = refl
-not-not false h = sym h
+not_not : (b : Bool) → not b ≡ false → b ≡ true
+not_not true h = refl
+not_not false h = sym h
 
 abbrev IsFalse : Bool → Type 0
 IsFalse true = ⊥
@@ -76,99 +76,99 @@ both : (b c : Bool) → (b && c) ≡ true → (b ≡ true) × (c ≡ true)
 both true c h = (refl, h)
 both false c h = absurd (subst IsFalse h tt)
 
-module _ (im : Image) (c : Counts) (f : ℕ) (args : Arguments) (budget : ℕ) (h : runAdmission im c f args budget ≡ Admitted) where
+module _ (im : Image) (c : Counts) (f : ℕ) (args : Arguments) (budget : ℕ) (h : run_admission im c f args budget ≡ Admitted) where
   abbrev none : Bool
   none = not (ltb f c.functions)
 
   abbrev few : Bool
-  few = not (isFor args.count (functionAt im f).params.count)
+  few = not (is_for args.count (function_at im f).params.count)
 
   abbrev bare : Bool
-  bare = not (allHave c (given args))
+  bare = not (all_have_lem c (given args))
 
   abbrev over : Bool
   over = ltb 1000000 budget
 
-  pub admitted-function : f < c.functions
-  unfolding runAdmission
-  admitted-function = ltb-true f c.functions (not-not _ (first-held none few bare over h))
+  pub admitted_function : f < c.functions
+  unfolding run_admission
+  admitted_function = ltb-true f c.functions (not_not _ (first_held none few bare over h))
 
-  fitting : isFor args.count (functionAt im f).params.count ≡ true
-  unfolding runAdmission
-  fitting = not-not _ (second-held none few bare over h)
+  fitting : is_for args.count (function_at im f).params.count ≡ true
+  unfolding run_admission
+  fitting = not_not _ (second_held none few bare over h)
 
-  admitted-same : args.count ≡ (functionAt im f).params.count
-  admitted-same = eqb-true args.count (functionAt im f).params.count (both (eqb args.count (functionAt im f).params.count) (not (ltb 16 args.count)) fitting).0
+  admitted_same : args.count ≡ (function_at im f).params.count
+  admitted_same = eqb-true args.count (function_at im f).params.count (both (eqb args.count (function_at im f).params.count) (not (ltb 16 args.count)) fitting).0
 
-  admitted-few : args.count ≤ 16
-  admitted-few = ltb-false 16 args.count (not-true (ltb 16 args.count) (both (eqb args.count (functionAt im f).params.count) (not (ltb 16 args.count)) fitting).1)
+  admitted_few : args.count ≤ 16
+  admitted_few = ltb-false 16 args.count (not_true (ltb 16 args.count) (both (eqb args.count (function_at im f).params.count) (not (ltb 16 args.count)) fitting).1)
     where
-      not-true : (b : Bool) → not b ≡ true → b ≡ false
-      not-true true e = sym e
-      not-true false e = refl
+      not_true : (b : Bool) → not b ≡ true → b ≡ false
+      not_true true e = sym e
+      not_true false e = refl
 
 module _ (s : List ℕ) (k f : ℕ) (args : Arguments) (budget : ℕ) (a : Answer) (e : a ≡ answer_of s k) where
   abbrev Is : RunAnswer → Type 0
   Is r = r ≡ run_of s k f args budget
 
   abbrev Work : List ℕ → Type 0
-  Work w = w ≡ workUnless (runNumber (run_of s k f args budget)) s k
+  Work w = w ≡ work_unless (run_number (run_of s k f args budget)) s k
 
-  work-of : (r : RunAnswer) (w : List ℕ) → Is r → w ≡ workUnless (runNumber r) s k → Work w
-  work-of r w h g = g ∙ ap (λ x. workUnless (runNumber x) s k) h
+  work_of_lem : (r : RunAnswer) (w : List ℕ) → Is r → w ≡ work_unless (run_number r) s k → Work w
+  work_of_lem r w h g = g ∙ ap (λ x. work_unless (run_number x) s k) h
 
   module _ (q : Cause) (n : ℕ) (h : a ≡ read.Refused q n) where
-    pub run-unread : Is (answer.Refused q n)
+    pub run_unread : Is (answer.Refused q n)
     unfolding run_of
-    run-unread = rw (← e, h) refl
+    run_unread = rw (← e, h) refl
 
-    pub run-unread-work : (w : List ℕ) → w ≡ workOf s k → Work w
-    run-unread-work w g = work-of (answer.Refused q n) w run-unread (g ∙ refused-work s k q n (sym e ∙ h) ∙ zeros-unless q s k)
+    pub run_unread_work : (w : List ℕ) → w ≡ work_of s k → Work w
+    run_unread_work w g = work_of_lem (answer.Refused q n) w run_unread (g ∙ refused_work s k q n (sym e ∙ h) ∙ zeros_unless q s k)
 
-  module _ (no : ArenaNo) (c : Counts) (h : a ≡ read.Accepted no c) (p : List ℕ) (z : p ≡ startsOf s k) (x : Admission)
-      (g : (q : List ℕ) → x ≡ runAdmission (imageFound s q c) c f args budget) where
-    same-image : imageFound s p c ≡ image_of s
-    same-image = ap (λ (y : List ℕ). imageFound s y c) z ∙ found-is-image s k no c (sym e ∙ h)
+  module _ (no : ArenaNo) (c : Counts) (h : a ≡ read.Accepted no c) (p : List ℕ) (z : p ≡ starts_of s k) (x : Admission)
+      (g : (q : List ℕ) → x ≡ run_admission (image_found s q c) c f args budget) where
+    same_image : image_found s p c ≡ image_of s
+    same_image = ap (λ (y : List ℕ). image_found s y c) z ∙ found_is_image s k no c (sym e ∙ h)
 
-    own : x ≡ runAdmission (image_of s) c f args budget
-    own = g p ∙ ap (λ (im : Image). runAdmission im c f args budget) same-image
+    own : x ≡ run_admission (image_of s) c f args budget
+    own = g p ∙ ap (λ (im : Image). run_admission im c f args budget) same_image
 
-    by-admission : run_of s k f args budget ≡ runOr x (ranIn (image_of s) f (given args) budget)
-    unfolding run_of runAdmission
-    by-admission =
+    by_admission : run_of s k f args budget ≡ run_or x (ran_in (image_of s) f (given args) budget)
+    unfolding run_of run_admission
+    by_admission =
         rw (← e, h)
-        (sym (as-checked (not (ltb f c.functions)) (not (isFor args.count (functionAt (image_of s) f).params.count)) (not (allHave c (given args))) (ltb 1000000 budget) (ranIn (image_of s) f (given args) budget)))
-        ∙ ap (λ y. runOr y (ranIn (image_of s) f (given args) budget)) (sym own)
+        (sym (as_checked (not (ltb f c.functions)) (not (is_for args.count (function_at (image_of s) f).params.count)) (not (all_have_lem c (given args))) (ltb 1000000 budget) (ran_in (image_of s) f (given args) budget)))
+        ∙ ap (λ y. run_or y (ran_in (image_of s) f (given args) budget)) (sym own)
 
-    pub run-refused : (q : Cause) → x ≡ Refused q → Is (answer.Refused q 0)
-    run-refused q d = sym (by-admission ∙ ap (λ y. runOr y (ranIn (image_of s) f (given args) budget)) d)
+    pub run_refused : (q : Cause) → x ≡ Refused q → Is (answer.Refused q 0)
+    run_refused q d = sym (by_admission ∙ ap (λ y. run_or y (ran_in (image_of s) f (given args) budget)) d)
 
-    pub run-refused-work : (q : Cause) → x ≡ Refused q → (m : ℕ) (w : List ℕ) → m ≡ k → w ≡ replicate m 0 → Work w
-    run-refused-work q d m w n y = work-of (answer.Refused q 0) w (run-refused q d) (y ∙ ap (λ (i : ℕ). replicate i 0) n ∙ zeros-unless q s k)
+    pub run_refused_work : (q : Cause) → x ≡ Refused q → (m : ℕ) (w : List ℕ) → m ≡ k → w ≡ replicate m 0 → Work w
+    run_refused_work q d m w n y = work_of_lem (answer.Refused q 0) w (run_refused q d) (y ∙ ap (λ (i : ℕ). replicate i 0) n ∙ zeros_unless q s k)
 
     module _ (d : x ≡ Admitted) where
-      pub run-admitted : (r : RunAnswer) → r ≡ ranIn (imageFound s p c) f (given args) budget → Is r
-      run-admitted r y =
-          y ∙ ap (λ (im : Image). ranIn im f (given args) budget) same-image
-          ∙ sym (by-admission ∙ ap (λ z. runOr z (ranIn (image_of s) f (given args) budget)) d)
+      pub run_admitted : (r : RunAnswer) → r ≡ ran_in (image_found s p c) f (given args) budget → Is r
+      run_admitted r y =
+          y ∙ ap (λ (im : Image). ran_in im f (given args) budget) same_image
+          ∙ sym (by_admission ∙ ap (λ z. run_or z (ran_in (image_of s) f (given args) budget)) d)
 
-      pub run-admitted-work : (r : RunAnswer) → r ≡ ranIn (imageFound s p c) f (given args) budget → (w : List ℕ) → w ≡ workOf s k → Work w
-      unfolding ranIn
-      run-admitted-work r y w v = work-of r w (run-admitted r y) (v ∙ ap (λ z. workUnless (runNumber z) s k) (sym y))
+      pub run_admitted_work : (r : RunAnswer) → r ≡ ran_in (image_found s p c) f (given args) budget → (w : List ℕ) → w ≡ work_of s k → Work w
+      unfolding ran_in
+      run_admitted_work r y w v = work_of_lem r w (run_admitted r y) (v ∙ ap (λ z. work_unless (run_number z) s k) (sym y))
 
-      pub run-count : args.count ≤ 16
-      run-count = admitted-few (imageFound s p c) c f args budget (sym (g p) ∙ d)
+      pub run_count : args.count ≤ 16
+      run_count = admitted_few (image_found s p c) c f args budget (sym (g p) ∙ d)
 
-      pub run-same : args.count ≡ (functionAt (imageFound s p c) f).params.count
-      run-same = admitted-same (imageFound s p c) c f args budget (sym (g p) ∙ d)
+      pub run_same : args.count ≡ (function_at (image_found s p c) f).params.count
+      run_same = admitted_same (image_found s p c) c f args budget (sym (g p) ∙ d)
 
     module _ (bytes : (i : ℕ) → Fits w8 (get_or s i 0)) where
-      pub run-low : Low (imageFound s p c)
-      run-low i =
-          subst (λ (y : List ℕ). Low (imageFound s y c)) (sym z)
-          (found-low s k no c (all-bytes s (λ j. omega (arith, (bytes j).fits))) (sym e ∙ h)) i
+      pub run_low : Low (image_found s p c)
+      run_low i =
+          subst (λ (y : List ℕ). Low (image_found s y c)) (sym z)
+          (found_low s k no c (all_bytes s (λ j. omega (arith, (bytes j).fits))) (sym e ∙ h)) i
 
-      pub run-texts : c.texts ≤ 2048
-      run-texts =
-          subst (λ (n : ℕ). n ≤ 2048) (sizes-are-counts s k no c (sym e ∙ h) Texts)
-          (texts-within (image_of s) (accepted-well-formed s k no c (all-bytes s (λ j. omega (arith, (bytes j).fits))) (sym e ∙ h)))
+      pub run_texts : c.texts ≤ 2048
+      run_texts =
+          subst (λ (n : ℕ). n ≤ 2048) (sizes_are_counts s k no c (sym e ∙ h) Texts)
+          (texts_within (image_of s) (accepted_well_formed s k no c (all_bytes s (λ j. omega (arith, (bytes j).fits))) (sym e ∙ h)))

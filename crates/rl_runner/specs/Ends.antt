@@ -6,9 +6,9 @@ use Rattle.rl_spec.specs.declared.Value.TheVariants.{Plain as Bare}
 use Rattle.rl_machine.specs.declared.types.Flow.{Flow}
 use Rattle.rl_machine.specs.declared.types.Flow.TheVariants.{Onward, Breaks, Continues, Skipped, Over}
 
-abbrev pub outcomeAfter : Flow → Outcome
-outcomeAfter Onward = Returned (Bare Null)
-outcomeAfter Breaks = Fault 1
-outcomeAfter Continues = Fault 1
-outcomeAfter Skipped = Fault 1
-outcomeAfter (Over o) = o
+abbrev pub outcome_after : Flow → Outcome
+outcome_after Onward = Returned (Bare Null)
+outcome_after Breaks = Fault 1
+outcome_after Continues = Fault 1
+outcome_after Skipped = Fault 1
+outcome_after (Over o) = o

@@ -2,14 +2,14 @@
 ghost use Rattle.std.specs.Prelude.{◌≤◌, List, ℕ};
 ghost use Rattle.rl_statements.specs.Bindings.{Held};
 ghost use Rattle.rl_runner.specs.Bound.{BindsAll};
-ghost use Rattle.rl_spec.specs.Found.{imageFound};
+ghost use Rattle.rl_spec.specs.Found.{image_found};
 
 use rl_records::param_at;
 use rl_spec::{Arguments, Counts, Interval};
 use rl_statements::{Binding, Env, binding};
 
 pub fn bind_all(image: &[u8], counts: Counts, params: Interval, arguments: Arguments) -> Env
-    ensures by_index { (p : List ℕ) → arguments.count ≤ 16 → params.count ≤ arguments.count → BindsAll (imageFound image.now p counts) params arguments result }
+    ensures by_index { (p : List ℕ) → arguments.count ≤ 16 → params.count ≤ arguments.count → BindsAll (image_found image.now p counts) params arguments result }
     ensures held { Held result }
 {
     let none = Binding {

@@ -1,11 +1,11 @@
 // Reading, the checks, the run.
 ghost use Rattle.std.specs.Prelude.{◌≡◌, ◌≤◌, length};
-ghost use Rattle.rl_spec.specs.Fold.{workUnless};
-ghost use Rattle.rl_spec.specs.Found.{imageFound};
-ghost use Rattle.rl_spec.specs.Records.{functionAt};
-ghost use Rattle.rl_spec.specs.Runner.{given, ranIn, run_of, runNumber};
+ghost use Rattle.rl_spec.specs.Fold.{work_unless};
+ghost use Rattle.rl_spec.specs.Found.{image_found};
+ghost use Rattle.rl_spec.specs.Records.{function_at};
+ghost use Rattle.rl_spec.specs.Runner.{given, ran_in, run_of, run_number};
 ghost use Rattle.rl_machine.specs.Machine.{Low};
-ghost use Rattle.rl_runner.specs.Ends.{outcomeAfter};
+ghost use Rattle.rl_runner.specs.Ends.{outcome_after};
 
 use crate::bound::bind_all;
 use rl_admission::{Admission, admit_run};
@@ -19,7 +19,7 @@ use rl_statements::list;
 
 // How a run ends whose body ended so: the end gives Null, a Break or a Continue outside a loop is fault 1.
 fn outcome_after(flow: Flow) -> Outcome
-    ensures { result ≡ outcomeAfter flow }
+    ensures { result ≡ outcome_after flow }
 {
     match flow {
         Flow::Onward => Outcome::Returned(Value::Plain(Plain::Null)),
@@ -39,11 +39,11 @@ fn run_function(
     arguments: Arguments,
     budget: u32,
 ) -> RunAnswer
-    requires low { Low (imageFound image.now starts.now counts) }
+    requires low { Low (image_found image.now starts.now counts) }
     requires texts_bound { counts.texts ≤ 2048 }
     requires count_bound { arguments.count ≤ 16 }
-    requires count_value { arguments.count ≡ (functionAt (imageFound image.now starts.now counts) function).params.count }
-    ensures { result ≡ ranIn (imageFound image.now starts.now counts) function (given arguments) budget }
+    requires count_value { arguments.count ≡ (function_at (image_found image.now starts.now counts) function).params.count }
+    ensures { result ≡ ran_in (image_found image.now starts.now counts) function (given arguments) budget }
 {
     let mut links = [0u64; 2048];
     let mut classes = [0u16; 2048];
@@ -83,7 +83,7 @@ pub fn run(
     budget: u32,
 ) -> RunAnswer
     ensures value { result ≡ run_of image.now (length work.old) function arguments budget }
-    ensures work_after { work.new ≡ workUnless (runNumber (run_of image.now (length work.old) function arguments budget)) image.now (length work.old) }
+    ensures work_after { work.new ≡ work_unless (run_number (run_of image.now (length work.old) function arguments budget)) image.now (length work.old) }
 {
     let mut starts = [0u16; 6144];
     let answer = read_starts(image, work, &mut starts);

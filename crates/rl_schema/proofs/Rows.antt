@@ -12,33 +12,33 @@ use borrow.Author.Tests.{lt-ltb, le-ltb, ne_eqb, eqb-true}
 use Rattle.rl_spec.specs.declared.Counts.{Counts}
 use Rattle.rl_spec.specs.declared.Section.{Section}
 use Rattle.rl_spec.specs.declared.Section.TheVariants.{Calls}
-use Rattle.rl_spec.specs.Bytes.{u16At}
+use Rattle.rl_spec.specs.Bytes.{u16_at}
 use Rattle.rl_spec.specs.Fields.{entry_at}
-use Rattle.rl_spec.specs.Schema.{Row, schema, fieldsIn, fields_of, inSection, lowest, highest, sections}
-use Rattle.rl_laws.specs.Tests.{by-ltb}
-use Rattle.rl_bytes.proofs.Laws.{get_d_past}
-use Rattle.rl_schema.specs.Codes.{codesIn, codes, table}
+use Rattle.rl_spec.specs.Schema.{Row, schema, fields_in_lem, fields_of, in_section, lowest, highest, sections}
+use Rattle.rl_laws.specs.Tests.{by_ltb}
+use Rattle.rl_bytes.proofs.Laws.{get_or_past}
+use Rattle.rl_schema.specs.Codes.{codes_in, codes, table}
 use Rattle.rl_schema.proofs.Table.{at}
 
 -- ---- the codes of a row
 
-codes-fuel : (f n : ℕ) → n < 256 ^ f → codesIn f n ≡ codesIn (suc f) n
-unfolding codesIn
-codes-fuel zero zero h = refl
-codes-fuel zero (suc n) h = absurd (omega (arith, pow-zero 256))
-codes-fuel (suc f) zero h = refl
-codes-fuel (suc f) (suc n) h =
+codes_fuel : (f n : ℕ) → n < 256 ^ f → codes_in f n ≡ codes_in (suc f) n
+unfolding codes_in
+codes_fuel zero zero h = refl
+codes_fuel zero (suc n) h = absurd (omega (arith, pow-zero 256))
+codes_fuel (suc f) zero h = refl
+codes_fuel (suc f) (suc n) h =
     simp (ne_eqb (suc n) 0 (λ e. omega arith))
-    (ap (λ (l : List ℕ). suc n % 256 ∷ l) (codes-fuel f (suc n / 256) (omega (arith, pow-suc 256 f))))
+    (ap (λ (l : List ℕ). suc n % 256 ∷ l) (codes_fuel f (suc n / 256) (omega (arith, pow-suc 256 f))))
 
-pub codes-none : (n : ℕ) → n ≡ 0 → codes n ≡ []
-unfolding codes codesIn
-codes-none n e = rw e refl
+pub codes_none : (n : ℕ) → n ≡ 0 → codes n ≡ []
+unfolding codes codes_in
+codes_none n e = rw e refl
 
-pub codes-more : (n : ℕ) → n < 2 ^ 64 → (n ≡ 0 → ⊥) → codes n ≡ n % 256 ∷ codes (n / 256)
-unfolding codes codesIn
-codes-more n b h =
-    simp (ne_eqb n 0 h) (ap (λ (l : List ℕ). n % 256 ∷ l) (codes-fuel 7 (n / 256) (omega arith)))
+pub codes_more : (n : ℕ) → n < 2 ^ 64 → (n ≡ 0 → ⊥) → codes n ≡ n % 256 ∷ codes (n / 256)
+unfolding codes codes_in
+codes_more n b h =
+    simp (ne_eqb n 0 h) (ap (λ (l : List ℕ). n % 256 ∷ l) (codes_fuel 7 (n / 256) (omega arith)))
 
 -- ---- a test that two lists are equal
 
@@ -48,11 +48,11 @@ same [] (y ∷ ys) = false
 same (x ∷ xs) [] = false
 same (x ∷ xs) (y ∷ ys) = cond (eqb x y) (same xs ys) false
 
-pub same-eq : (xs ys : List ℕ) → T (same xs ys) → xs ≡ ys
-same-eq [] [] t = refl
-same-eq [] (y ∷ ys) t = absurd t
-same-eq (x ∷ xs) [] t = absurd t
-same-eq (x ∷ xs) (y ∷ ys) t = go (eqb x y) refl t (same-eq xs ys)
+pub same_eq : (xs ys : List ℕ) → T (same xs ys) → xs ≡ ys
+same_eq [] [] t = refl
+same_eq [] (y ∷ ys) t = absurd t
+same_eq (x ∷ xs) [] t = absurd t
+same_eq (x ∷ xs) (y ∷ ys) t = go (eqb x y) refl t (same_eq xs ys)
   where
     go : (b : Bool) → eqb x y ≡ b → T (cond b (same xs ys) false) → (T (same xs ys) → xs ≡ ys) → x ∷ xs ≡ y ∷ ys
     go true e u f =
@@ -63,21 +63,21 @@ same-eq (x ∷ xs) (y ∷ ys) t = go (eqb x y) refl t (same-eq xs ys)
 
 -- ---- no kind above the table
 
-abbrev every-row : (Row → Bool) → List Row → Bool
-every-row f [] = true
-every-row f (r ∷ rs) = cond (f r) (every-row f rs) false
+abbrev every_row : (Row → Bool) → List Row → Bool
+every_row f [] = true
+every_row f (r ∷ rs) = cond (f r) (every_row f rs) false
 
-fields-above : (k : ℕ) (rs : List Row) → T (every-row (λ r. ltb r.kind 84) rs) → 84 ≤ k → fieldsIn k rs ≡ []
-unfolding fieldsIn
-fields-above k [] t h = refl
-fields-above k (r ∷ rs) t h =
-    by-ltb r.kind 84
-    (λ p. simp (ne_eqb k r.kind (λ e. omega arith)) (fields-above k rs (rw (lt-ltb r.kind 84 p) at t) h))
+fields_above : (k : ℕ) (rs : List Row) → T (every_row (λ r. ltb r.kind 84) rs) → 84 ≤ k → fields_in_lem k rs ≡ []
+unfolding fields_in_lem
+fields_above k [] t h = refl
+fields_above k (r ∷ rs) t h =
+    by_ltb r.kind 84
+    (λ p. simp (ne_eqb k r.kind (λ e. omega arith)) (fields_above k rs (rw (lt-ltb r.kind 84 p) at t) h))
     (λ p. absurd (rw (le-ltb r.kind 84 p) at t))
 
-row-none : (k : ℕ) → 84 ≤ k → codes 0 ≡ fields_of k
+row_none : (k : ℕ) → 84 ≤ k → codes 0 ≡ fields_of k
 unfolding fields_of schema
-row-none k h = codes-none 0 refl ∙ sym (fields-above k schema tt h)
+row_none k h = codes_none 0 refl ∙ sym (fields_above k schema tt h)
 
 -- ---- THE TABLE AGREES WITH THE SCHEMA: one test of its rows, which antt computes
 
@@ -85,43 +85,43 @@ right : ℕ → ℕ → Bool
 right k x = same (codes x) (fields_of k)
 
 row_below : (k : ℕ) → k < 84 → codes (get_or table k 0) ≡ fields_of k
-unfolding right codes codesIn schema fieldsIn fields_of table
-row_below k h = same-eq (codes (get_or table k 0)) (fields_of k) (at right table tt k h)
+unfolding right codes codes_in schema fields_in_lem fields_of table
+row_below k h = same_eq (codes (get_or table k 0)) (fields_of k) (at right table tt k h)
 
-table-rows : length table ≡ 84
+table_rows : length table ≡ 84
 unfolding table
-table-rows = refl
+table_rows = refl
 
-pub row-codes : (rows : List ℕ) (k r : ℕ) → rows ≡ table → r ≡ get_or rows k 0 → codes r ≡ fields_of k
-row-codes rows k r e f =
+pub row_codes : (rows : List ℕ) (k r : ℕ) → rows ≡ table → r ≡ get_or rows k 0 → codes r ≡ fields_of k
+row_codes rows k r e f =
     ap codes (f ∙ ap (λ (l : List ℕ). get_or l k 0) e)
-    ∙ by-ltb k 84 (λ h. row_below k h) (λ h. ap codes (sym (get_d_past table k (omega (arith, table-rows)))) ∙ row-none k h)
+    ∙ by_ltb k 84 (λ h. row_below k h) (λ h. ap codes (sym (get_or_past table k (omega (arith, table_rows)))) ∙ row_none k h)
 
 -- ---- sections
 
 module _ (o : Section) (k low : ℕ) (e : low ≡ lowest o) where
-  pub section-below : k < low → false ≡ inSection o k
-  unfolding inSection
-  section-below h = rw (← e, lt-ltb k low h) refl
+  pub section_below : k < low → false ≡ in_section o k
+  unfolding in_section
+  section_below h = rw (← e, lt-ltb k low h) refl
 
-  pub section-from : low ≤ k → (high : ℕ) → high ≡ highest o → leb k high ≡ inSection o k
-  unfolding inSection
-  section-from h high f = rw (← e, ← f, le-ltb k low h) refl
+  pub section_from : low ≤ k → (high : ℕ) → high ≡ highest o → leb k high ≡ in_section o k
+  unfolding in_section
+  section_from h high f = rw (← e, ← f, le-ltb k low h) refl
 
-pub section-last : (j : ℕ) → (j ≡ 0 → ⊥) → (j ≡ 1 → ⊥) → (j ≡ 2 → ⊥) → (j ≡ 3 → ⊥) → (j ≡ 4 → ⊥) → (j ≡ 5 → ⊥) → (j ≡ 6 → ⊥) → Calls ≡ get_or sections j Calls
+pub section_last : (j : ℕ) → (j ≡ 0 → ⊥) → (j ≡ 1 → ⊥) → (j ≡ 2 → ⊥) → (j ≡ 3 → ⊥) → (j ≡ 4 → ⊥) → (j ≡ 5 → ⊥) → (j ≡ 6 → ⊥) → Calls ≡ get_or sections j Calls
 unfolding sections
-section-last zero h0 h1 h2 h3 h4 h5 h6 = absurd (h0 refl)
-section-last (suc zero) h0 h1 h2 h3 h4 h5 h6 = absurd (h1 refl)
-section-last (suc (suc zero)) h0 h1 h2 h3 h4 h5 h6 = absurd (h2 refl)
-section-last (suc (suc (suc zero))) h0 h1 h2 h3 h4 h5 h6 = absurd (h3 refl)
-section-last (suc (suc (suc (suc zero)))) h0 h1 h2 h3 h4 h5 h6 = absurd (h4 refl)
-section-last (suc (suc (suc (suc (suc zero))))) h0 h1 h2 h3 h4 h5 h6 = absurd (h5 refl)
-section-last (suc (suc (suc (suc (suc (suc zero)))))) h0 h1 h2 h3 h4 h5 h6 = absurd (h6 refl)
-section-last (suc (suc (suc (suc (suc (suc (suc zero))))))) h0 h1 h2 h3 h4 h5 h6 = refl
-section-last (suc (suc (suc (suc (suc (suc (suc (suc j)))))))) h0 h1 h2 h3 h4 h5 h6 = refl
+section_last zero h0 h1 h2 h3 h4 h5 h6 = absurd (h0 refl)
+section_last (suc zero) h0 h1 h2 h3 h4 h5 h6 = absurd (h1 refl)
+section_last (suc (suc zero)) h0 h1 h2 h3 h4 h5 h6 = absurd (h2 refl)
+section_last (suc (suc (suc zero))) h0 h1 h2 h3 h4 h5 h6 = absurd (h3 refl)
+section_last (suc (suc (suc (suc zero)))) h0 h1 h2 h3 h4 h5 h6 = absurd (h4 refl)
+section_last (suc (suc (suc (suc (suc zero))))) h0 h1 h2 h3 h4 h5 h6 = absurd (h5 refl)
+section_last (suc (suc (suc (suc (suc (suc zero)))))) h0 h1 h2 h3 h4 h5 h6 = absurd (h6 refl)
+section_last (suc (suc (suc (suc (suc (suc (suc zero))))))) h0 h1 h2 h3 h4 h5 h6 = refl
+section_last (suc (suc (suc (suc (suc (suc (suc (suc j)))))))) h0 h1 h2 h3 h4 h5 h6 = refl
 
 -- ---- list entries
 
-pub entry-is : (s : List ℕ) (seen : Counts) (k r : ℕ) → r ≡ u16At s (23 + seen.bytes + seen.texts * 5 + k * 3 + 1) → r ≡ entry_at s seen k
+pub entry_is : (s : List ℕ) (seen : Counts) (k r : ℕ) → r ≡ u16_at s (23 + seen.bytes + seen.texts * 5 + k * 3 + 1) → r ≡ entry_at s seen k
 unfolding entry_at
-entry-is s seen k r e = e
+entry_is s seen k r e = e

@@ -1,12 +1,12 @@
 -- The rows of the table. A row: the bytes of a number, the lowest first, up to the last that is not 0.
 use Rattle.std.specs.Prelude.{ℕ, zero, suc, ◌/◌, ◌%◌, cond, List, [], ◌∷◌, eqb}
 
-unfoldable pub codesIn : ℕ → ℕ → List ℕ
-codesIn zero n = []
-codesIn (suc f) n = cond (eqb n 0) [] (n % 256 ∷ codesIn f (n / 256))
+unfoldable pub codes_in : ℕ → ℕ → List ℕ
+codes_in zero n = []
+codes_in (suc f) n = cond (eqb n 0) [] (n % 256 ∷ codes_in f (n / 256))
 
 unfoldable pub codes : ℕ → List ℕ
-codes n = codesIn 8 n
+codes n = codes_in 8 n
 
 unfoldable pub table : List ℕ
 table =

@@ -1,6 +1,6 @@
 // The schema's table, what its codes stand for, and the sections.
 ghost use Rattle.std.specs.Prelude.{◌≡◌, length, get_or};
-ghost use Rattle.rl_spec.specs.Schema.{sortOf, width_of, lowest, highest, inSection, tallest, sections, count_of};
+ghost use Rattle.rl_spec.specs.Schema.{sort_of, width_of, lowest, highest, in_section, tallest, sections, count_of};
 ghost use Rattle.rl_spec.specs.Fields.{entry_at};
 ghost use Rattle.rl_schema.specs.Codes.{table};
 
@@ -175,7 +175,7 @@ pub fn row_of(rows: &[u64], kind: u8) -> u64
 }
 
 pub fn sort_of(code: u8) -> Sort
-    ensures { result ≡ sortOf code }
+    ensures { result ≡ sort_of code }
 {
     match code {
         1 => Sort::Raw { width: 1 },
@@ -299,7 +299,7 @@ fn highest_in(section: Section) -> u8
 
 // Whether a kind is one of a section's.
 pub fn in_section(section: Section, kind: u8) -> bool
-    ensures { result ≡ inSection section kind }
+    ensures { result ≡ in_section section kind }
 {
     if kind < lowest_in(section) {
         return false;

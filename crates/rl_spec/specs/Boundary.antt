@@ -22,8 +22,8 @@ use Rattle.rl_spec.specs.declared.TextAnswer.TheVariants as text
 use Rattle.rl_spec.specs.declared.Value.TheVariants.{Plain as Bare}
 use Rattle.rl_spec.specs.Read.{number_of}
 use Rattle.rl_spec.specs.Ranges.{up_from}
-use Rattle.rl_spec.specs.Runner.{valueSort, valuePayload, valueOfWords}
-use Rattle.rl_spec.specs.Words.{sortWordOf, payloadWordOf}
+use Rattle.rl_spec.specs.Runner.{value_sort, value_payload, value_of_words}
+use Rattle.rl_spec.specs.Words.{sort_word_of, payload_word_of}
 
 -- ---- answers in one number (`packed` of Read: the reader's)
 
@@ -32,58 +32,58 @@ abbrev pub above : ℕ → ℕ → ℕ
 above number low = number * 2 ^ 32 + low
 
 -- proving: how many reports there are
-abbrev pub provePacked : ProveAnswer → ℕ
-provePacked (prove.Proved n) = n
-provePacked (prove.Refused q n) = above (number_of q) n
+abbrev pub prove_packed : ProveAnswer → ℕ
+prove_packed (prove.Proved n) = n
+prove_packed (prove.Refused q n) = above (number_of q) n
 
 -- lowering: the length of the image written
-abbrev pub lowerPacked : LowerAnswer → ℕ
-lowerPacked (lower.Lowered n) = n
-lowerPacked (lower.Refused q n) = above (number_of q) n
+abbrev pub lower_packed : LowerAnswer → ℕ
+lower_packed (lower.Lowered n) = n
+lower_packed (lower.Refused q n) = above (number_of q) n
 
-abbrev pub foldPacked : FoldAnswer → ℕ
-foldPacked (fold.Found v) = 0
-foldPacked (fold.Refused q n) = above (number_of q) n
+abbrev pub fold_packed : FoldAnswer → ℕ
+fold_packed (fold.Found v) = 0
+fold_packed (fold.Refused q n) = above (number_of q) n
 
-abbrev pub runPacked : RunAnswer → ℕ
-runPacked (run.Ran o n) = 0
-runPacked (run.Refused q n) = above (number_of q) n
+abbrev pub run_packed : RunAnswer → ℕ
+run_packed (run.Ran o n) = 0
+run_packed (run.Refused q n) = above (number_of q) n
 
 -- a text: the place of its first byte in 16 bits, and above them how many bytes it has
-abbrev pub textPacked : TextAnswer → ℕ
-textPacked (text.Found part) = part.start + part.length * 2 ^ 16
-textPacked (text.Refused q n) = above (number_of q) n
+abbrev pub text_packed : TextAnswer → ℕ
+text_packed (text.Found part) = part.start + part.length * 2 ^ 16
+text_packed (text.Refused q n) = above (number_of q) n
 
 -- a message: its length
-abbrev pub messagePacked : MessageAnswer → ℕ
-messagePacked (message.Message n) = n
-messagePacked (message.Refused q n) = above (number_of q) n
+abbrev pub message_packed : MessageAnswer → ℕ
+message_packed (message.Message n) = n
+message_packed (message.Refused q n) = above (number_of q) n
 
 -- pages: how many bytes are written
-abbrev pub pagesPacked : PagesAnswer → ℕ
-pagesPacked (pages.Written n) = n
-pagesPacked (pages.Refused q n) = above (number_of q) n
+abbrev pub pages_packed : PagesAnswer → ℕ
+pages_packed (pages.Written n) = n
+pages_packed (pages.Refused q n) = above (number_of q) n
 
 -- the places of refusals
-abbrev pub provedPlace : ProveAnswer → ℕ
-provedPlace (prove.Proved n) = 0
-provedPlace (prove.Refused q n) = n
+abbrev pub proved_place : ProveAnswer → ℕ
+proved_place (prove.Proved n) = 0
+proved_place (prove.Refused q n) = n
 
-abbrev pub loweredPlace : LowerAnswer → ℕ
-loweredPlace (lower.Lowered n) = 0
-loweredPlace (lower.Refused q n) = n
+abbrev pub lowered_place : LowerAnswer → ℕ
+lowered_place (lower.Lowered n) = 0
+lowered_place (lower.Refused q n) = n
 
-abbrev pub textPlace : TextAnswer → ℕ
-textPlace (text.Found part) = 0
-textPlace (text.Refused q n) = n
+abbrev pub text_place : TextAnswer → ℕ
+text_place (text.Found part) = 0
+text_place (text.Refused q n) = n
 
-abbrev pub messagePlace : MessageAnswer → ℕ
-messagePlace (message.Message n) = 0
-messagePlace (message.Refused q n) = n
+abbrev pub message_place : MessageAnswer → ℕ
+message_place (message.Message n) = 0
+message_place (message.Refused q n) = n
 
-abbrev pub pagesPlace : PagesAnswer → ℕ
-pagesPlace (pages.Written n) = 0
-pagesPlace (pages.Refused q n) = n
+abbrev pub pages_place : PagesAnswer → ℕ
+pages_place (pages.Written n) = 0
+pages_place (pages.Refused q n) = n
 
 -- ---- the two words of a folded value: its sort and its payload
 
@@ -91,7 +91,7 @@ abbrev pub id_of : ℕ → ℕ → Id
 id_of arena node = record { arena = record { 0 = arena }; node = record { 0 = node } }
 
 abbrev pub fold_words : FoldAnswer → List ℕ
-fold_words (fold.Found v) = sortWordOf v ∷ payloadWordOf v ∷ []
+fold_words (fold.Found v) = sort_word_of v ∷ payload_word_of v ∷ []
 fold_words (fold.Refused q n) = 0 ∷ 0 ∷ []
 
 -- ---- the values of a run, two words each
@@ -106,31 +106,31 @@ is_value sort payload =
     cond (nat_lt sort 8) (is_plain sort payload)
     (cond (nat_lt sort 16) (is_plain (sort - 8) payload) (is_plain (sort - 16) payload))
 
-unfoldable pub areValues : List ℕ → Bool
-areValues [] = true
-areValues (sort ∷ []) = false
-areValues (sort ∷ (payload ∷ words)) = is_value sort payload && areValues words
+unfoldable pub are_values : List ℕ → Bool
+are_values [] = true
+are_values (sort ∷ []) = false
+are_values (sort ∷ (payload ∷ words)) = is_value sort payload && are_values words
 
 -- the i-th of the values
-abbrev pub argumentAt : List ℕ → ℕ → Argument
-argumentAt words i = record { value = valueOfWords (slice_index words (i * 2)) (slice_index words (i * 2 + 1)) }
+abbrev pub argument_at : List ℕ → ℕ → Argument
+argument_at words i = record { value = value_of_words (slice_index words (i * 2)) (slice_index words (i * 2 + 1)) }
 
 -- how many they are; 17 where they are more, or the words are no values, so that no function takes them (19)
-unfoldable pub countOfWords : List ℕ → ℕ
-countOfWords words = cond (areValues words) (min (length words / 2) 17) 17
+unfoldable pub count_of_words : List ℕ → ℕ
+count_of_words words = cond (are_values words) (min (length words / 2) 17) 17
 
 -- the first sixteen
-unfoldable pub argumentsOf : List ℕ → Arguments
-argumentsOf words = record { values = map (argumentAt words) (up_from 0 16); count = countOfWords words }
+unfoldable pub arguments_of : List ℕ → Arguments
+arguments_of words = record { values = map (argument_at words) (up_from 0 16); count = count_of_words words }
 
 -- ---- the four words of an outcome: 1 Returned, 2 Stopped, 3 Fault, 4 Spent; the steps; the value's words, or the fault's number
 
-abbrev pub outcomeWords : Outcome → ℕ → List ℕ
-outcomeWords (outcome.Returned v) n = 1 ∷ n ∷ valueSort v ∷ valuePayload v ∷ []
-outcomeWords (outcome.Stopped p) n = 2 ∷ n ∷ valueSort (Bare p) ∷ valuePayload (Bare p) ∷ []
-outcomeWords (outcome.Fault k) n = 3 ∷ n ∷ k ∷ 0 ∷ []
-outcomeWords outcome.Spent n = 4 ∷ n ∷ 0 ∷ 0 ∷ []
+abbrev pub outcome_words : Outcome → ℕ → List ℕ
+outcome_words (outcome.Returned v) n = 1 ∷ n ∷ value_sort v ∷ value_payload v ∷ []
+outcome_words (outcome.Stopped p) n = 2 ∷ n ∷ value_sort (Bare p) ∷ value_payload (Bare p) ∷ []
+outcome_words (outcome.Fault k) n = 3 ∷ n ∷ k ∷ 0 ∷ []
+outcome_words outcome.Spent n = 4 ∷ n ∷ 0 ∷ 0 ∷ []
 
-abbrev pub runWords : RunAnswer → List ℕ
-runWords (run.Ran o n) = outcomeWords o n
-runWords (run.Refused q n) = 0 ∷ 0 ∷ 0 ∷ 0 ∷ []
+abbrev pub run_words : RunAnswer → List ℕ
+run_words (run.Ran o n) = outcome_words o n
+run_words (run.Refused q n) = 0 ∷ 0 ∷ 0 ∷ 0 ∷ []

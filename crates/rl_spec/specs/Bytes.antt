@@ -6,11 +6,11 @@ unfoldable pub num_at : List ℕ → ℕ → ℕ → ℕ
 num_at s at zero = 0
 num_at s at (suc n) = slice_index s at + 256 * num_at s (at + 1) n
 
-unfoldable pub u16At : List ℕ → ℕ → ℕ
-u16At s at = slice_index s at + slice_index s (at + 1) * 256
+unfoldable pub u16_at : List ℕ → ℕ → ℕ
+u16_at s at = slice_index s at + slice_index s (at + 1) * 256
 
 unfoldable pub u32_at : List ℕ → ℕ → ℕ
-u32_at s at = u16At s at + u16At s (at + 2) * 65536
+u32_at s at = u16_at s at + u16_at s (at + 2) * 65536
 
 -- whether n bytes at a place run past the end
 unfoldable pub past : List ℕ → ℕ → ℕ → Bool

@@ -13,8 +13,8 @@ use Rattle.rl_spec.specs.declared.Check.{Check}
 use Rattle.rl_spec.specs.declared.Check.TheVariants.{Holds, Fails}
 use Rattle.rl_spec.specs.declared.Step.{Step}
 use Rattle.rl_spec.specs.declared.Step.TheVariants.{Next, Stop}
-use Rattle.rl_spec.specs.Bytes.{u16At, u32_at, past}
-use Rattle.rl_spec.specs.Schema.{textBytesAt, count_of, inSection, tallest, sortOf, width_of, fields_of}
+use Rattle.rl_spec.specs.Bytes.{u16_at, u32_at, past}
+use Rattle.rl_spec.specs.Schema.{text_bytes_at, count_of, in_section, tallest, sort_of, width_of, fields_of}
 use Rattle.rl_spec.specs.Utf8.{utf8, is_scalar}
 
 -- a check that refuses for one cause unless a test holds
@@ -31,8 +31,8 @@ takes ElseBranch k = cond (k == 69) true (k == 68)
 takes Arm k = k == 76
 
 -- where the list entries start
-abbrev pub listsAt : Counts → ℕ
-listsAt c = textBytesAt + c.bytes + c.texts * 5
+abbrev pub lists_at : Counts → ℕ
+lists_at c = text_bytes_at + c.bytes + c.texts * 5
 
 -- whether n bytes are all 0
 unfoldable pub zeros : List ℕ → ℕ → ℕ → Bool
@@ -50,44 +50,44 @@ within seen Branch = seen.statements
 within seen ElseBranch = seen.statements
 within seen Arm = seen.statements
 
-unfoldable pub kindOfStatement : List ℕ → List ℕ → Counts → ℕ → ℕ
-kindOfStatement s p seen n = slice_index s (slice_index p (seen.expressions + n))
+unfoldable pub kind_of_statement : List ℕ → List ℕ → Counts → ℕ → ℕ
+kind_of_statement s p seen n = slice_index s (slice_index p (seen.expressions + n))
 
 unfoldable pub allowed : List ℕ → List ℕ → Counts → Target → ℕ → Bool
-allowed s p seen t n = cond (nat_lt n (within seen t)) (takes t (kindOfStatement s p seen n)) false
+allowed s p seen t n = cond (nat_lt n (within seen t)) (takes t (kind_of_statement s p seen n)) false
 
 -- the height of a child, which is a record of the own section
-abbrev pub nodeHeight : List ℕ → Target → ℕ → ℕ
-nodeHeight w Text n = 0
-nodeHeight w Expression n = slice_index w n
-nodeHeight w Statement n = 0
-nodeHeight w Branch n = 0
-nodeHeight w ElseBranch n = 0
-nodeHeight w Arm n = 0
+abbrev pub node_height : List ℕ → Target → ℕ → ℕ
+node_height w Text n = 0
+node_height w Expression n = slice_index w n
+node_height w Statement n = 0
+node_height w Branch n = 0
+node_height w ElseBranch n = 0
+node_height w Arm n = 0
 
-abbrev pub statementHeight : List ℕ → ℕ → Target → ℕ → ℕ
-statementHeight w from Text n = 0
-statementHeight w from Expression n = 0
-statementHeight w from Statement n = slice_index w (from + n)
-statementHeight w from Branch n = slice_index w (from + n)
-statementHeight w from ElseBranch n = slice_index w (from + n)
-statementHeight w from Arm n = slice_index w (from + n)
+abbrev pub statement_height : List ℕ → ℕ → Target → ℕ → ℕ
+statement_height w from Text n = 0
+statement_height w from Expression n = 0
+statement_height w from Statement n = slice_index w (from + n)
+statement_height w from Branch n = slice_index w (from + n)
+statement_height w from ElseBranch n = slice_index w (from + n)
+statement_height w from Arm n = slice_index w (from + n)
 
-abbrev pub heightIn : Section → List ℕ → Counts → Target → ℕ → ℕ
-heightIn Texts w seen t n = 0
-heightIn Lists w seen t n = 0
-heightIn Expressions w seen t n = nodeHeight w t n
-heightIn Statements w seen t n = statementHeight w seen.expressions t n
-heightIn Parameters w seen t n = 0
-heightIn Clauses w seen t n = 0
-heightIn Functions w seen t n = 0
-heightIn Calls w seen t n = 0
+abbrev pub height_in : Section → List ℕ → Counts → Target → ℕ → ℕ
+height_in Texts w seen t n = 0
+height_in Lists w seen t n = 0
+height_in Expressions w seen t n = node_height w t n
+height_in Statements w seen t n = statement_height w seen.expressions t n
+height_in Parameters w seen t n = 0
+height_in Clauses w seen t n = 0
+height_in Functions w seen t n = 0
+height_in Calls w seen t n = 0
 
-unfoldable pub childHeight : List ℕ → Counts → Section → Target → ℕ → ℕ
-childHeight w seen own t n = heightIn own w seen t n
+unfoldable pub child_height : List ℕ → Counts → Section → Target → ℕ → ℕ
+child_height w seen own t n = height_in own w seen t n
 
 unfoldable pub entry_at : List ℕ → Counts → ℕ → ℕ
-entry_at s seen k = u16At s (listsAt seen + k * 3 + 1)
+entry_at s seen k = u16_at s (lists_at seen + k * 3 + 1)
 
 -- ---- values
 
@@ -99,15 +99,15 @@ range_of seen first count o tall = unless BadReference (nat_le (first + count) (
 unfoldable pub part_of : List ℕ → Counts → ℕ → ℕ → ℕ → Check
 part_of s seen offset size tall =
     cond (nat_lt seen.bytes (offset + size)) (Fails BadText)
-    (unless BadText (utf8 (take size (drop (textBytesAt + offset) s))) tall)
+    (unless BadText (utf8 (take size (drop (text_bytes_at + offset) s))) tall)
 
-unfoldable pub byteIn : ℕ → ℕ → ℕ → ℕ → Check
-byteIn low high b tall = cond (nat_lt b low) (Fails BadValue) (unless BadValue (nat_le b high) tall)
+unfoldable pub byte_in : ℕ → ℕ → ℕ → ℕ → Check
+byte_in low high b tall = cond (nat_lt b low) (Fails BadValue) (unless BadValue (nat_le b high) tall)
 
 -- the operand's sort: 0 exactly where the refinement is 0
-unfoldable pub operandSortOf : ℕ → ℕ → ℕ → Check
-operandSortOf refinement b tall =
-    cond (refinement == 0) (unless BadValue (b == 0) tall) (byteIn 1 4 b tall)
+unfoldable pub operand_sort_of : ℕ → ℕ → ℕ → Check
+operand_sort_of refinement b tall =
+    cond (refinement == 0) (unless BadValue (b == 0) tall) (byte_in 1 4 b tall)
 
 -- a refusal is at the field's first byte
 abbrev pub checked : Check → ℕ → (ℕ → Step) → Step
@@ -115,64 +115,64 @@ checked (Holds tall) at f = f tall
 checked (Fails c) at f = Stop c at
 
 -- the height is checked after the record, and refused at its kind
-abbrev pub heightStep : Section → ℕ → Step → Step
-heightStep own at (Next a tall) = cond (nat_lt tall (tallest own)) (Next a (tall + 1)) (Stop TooHigh at)
-heightStep own at (Stop c q) = Stop c q
+abbrev pub height_step : Section → ℕ → Step → Step
+height_step own at (Next a tall) = cond (nat_lt tall (tallest own)) (Next a (tall + 1)) (Stop TooHigh at)
+height_step own at (Stop c q) = Stop c q
 
 -- ---- a record of the section `own`
 
 module _ (s w p : List ℕ) (seen : Counts) (own : Section) where
-  unfoldable pub referTo : Target → ℕ → ℕ → Check
-  referTo t n tall = unless BadReference (allowed s p seen t n) (max tall (childHeight w seen own t n))
+  unfoldable pub refer_to : Target → ℕ → ℕ → Check
+  refer_to t n tall = unless BadReference (allowed s p seen t n) (max tall (child_height w seen own t n))
 
-  unfoldable pub referOrNone : Target → ℕ → ℕ → Check
-  referOrNone t n tall = cond (n == 65535) (Holds tall) (referTo t n tall)
+  unfoldable pub refer_or_none : Target → ℕ → ℕ → Check
+  refer_or_none t n tall = cond (n == 65535) (Holds tall) (refer_to t n tall)
 
   -- n list entries from the k-th on, by turns a left and a right
-  unfoldable pub entriesFrom : ℕ → ℕ → Target → Target → ℕ → Check
-  entriesFrom zero k left right tall = Holds tall
-  entriesFrom (suc n) k left right tall =
+  unfoldable pub entries_from : ℕ → ℕ → Target → Target → ℕ → Check
+  entries_from zero k left right tall = Holds tall
+  entries_from (suc n) k left right tall =
       cond (allowed s p seen left (entry_at s seen k))
-      (entriesFrom n (k + 1) right left (max tall (childHeight w seen own left (entry_at s seen k)))) (Fails BadReference)
+      (entries_from n (k + 1) right left (max tall (child_height w seen own left (entry_at s seen k)))) (Fails BadReference)
 
   -- a list: its first entry and its count
   unfoldable pub list_of : ℕ → ℕ → Target → Target → ℕ → ℕ → Check
   list_of first count left right step tall =
       cond (nat_lt seen.lists (first + count)) (Fails BadReference)
-      (cond (count % step == 0) (entriesFrom count first left right tall) (Fails BadReference))
+      (cond (count % step == 0) (entries_from count first left right tall) (Fails BadReference))
 
   -- the operand, by its sort: none, Integer, Str, Bool, Param; the bytes that are left unused are 0
-  unfoldable pub operandOf : ℕ → ℕ → ℕ → Check
-  operandOf b at tall =
+  unfoldable pub operand_of : ℕ → ℕ → ℕ → Check
+  operand_of b at tall =
       cond (b == 0) (unless BadValue (zeros s at 8) tall)
       (cond (b == 1) (Holds tall)
       (cond (b == 3) (unless BadValue (cond (nat_le (slice_index s at) 1) (zeros s (at + 1) 7) false) tall)
-      (cond (zeros s (at + 2) 6) (referTo Text (u16At s at) tall) (Fails BadValue))))
+      (cond (zeros s (at + 2) 6) (refer_to Text (u16_at s at) tall) (Fails BadValue))))
 
   -- a field's value, once its bytes are there. An operand's sort follows its refinement, and an operand its sort.
   unfoldable pub value_of : Sort → ℕ → ℕ → Check
   value_of (Raw n) at tall = Holds tall
-  value_of (Byte low high) at tall = byteIn low high (slice_index s at) tall
+  value_of (Byte low high) at tall = byte_in low high (slice_index s at) tall
   value_of Scalar at tall = unless BadValue (is_scalar (u32_at s at)) tall
-  value_of Part at tall = part_of s seen (u16At s at) (u16At s (at + 2)) tall
-  value_of (One t) at tall = referTo t (u16At s at) tall
-  value_of (Maybe t) at tall = referOrNone t (u16At s at) tall
-  value_of (Many l r n) at tall = list_of (u16At s at) (u16At s (at + 2)) l r n tall
-  value_of (Range o) at tall = range_of seen (u16At s at) (u16At s (at + 2)) o tall
-  value_of OperandSort at tall = operandSortOf (slice_index s (at - 1)) (slice_index s at) tall
-  value_of Operand at tall = operandOf (slice_index s (at - 1)) at tall
+  value_of Part at tall = part_of s seen (u16_at s at) (u16_at s (at + 2)) tall
+  value_of (One t) at tall = refer_to t (u16_at s at) tall
+  value_of (Maybe t) at tall = refer_or_none t (u16_at s at) tall
+  value_of (Many l r n) at tall = list_of (u16_at s at) (u16_at s (at + 2)) l r n tall
+  value_of (Range o) at tall = range_of seen (u16_at s at) (u16_at s (at + 2)) o tall
+  value_of OperandSort at tall = operand_sort_of (slice_index s (at - 1)) (slice_index s at) tall
+  value_of Operand at tall = operand_of (slice_index s (at - 1)) at tall
 
   -- ONE FIELD
   unfoldable pub field_at : Sort → ℕ → ℕ → Check
   field_at o at tall = cond (past s at (width_of o)) (Fails BytesEnd) (value_of o at tall)
 
   -- THE FIELDS, left to right
-  unfoldable pub fieldsFrom : List ℕ → ℕ → ℕ → Step
-  fieldsFrom [] at tall = Next at tall
-  fieldsFrom (o ∷ os) at tall = checked (field_at (sortOf o) at tall) at (λ t. fieldsFrom os (at + width_of (sortOf o)) t)
+  unfoldable pub fields_from : List ℕ → ℕ → ℕ → Step
+  fields_from [] at tall = Next at tall
+  fields_from (o ∷ os) at tall = checked (field_at (sort_of o) at tall) at (λ t. fields_from os (at + width_of (sort_of o)) t)
 
   -- ONE RECORD: its kind, its fields, its height
-  unfoldable pub recordAt : ℕ → Step
-  recordAt at =
+  unfoldable pub record_at : ℕ → Step
+  record_at at =
       cond (past s at 1) (Stop BytesEnd at)
-      (cond (inSection own (slice_index s at)) (heightStep own at (fieldsFrom (fields_of (slice_index s at)) (at + 1) 0)) (Stop WrongKind at))
+      (cond (in_section own (slice_index s at)) (height_step own at (fields_from (fields_of (slice_index s at)) (at + 1) 0)) (Stop WrongKind at))

@@ -7,11 +7,11 @@ use Rattle.rl_spec.specs.declared.Answer.TheVariants as read
 use Rattle.rl_spec.specs.declared.Cause.TheVariants.{OtherArena, NoSuchNode}
 use Rattle.rl_spec.specs.declared.FoldAnswer.{FoldAnswer}
 use Rattle.rl_spec.specs.declared.FoldAnswer.TheVariants.{Found, Refused}
-use Rattle.rl_spec.specs.Read.{number_of, answer_of, workOf}
+use Rattle.rl_spec.specs.Read.{number_of, answer_of, work_of}
 use Rattle.rl_spec.specs.Image.{text_of, image_of}
-use Rattle.rl_spec.specs.Values.{ConstVal, bool, gt, ge, lt, le, eq, ne, plus, minus, star, slash, sameText, compareValues, arithValues, bang, negate}
-use Rattle.rl_spec.specs.Folded.{asFolded}
-use Rattle.rl_spec.specs.Tree.{Expr, null, literal, identifier, unary, binary, grouping, assign, okLiteral, errLiteral, isErr, resultUnwrap, other, exprTree}
+use Rattle.rl_spec.specs.Values.{ConstVal, bool, gt, ge, lt, le, eq, ne, plus, minus, star, slash, same_text, compare_values, arith_values, bang, negate}
+use Rattle.rl_spec.specs.Folded.{as_folded}
+use Rattle.rl_spec.specs.Tree.{Expr, null, literal, identifier, unary, binary, grouping, assign, ok_literal, err_literal, is_err_lem, result_unwrap_lem, other, expr_tree}
 
 -- a verdict as a value
 abbrev pub boolean : {T : Type 0} → Option Bool → Option (ConstVal T)
@@ -21,13 +21,13 @@ boolean (some b) = some (bool b)
 -- ---- operators by their bytes
 
 -- 5 Bang, 2 Minus
-unfoldable pub unaryValue : {T : Type 0} → ℕ → ConstVal T → Option (ConstVal T)
-unaryValue op v = cond (op == 5) (bang v) (cond (op == 2) (negate v) none)
+unfoldable pub unary_value : {T : Type 0} → ℕ → ConstVal T → Option (ConstVal T)
+unary_value op v = cond (op == 5) (bang v) (cond (op == 2) (negate v) none)
 
 -- an operand without a value leaves none
-unfoldable pub unaryFolded : {T : Type 0} → ℕ → Option (ConstVal T) → Option (ConstVal T)
-unaryFolded op none = none
-unaryFolded op (some v) = unaryValue op v
+unfoldable pub unary_folded : {T : Type 0} → ℕ → Option (ConstVal T) → Option (ConstVal T)
+unary_folded op none = none
+unary_folded op (some v) = unary_value op v
 
 -- the names that are bound, the latest first
 pub record Binding (T : Type 0) : Type 0 where
@@ -36,60 +36,60 @@ pub record Binding (T : Type 0) : Type 0 where
 
 module _ {T : Type 0} (bytes : T → List ℕ) where
   -- 6 Compare, 7 BangEqual, 8 Less, 9 LessEqual, 10 Greater, 11 GreaterEqual, 1 Plus, 2 Minus, 3 Star, 4 Slash
-  unfoldable pub binaryValue : ℕ → ConstVal T → ConstVal T → Option (ConstVal T)
-  binaryValue op a b =
-      cond (op == 6) (boolean (compareValues bytes eq a b))
-      (cond (op == 7) (boolean (compareValues bytes ne a b))
-      (cond (op == 8) (boolean (compareValues bytes lt a b))
-      (cond (op == 9) (boolean (compareValues bytes le a b))
-      (cond (op == 10) (boolean (compareValues bytes gt a b))
-      (cond (op == 11) (boolean (compareValues bytes ge a b))
-      (cond (op == 1) (arithValues plus a b)
-      (cond (op == 2) (arithValues minus a b)
-      (cond (op == 3) (arithValues star a b) (cond (op == 4) (arithValues slash a b) none)))))))))
+  unfoldable pub binary_value : ℕ → ConstVal T → ConstVal T → Option (ConstVal T)
+  binary_value op a b =
+      cond (op == 6) (boolean (compare_values bytes eq a b))
+      (cond (op == 7) (boolean (compare_values bytes ne a b))
+      (cond (op == 8) (boolean (compare_values bytes lt a b))
+      (cond (op == 9) (boolean (compare_values bytes le a b))
+      (cond (op == 10) (boolean (compare_values bytes gt a b))
+      (cond (op == 11) (boolean (compare_values bytes ge a b))
+      (cond (op == 1) (arith_values plus a b)
+      (cond (op == 2) (arith_values minus a b)
+      (cond (op == 3) (arith_values star a b) (cond (op == 4) (arith_values slash a b) none)))))))))
 
-  unfoldable pub binaryFolded : ℕ → Option (ConstVal T) → Option (ConstVal T) → Option (ConstVal T)
-  binaryFolded op none b = none
-  binaryFolded op (some x) none = none
-  binaryFolded op (some x) (some y) = binaryValue op x y
+  unfoldable pub binary_folded : ℕ → Option (ConstVal T) → Option (ConstVal T) → Option (ConstVal T)
+  binary_folded op none b = none
+  binary_folded op (some x) none = none
+  binary_folded op (some x) (some y) = binary_value op x y
 
   -- names are compared by their bytes
   unfoldable pub lookup : List (Binding T) → T → Option (ConstVal T)
   lookup [] x = none
-  lookup (b ∷ env) x = cond (sameText (bytes b.name) (bytes x)) (some b.value) (lookup env x)
+  lookup (b ∷ env) x = cond (same_text (bytes b.name) (bytes x)) (some b.value) (lookup env x)
 
-  unfoldable pub constEval : List (Binding T) → Expr T → Option (ConstVal T)
-  constEval env null = none
-  constEval env (literal v) = v
-  constEval env (identifier x) = lookup env x
-  constEval env (unary op e) = unaryFolded op (constEval env e)
-  constEval env (binary l op r) = binaryFolded op (constEval env l) (constEval env r)
-  constEval env (grouping e) = constEval env e
-  constEval env (assign x e) = none
-  constEval env (okLiteral e) = none
-  constEval env (errLiteral e) = none
-  constEval env (isErr e) = none
-  constEval env (resultUnwrap e) = none
-  constEval env other = none
+  unfoldable pub const_eval : List (Binding T) → Expr T → Option (ConstVal T)
+  const_eval env null = none
+  const_eval env (literal v) = v
+  const_eval env (identifier x) = lookup env x
+  const_eval env (unary op e) = unary_folded op (const_eval env e)
+  const_eval env (binary l op r) = binary_folded op (const_eval env l) (const_eval env r)
+  const_eval env (grouping e) = const_eval env e
+  const_eval env (assign x e) = none
+  const_eval env (ok_literal e) = none
+  const_eval env (err_literal e) = none
+  const_eval env (is_err_lem e) = none
+  const_eval env (result_unwrap_lem e) = none
+  const_eval env other = none
 
 -- ---- THE ANSWER: reading first, then 15 another arena, 16 no such node; folding alone knows no names
 
-abbrev pub foldBy : List ℕ → Id → Answer → FoldAnswer
-foldBy s id (read.Accepted a c) =
+abbrev pub fold_by : List ℕ → Id → Answer → FoldAnswer
+fold_by s id (read.Accepted a c) =
     cond (id.arena.0 == a.0)
     (cond (nat_lt id.node.0 c.expressions)
-    (Found (asFolded (constEval (text_of (image_of s)) [] (exprTree (image_of s) id.node.0))))
+    (Found (as_folded (const_eval (text_of (image_of s)) [] (expr_tree (image_of s) id.node.0))))
     (Refused NoSuchNode 0))
     (Refused OtherArena 0)
-foldBy s id (read.Refused q n) = Refused q n
+fold_by s id (read.Refused q n) = Refused q n
 
 unfoldable pub fold_of : List ℕ → ℕ → Id → FoldAnswer
-fold_of s k id = foldBy s id (answer_of s k)
+fold_of s k id = fold_by s id (answer_of s k)
 
-abbrev pub foldNumber : FoldAnswer → ℕ
-foldNumber (Found v) = 0
-foldNumber (Refused q n) = number_of q
+abbrev pub fold_number : FoldAnswer → ℕ
+fold_number (Found v) = 0
+fold_number (Refused q n) = number_of q
 
 -- the work slice: as reading leaves it, and zero where something is refused by a number
-abbrev pub workUnless : ℕ → List ℕ → ℕ → List ℕ
-workUnless number s k = cond (number == 0) (workOf s k) (replicate k 0)
+abbrev pub work_unless : ℕ → List ℕ → ℕ → List ℕ
+work_unless number s k = cond (number == 0) (work_of s k) (replicate k 0)

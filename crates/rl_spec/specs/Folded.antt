@@ -14,18 +14,18 @@ use Rattle.rl_spec.specs.declared.Verdict.{Verdict}
 use Rattle.rl_spec.specs.declared.Verdict.TheVariants.{Yes, No, Unknown}
 
 -- a text as t of its index
-abbrev pub valueBy : {T : Type 0} → (ℕ → T) → ConstVal → defined.ConstVal T
-valueBy t (kind.Int x) = defined.int x
-valueBy t (kind.Float x) = defined.float x
-valueBy t (kind.Str n) = defined.str (t n)
-valueBy t (kind.Bool x) = defined.bool x
+abbrev pub value_by : {T : Type 0} → (ℕ → T) → ConstVal → defined.ConstVal T
+value_by t (kind.Int x) = defined.int x
+value_by t (kind.Float x) = defined.float x
+value_by t (kind.Str n) = defined.str (t n)
+value_by t (kind.Bool x) = defined.bool x
 
 abbrev pub const_of : ConstVal → defined.ConstVal ℕ
-const_of v = valueBy (λ n. n) v
+const_of v = value_by (λ n. n) v
 
 -- a text as its bytes, which are given beside the value
-abbrev pub withText : ConstVal → List ℕ → defined.ConstVal (List ℕ)
-withText v bytes = valueBy (λ n. bytes) v
+abbrev pub with_text : ConstVal → List ℕ → defined.ConstVal (List ℕ)
+with_text v bytes = value_by (λ n. bytes) v
 
 abbrev pub op_of : RefineOp → defined.RefineOp
 op_of Gt = defined.gt
@@ -41,22 +41,22 @@ arith_of Minus = defined.minus
 arith_of Star = defined.star
 arith_of Slash = defined.slash
 
-abbrev pub foldedOf : Folded → Option (defined.ConstVal ℕ)
-foldedOf (Value v) = some (const_of v)
-foldedOf Nothing = none
+abbrev pub folded_of : Folded → Option (defined.ConstVal ℕ)
+folded_of (Value v) = some (const_of v)
+folded_of Nothing = none
 
 -- the same from the definitions' side
-abbrev pub asConst : defined.ConstVal ℕ → ConstVal
-asConst (defined.int x) = kind.Int x
-asConst (defined.float x) = kind.Float x
-asConst (defined.str n) = kind.Str n
-asConst (defined.bool x) = kind.Bool x
+abbrev pub as_const : defined.ConstVal ℕ → ConstVal
+as_const (defined.int x) = kind.Int x
+as_const (defined.float x) = kind.Float x
+as_const (defined.str n) = kind.Str n
+as_const (defined.bool x) = kind.Bool x
 
-abbrev pub asFolded : Option (defined.ConstVal ℕ) → Folded
-asFolded (some v) = Value (asConst v)
-asFolded none = Nothing
+abbrev pub as_folded : Option (defined.ConstVal ℕ) → Folded
+as_folded (some v) = Value (as_const v)
+as_folded none = Nothing
 
-abbrev pub verdictOf : Verdict → Option Bool
-verdictOf Yes = some true
-verdictOf No = some false
-verdictOf Unknown = none
+abbrev pub verdict_of : Verdict → Option Bool
+verdict_of Yes = some true
+verdict_of No = some false
+verdict_of Unknown = none

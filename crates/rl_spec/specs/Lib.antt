@@ -17,7 +17,7 @@ pub mod Fold
 pub mod Words
 -- ---- contracts and reports
 pub mod Records
-pub mod Contracts
+pub mod FnContracts
 pub mod Prove
 -- ---- statements, runs, readings
 pub mod Statement

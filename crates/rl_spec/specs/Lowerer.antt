@@ -19,40 +19,40 @@ pub data Lowering : Type 0 where
 
 -- ---- 12: an expression over 64 or a statement over 32, anywhere
 
-unfoldable pub anyOver : ℕ → List ℕ → Bool
-anyOver most [] = false
-anyOver most (h ∷ hs) = nat_lt most h || anyOver most hs
+unfoldable pub any_over : ℕ → List ℕ → Bool
+any_over most [] = false
+any_over most (h ∷ hs) = nat_lt most h || any_over most hs
 
-unfoldable pub tooTall : Image → Bool
-tooTall im = anyOver 64 (heights im Expressions) || anyOver 32 (heights im Statements)
+unfoldable pub too_tall : Image → Bool
+too_tall im = any_over 64 (heights im Expressions) || any_over 32 (heights im Statements)
 
 -- ---- of an image's bytes, a work slice of k entries, a function and an output slice of so many bytes
 
 -- 14 where a limit would be passed
-abbrev pub orLimit : Option Image → Lowering
-orLimit none = refused LimitPassed 0
-orLimit (some im) = made im
+abbrev pub or_limit : Option Image → Lowering
+or_limit none = refused LimitPassed 0
+or_limit (some im) = made im
 
-abbrev pub lowerBy : List ℕ → ℕ → ℕ → Answer → Lowering
-lowerBy s f room (read.Accepted a c) =
+abbrev pub lower_by : List ℕ → ℕ → ℕ → Answer → Lowering
+lower_by s f room (read.Accepted a c) =
     cond (not (nat_lt f c.functions)) (refused NoSuchFunction 0)
-    (cond (tooTall (image_of s)) (refused HeightOverLimit 0)
-    (cond (nat_lt room 65535) (refused OutputTooShort 0) (orLimit (lowered (image_of s) f))))
-lowerBy s f room (read.Refused q n) = refused q n
+    (cond (too_tall (image_of s)) (refused HeightOverLimit 0)
+    (cond (nat_lt room 65535) (refused OutputTooShort 0) (or_limit (lowered (image_of s) f))))
+lower_by s f room (read.Refused q n) = refused q n
 
-unfoldable pub lowerOf : List ℕ → ℕ → ℕ → ℕ → Lowering
-lowerOf s k f room = lowerBy s f room (answer_of s k)
+unfoldable pub lower_of : List ℕ → ℕ → ℕ → ℕ → Lowering
+lower_of s k f room = lower_by s f room (answer_of s k)
 
 -- ---- THE ANSWER, its number, and the output slice: the image's bytes, then zeros
 
-abbrev pub lowerAnswer : Lowering → LowerAnswer
-lowerAnswer (made im) = Lowered (length (encode im))
-lowerAnswer (refused q n) = Refused q n
+abbrev pub lower_answer : Lowering → LowerAnswer
+lower_answer (made im) = Lowered (length (encode im))
+lower_answer (refused q n) = Refused q n
 
-abbrev pub lowerNumber : Lowering → ℕ
-lowerNumber (made im) = 0
-lowerNumber (refused q n) = number_of q
+abbrev pub lower_number : Lowering → ℕ
+lower_number (made im) = 0
+lower_number (refused q n) = number_of q
 
-abbrev pub lowerOut : ℕ → Lowering → List ℕ
-lowerOut room (made im) = encode im ++ replicate (room - length (encode im)) 0
-lowerOut room (refused q n) = replicate room 0
+abbrev pub lower_out : ℕ → Lowering → List ℕ
+lower_out room (made im) = encode im ++ replicate (room - length (encode im)) 0
+lower_out room (refused q n) = replicate room 0

@@ -13,13 +13,13 @@ unfoldable pub up_from : ℕ → ℕ → List ℕ
 up_from k zero = []
 up_from k (suc n) = k ∷ up_from (k + 1) n
 
-abbrev pub numbersIn : Interval → List ℕ
-numbersIn i = up_from i.first i.count
+abbrev pub numbers_in : Interval → List ℕ
+numbers_in i = up_from i.first i.count
 
 -- in a field 65,535 means none
 abbrev pub optional : Field → Optional
 optional f = cond (first f == 65535) None (Some (first f))
 
-abbrev pub optionalField : Optional → Field
-optionalField None = num 65535
-optionalField (Some n) = num n
+abbrev pub optional_field : Optional → Field
+optional_field None = num 65535
+optional_field (Some n) = num n

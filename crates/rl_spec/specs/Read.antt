@@ -9,9 +9,9 @@ use Rattle.rl_spec.specs.declared.Section.{Section}
 use Rattle.rl_spec.specs.declared.Section.TheVariants.{Texts, Lists, Expressions, Statements, Parameters, Clauses, Functions, Calls}
 use Rattle.rl_spec.specs.declared.Step.{Step}
 use Rattle.rl_spec.specs.declared.Step.TheVariants.{Next, Stop}
-use Rattle.rl_spec.specs.Bytes.{u16At, u32_at, past}
-use Rattle.rl_spec.specs.Schema.{limits, textBytesAt, sections, count_of}
-use Rattle.rl_spec.specs.Fields.{recordAt}
+use Rattle.rl_spec.specs.Bytes.{u16_at, u32_at, past}
+use Rattle.rl_spec.specs.Schema.{limits, text_bytes_at, sections, count_of}
+use Rattle.rl_spec.specs.Fields.{record_at}
 
 -- the number of each cause
 abbrev pub number_of : Cause → ℕ
@@ -45,30 +45,30 @@ after (Stop c q) f g = g c q
 
 -- ---- the header
 
-unfoldable pub countsOf : List ℕ → Counts
-countsOf s =
+unfoldable pub counts_of : List ℕ → Counts
+counts_of s =
     record {
-      bytes = u16At s 5;
-      texts = u16At s 7;
-      lists = u16At s 9;
-      expressions = u16At s 11;
-      statements = u16At s 13;
-      parameters = u16At s 15;
-      clauses = u16At s 17;
-      functions = u16At s 19;
-      calls = u16At s 21;
+      bytes = u16_at s 5;
+      texts = u16_at s 7;
+      lists = u16_at s 9;
+      expressions = u16_at s 11;
+      statements = u16_at s 13;
+      parameters = u16_at s 15;
+      clauses = u16_at s 17;
+      functions = u16_at s 19;
+      calls = u16_at s 21;
     }
 
-unfoldable pub countsFrom : List ℕ → List ℕ → ℕ → Step
-countsFrom s [] at = Next at 0
-countsFrom s (most ∷ ms) at =
+unfoldable pub counts_from : List ℕ → List ℕ → ℕ → Step
+counts_from s [] at = Next at 0
+counts_from s (most ∷ ms) at =
     cond (past s at 2) (Stop BytesEnd at)
-    (cond (nat_lt most (u16At s at)) (Stop CountOverLimit at) (countsFrom s ms (at + 2)))
+    (cond (nat_lt most (u16_at s at)) (Stop CountOverLimit at) (counts_from s ms (at + 2)))
 
-unfoldable pub headerOf : List ℕ → Step
-headerOf s =
+unfoldable pub header_of : List ℕ → Step
+header_of s =
     cond (past s 0 1) (Stop BytesEnd 0)
-    (cond (slice_index s 0 == 1) (cond (past s 1 4) (Stop BytesEnd 1) (countsFrom s limits 5)) (Stop WrongKind 0))
+    (cond (slice_index s 0 == 1) (cond (past s 1 4) (Stop BytesEnd 1) (counts_from s limits 5)) (Stop WrongKind 0))
 
 -- ---- the sections
 
@@ -82,10 +82,10 @@ out_of (Next at tall) w p = good at w p
 out_of (Stop c q) w p = bad c q
 
 -- what the i-th record of a section may refer to; those of the other sections name none of their own
-abbrev pub seenBy : Counts → Section → ℕ → Counts
-seenBy c Texts i = c
-seenBy c Lists i = c
-seenBy c Expressions i =
+abbrev pub seen_by : Counts → Section → ℕ → Counts
+seen_by c Texts i = c
+seen_by c Lists i = c
+seen_by c Expressions i =
     record {
       bytes = c.bytes;
       texts = c.texts;
@@ -97,7 +97,7 @@ seenBy c Expressions i =
       functions = 0;
       calls = 0;
     }
-seenBy c Statements i =
+seen_by c Statements i =
     record {
       bytes = c.bytes;
       texts = c.texts;
@@ -109,10 +109,10 @@ seenBy c Statements i =
       functions = 0;
       calls = 0;
     }
-seenBy c Parameters i = c
-seenBy c Clauses i = c
-seenBy c Functions i = c
-seenBy c Calls i = c
+seen_by c Parameters i = c
+seen_by c Clauses i = c
+seen_by c Functions i = c
+seen_by c Calls i = c
 
 -- a number kept for the i-th record: expressions first, then statements
 abbrev pub keep : Counts → Section → ℕ → ℕ → List ℕ → List ℕ
@@ -126,20 +126,20 @@ keep c Functions i x w = w
 keep c Calls i x w = w
 
 -- n records of a section, from the i-th on
-unfoldable pub recordsFrom : List ℕ → Counts → Section → ℕ → ℕ → ℕ → List ℕ → List ℕ → Out
-recordsFrom s c o zero i at w p = good at w p
-recordsFrom s c o (suc n) i at w p =
-    after (recordAt s w p (seenBy c o i) o at)
-    (λ a tall. recordsFrom s c o n (i + 1) a (keep c o i tall w) (keep c o i at p)) bad
+unfoldable pub records_from : List ℕ → Counts → Section → ℕ → ℕ → ℕ → List ℕ → List ℕ → Out
+records_from s c o zero i at w p = good at w p
+records_from s c o (suc n) i at w p =
+    after (record_at s w p (seen_by c o i) o at)
+    (λ a tall. records_from s c o n (i + 1) a (keep c o i tall w) (keep c o i at p)) bad
 
 abbrev pub and_then : Out → (ℕ → List ℕ → List ℕ → Out) → Out
 and_then (good at w p) f = f at w p
 and_then (bad c q) f = bad c q
 
-unfoldable pub sectionsFrom : List ℕ → Counts → List Section → ℕ → List ℕ → List ℕ → Out
-sectionsFrom s c [] at w p = good at w p
-sectionsFrom s c (o ∷ os) at w p =
-    and_then (recordsFrom s c o (count_of c o) 0 at w p) (λ a w p. sectionsFrom s c os a w p)
+unfoldable pub sections_from : List ℕ → Counts → List Section → ℕ → List ℕ → List ℕ → Out
+sections_from s c [] at w p = good at w p
+sections_from s c (o ∷ os) at w p =
+    and_then (records_from s c o (count_of c o) 0 at w p) (λ a w p. sections_from s c os a w p)
 
 -- ---- the whole
 
@@ -151,45 +151,45 @@ end_of s (bad c q) = bad c q
 -- after the header: the text bytes, the sections, the end
 unfoldable pub body_of : List ℕ → Counts → List ℕ → List ℕ → Out
 body_of s c w p =
-    cond (past s textBytesAt c.bytes) (bad BytesEnd textBytesAt)
-    (end_of s (sectionsFrom s c sections (textBytesAt + c.bytes) w p))
+    cond (past s text_bytes_at c.bytes) (bad BytesEnd text_bytes_at)
+    (end_of s (sections_from s c sections (text_bytes_at + c.bytes) w p))
 
 -- the header, and what follows it
-abbrev pub contentOf : List ℕ → List ℕ → List ℕ → Out
-contentOf s w p = after (headerOf s) (λ a tall. body_of s (countsOf s) w p) bad
+abbrev pub content_of : List ℕ → List ℕ → List ℕ → Out
+content_of s w p = after (header_of s) (λ a tall. body_of s (counts_of s) w p) bad
 
 -- as many places for starts as there can be expressions and statements
-abbrev pub mostStarts : ℕ
-mostStarts = 6144
+abbrev pub most_starts : ℕ
+most_starts = 6144
 
 -- an image, and a work slice of k entries
 unfoldable pub read_of : List ℕ → ℕ → Out
 read_of s k =
     cond (nat_lt 65535 (length s)) (bad ImageTooLong 0)
     (cond (nat_lt k 8192) (bad WorkTooShort 0)
-    (contentOf s (replicate k 0) (replicate mostStarts 0)))
+    (content_of s (replicate k 0) (replicate most_starts 0)))
 
-abbrev pub answerBy : List ℕ → Out → Answer
-answerBy s (good at w p) = Accepted (record { 0 = u32_at s 1 }) (countsOf s)
-answerBy s (bad c q) = Refused c q
+abbrev pub answer_by : List ℕ → Out → Answer
+answer_by s (good at w p) = Accepted (record { 0 = u32_at s 1 }) (counts_of s)
+answer_by s (bad c q) = Refused c q
 
-abbrev pub workBy : ℕ → Out → List ℕ
-workBy k (good at w p) = w
-workBy k (bad c q) = replicate k 0
+abbrev pub work_by : ℕ → Out → List ℕ
+work_by k (good at w p) = w
+work_by k (bad c q) = replicate k 0
 
-abbrev pub startsBy : Out → List ℕ
-startsBy (good at w p) = p
-startsBy (bad c q) = replicate mostStarts 0
+abbrev pub starts_by : Out → List ℕ
+starts_by (good at w p) = p
+starts_by (bad c q) = replicate most_starts 0
 
 -- THE ANSWER, the work slice, and where the expressions and then the statements start
 unfoldable pub answer_of : List ℕ → ℕ → Answer
-answer_of s k = answerBy s (read_of s k)
+answer_of s k = answer_by s (read_of s k)
 
-unfoldable pub workOf : List ℕ → ℕ → List ℕ
-workOf s k = workBy k (read_of s k)
+unfoldable pub work_of : List ℕ → ℕ → List ℕ
+work_of s k = work_by k (read_of s k)
 
-unfoldable pub startsOf : List ℕ → ℕ → List ℕ
-startsOf s k = startsBy (read_of s k)
+unfoldable pub starts_of : List ℕ → ℕ → List ℕ
+starts_of s k = starts_by (read_of s k)
 
 -- the number and the place of an answer, both 0 where the image is accepted
 abbrev pub number_in : Answer → ℕ

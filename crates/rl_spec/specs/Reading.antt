@@ -2,7 +2,7 @@
 use Rattle.std.specs.Prelude.{ℕ, zero, suc, Bool, true, false, List, [], ◌∷◌}
 use Rattle.std.proofs.Math.Option.{Option, none, some}
 use Rattle.rl_spec.specs.Tree.{Expr}
-use Rattle.rl_spec.specs.Statement.{Stmt, declaration, expression, return, returnAlone, conditional, while, loop, break, continue, otherStatement, Body, nil, ◌▸◌, Branch, branch, Else, noElse, elseBranch, elseConditional}
+use Rattle.rl_spec.specs.Statement.{Stmt, declaration, expression, return, return_alone, conditional, while, loop, break, continue, other_statement, Body, nil, ◌▸◌, Branch, branch, Else, no_else, else_branch, else_conditional}
 use Rattle.rl_spec.specs.Run.{nothing, Value, plain, ok, err, named, hidden, Outcome, returned, stopped, ended, Ending, ending, Run, ◌>>=◌, ◌>>◌, give, halt, fail, tick, charge, bind, scoped, truth, plain_of, eval}
 
 -- a condition that must hold, and the message where it does not
@@ -14,7 +14,7 @@ pub record Check (T : Type 0) : Type 0 where
 pub record Function (T : Type 0) : Type 0 where
   pub name : T
   pub params : List T
-  pub isResult : Bool
+  pub is_result : Bool
   pub entry : List (Check T)
   pub ensures : List (Check T)
   pub body : Body T
@@ -34,27 +34,27 @@ abbrev pub bare : {T : Type 0} → Stmt T → Option (Expr T)
 bare (declaration x e) = none
 bare (expression e) = some e
 bare (return e) = none
-bare returnAlone = none
+bare return_alone = none
 bare (conditional b e) = none
 bare (while e b) = none
 bare (loop b) = none
 bare break = none
 bare continue = none
-bare otherStatement = none
+bare other_statement = none
 
 -- under ensures a bare only statement is a return
-abbrev pub onlyReturned : {T : Type 0} → Stmt T → Option (Expr T) → Body T
-onlyReturned s none = s ▸ nil
-onlyReturned s (some e) = return e ▸ nil
+abbrev pub only_returned : {T : Type 0} → Stmt T → Option (Expr T) → Body T
+only_returned s none = s ▸ nil
+only_returned s (some e) = return e ▸ nil
 
-abbrev pub withReturn : {T : Type 0} → Body T → Body T
-withReturn nil = nil
-withReturn (s ▸ nil) = onlyReturned s (bare s)
-withReturn (s ▸ (t ▸ b)) = s ▸ (t ▸ b)
+abbrev pub with_return : {T : Type 0} → Body T → Body T
+with_return nil = nil
+with_return (s ▸ nil) = only_returned s (bare s)
+with_return (s ▸ (t ▸ b)) = s ▸ (t ▸ b)
 
-abbrev pub bodyUnder : {T : Type 0} → List (Check T) → Body T → Body T
-bodyUnder [] b = b
-bodyUnder (c ∷ cs) b = withReturn b
+abbrev pub body_under : {T : Type 0} → List (Check T) → Body T → Body T
+body_under [] b = b
+body_under (c ∷ cs) b = with_return b
 
 -- ---- how a body and a loop go on
 
@@ -67,10 +67,10 @@ followed breaks k = give breaks
 followed continues k = give continues
 
 -- fault 1: Break or Continue outside a loop
-abbrev pub followedTop : {T A : Type 0} → Flow → Run T A → Run T A
-followedTop onward k = k
-followedTop breaks k = fail 1
-followedTop continues k = fail 1
+abbrev pub followed_top : {T A : Type 0} → Flow → Run T A → Run T A
+followed_top onward k = k
+followed_top breaks k = fail 1
+followed_top continues k = fail 1
 
 abbrev pub again : {T : Type 0} → Flow → Run T Flow → Run T Flow
 again onward k = k
@@ -85,8 +85,8 @@ turns (suc k) turn env n = (tick >> turn (turns k turn)) env n
 abbrev pub repeat : {T : Type 0} → (Run T Flow → Run T Flow) → Run T Flow
 repeat turn env n = turns n turn env n
 
-abbrev pub loopTurn : {T : Type 0} → Run T Flow → Run T Flow → Run T Flow
-loopTurn body next = scoped body >>= λ f. again f next
+abbrev pub loop_turn : {T : Type 0} → Run T Flow → Run T Flow → Run T Flow
+loop_turn body next = scoped body >>= λ f. again f next
 
 abbrev pub when : {T : Type 0} → Bool → Run T Flow → Run T Flow → Run T Flow
 when true k l = k
@@ -96,12 +96,12 @@ abbrev pub unless : {T : Type 0} → Bool → Run T (Unit {0}) → Run T (Unit {
 unless true k = give tt
 unless false k = k
 
-abbrev pub bindAll : {T : Type 0} → List T → List (Value T) → Run T (Unit {0})
-bindAll [] vs = give tt
-bindAll (x ∷ xs) [] = give tt
-bindAll (x ∷ xs) (v ∷ vs) = do
+abbrev pub bind_all : {T : Type 0} → List T → List (Value T) → Run T (Unit {0})
+bind_all [] vs = give tt
+bind_all (x ∷ xs) [] = give tt
+bind_all (x ∷ xs) (v ∷ vs) = do
   bind (named x v)
-  bindAll xs vs
+  bind_all xs vs
 
 -- ---- what `ret` stands for
 
@@ -159,8 +159,8 @@ module _ {T : Type 0} (bytes : T → List ℕ) where
   -- ---- a return
 
   -- take one hidden binding; bind `ret`; check the ensures in order; charge 2, return the first value
-  abbrev pub checkedReturn : T → Bool → List (Check T) → Value T → Run T Flow
-  checkedReturn ret r cs v = do
+  abbrev pub checked_return : T → Bool → List (Check T) → Value T → Run T Flow
+  checked_return ret r cs v = do
     bind (hidden v)
     w ← subject r v
     bind (named ret w)
@@ -170,14 +170,14 @@ module _ {T : Type 0} (bytes : T → List ℕ) where
 
   abbrev pub returning : Mode T → Value T → Run T Flow
   returning plainly v = halt (returned v)
-  returning (checked ret r cs) v = checkedReturn ret r cs v
+  returning (checked ret r cs) v = checked_return ret r cs v
 
   -- Null costs 1 where the return is checked
-  abbrev pub returningNull : Mode T → Run T Flow
-  returningNull plainly = halt (returned (plain nothing))
-  returningNull (checked ret r cs) = do
+  abbrev pub returning_null : Mode T → Run T Flow
+  returning_null plainly = halt (returned (plain nothing))
+  returning_null (checked ret r cs) = do
     charge 1
-    checkedReturn ret r cs (plain nothing)
+    checked_return ret r cs (plain nothing)
 
   -- ---- statements: each begun costs 1, a 68's branches 0
 
@@ -188,8 +188,8 @@ module _ {T : Type 0} (bytes : T → List ℕ) where
     v ← ev e
     truth 2 v
 
-  abbrev pub whileTurn : Expr T → Run T Flow → Run T Flow → Run T Flow
-  whileTurn e body next = do
+  abbrev pub while_turn : Expr T → Run T Flow → Run T Flow → Run T Flow
+  while_turn e body next = do
     b ← taken (some e)
     when b (scoped body >>= λ f. again f next) (give onward)
 
@@ -208,25 +208,25 @@ module _ {T : Type 0} (bytes : T → List ℕ) where
       tick
       v ← ev e
       returning m v
-    stmt m returnAlone = do
+    stmt m return_alone = do
       tick
-      returningNull m
+      returning_null m
     stmt m (conditional b e) = do
       tick
-      branchOr m b (or_else m e)
+      branch_or m b (or_else m e)
     stmt m (while e b) = do
       tick
-      repeat (whileTurn e (body m b))
+      repeat (while_turn e (body m b))
     stmt m (loop b) = do
       tick
-      repeat (loopTurn (body m b))
+      repeat (loop_turn (body m b))
     stmt m break = do
       tick
       give breaks
     stmt m continue = do
       tick
       give continues
-    stmt m otherStatement = do
+    stmt m other_statement = do
       tick
       fail 1
 
@@ -237,21 +237,21 @@ module _ {T : Type 0} (bytes : T → List ℕ) where
       followed f (body m b)
 
     -- a branch, and what is done where it is not taken
-    pub branchOr : Mode T → Branch T → Run T Flow → Run T Flow
-    branchOr m (branch c b) other = do
+    pub branch_or : Mode T → Branch T → Run T Flow → Run T Flow
+    branch_or m (branch c b) other = do
       t ← taken c
       when t (scoped (body m b)) other
 
     -- a return inside a 68 that is an else branch is plain
     pub or_else : Mode T → Else T → Run T Flow
-    or_else m noElse = give onward
-    or_else m (elseBranch b) = branchOr m b (give onward)
-    or_else m (elseConditional b e) = branchOr plainly b (or_else plainly e)
+    or_else m no_else = give onward
+    or_else m (else_branch b) = branch_or m b (give onward)
+    or_else m (else_conditional b e) = branch_or plainly b (or_else plainly e)
 
   -- ---- the top: a last bare expression gives the value, otherwise the end gives Null
 
   abbrev pub last_or : Option (Expr T) → Run T Flow → Run T (Value T)
-  last_or none k = k >>= λ f. followedTop f (give (plain nothing))
+  last_or none k = k >>= λ f. followed_top f (give (plain nothing))
   last_or (some e) k = do
     tick
     ev e
@@ -261,19 +261,19 @@ module _ {T : Type 0} (bytes : T → List ℕ) where
   top m (s ▸ nil) = last_or (bare s) (stmt m s)
   top m (s ▸ (t ▸ b)) = do
     f ← stmt m s
-    followedTop f (top m (t ▸ b))
+    followed_top f (top m (t ▸ b))
 
   -- ---- functions: the outcome, and the budget that is left
 
   -- THE RUN of a function's body
-  unfoldable pub runFunction : Function T → List (Value T) → ℕ → Ending T
-  runFunction f vs budget = ending ((bindAll f.params vs >> top plainly f.body) [] budget)
+  unfoldable pub run_function : Function T → List (Value T) → ℕ → Ending T
+  run_function f vs budget = ending ((bind_all f.params vs >> top plainly f.body) [] budget)
 
   -- the entry checks, which are passed when all of them held
   abbrev pub entering : Function T → List (Value T) → Run T (Unit {0})
-  entering f vs = bindAll f.params vs >> checks f.isResult f.entry
+  entering f vs = bind_all f.params vs >> checks f.is_result f.entry
 
   -- THE CONTRACT READING; `ret` is the name that the ensures have for the value
   unfoldable pub reading : T → Function T → List (Value T) → ℕ → Ending T
   reading ret f vs budget =
-      ending ((entering f vs >> top (mode_of ret f.isResult f.ensures) (bodyUnder f.ensures f.body)) [] budget)
+      ending ((entering f vs >> top (mode_of ret f.is_result f.ensures) (body_under f.ensures f.body)) [] budget)

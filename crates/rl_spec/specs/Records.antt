@@ -11,34 +11,34 @@ use Rattle.rl_spec.specs.declared.Param.{Param}
 use Rattle.rl_spec.specs.declared.Clause.{Clause}
 use Rattle.rl_spec.specs.declared.Function.{Function}
 use Rattle.rl_spec.specs.declared.Call.{Call}
-use Rattle.rl_spec.specs.Image.{Rec, Image, recordOf, field_of}
+use Rattle.rl_spec.specs.Image.{Rec, Image, record_of_lem, field_of}
 use Rattle.rl_spec.specs.Ranges.{interval, optional}
 use Rattle.rl_spec.specs.Tree.{signed, number}
 
 -- 1 Gt, 2 Ge, 3 Lt, 4 Le, 5 Eq, 6 Ne
-abbrev pub refineOp : ℕ → RefineOp
-refineOp n =
+abbrev pub refine_op : ℕ → RefineOp
+refine_op n =
     cond (n == 1) Gt (cond (n == 2) Ge (cond (n == 3) Lt (cond (n == 4) Le (cond (n == 5) Eq Ne))))
 
 -- by its sort: 1 Integer, 2 Str, 3 Bool, 4 Param; a text is in the first two bytes
-abbrev pub refineOperand : ℕ → ℕ → RefineOperand
-refineOperand sort x =
+abbrev pub refine_operand : ℕ → ℕ → RefineOperand
+refine_operand sort x =
     cond (sort == 1) (Integer (signed 64 x)) (cond (sort == 2) (Str (x % 65536)) (cond (sort == 3) (Bool (x == 1)) (Named (x % 65536))))
 
-abbrev pub refinementBy : ℕ → ℕ → ℕ → ParamRefinement
-refinementBy refinement sort x = cond (refinement == 0) Unrefined (Refined (refineOp refinement) (refineOperand sort x))
+abbrev pub refinement_by : ℕ → ℕ → ℕ → ParamRefinement
+refinement_by refinement sort x = cond (refinement == 0) Unrefined (Refined (refine_op refinement) (refine_operand sort x))
 
 -- name, type, refinement, operand's sort, operand
-abbrev pub paramBy : Rec → Param
-paramBy r = record { name = number r 0; refinement = refinementBy (number r 2) (number r 3) (number r 4) }
+abbrev pub param_by : Rec → Param
+param_by r = record { name = number r 0; refinement = refinement_by (number r 2) (number r 3) (number r 4) }
 
 -- condition, message or none
-abbrev pub clauseBy : Rec → Clause
-clauseBy r = record { condition = number r 0; message = optional (field_of r 1) }
+abbrev pub clause_by : Rec → Clause
+clause_by r = record { condition = number r 0; message = optional (field_of r 1) }
 
 -- name, span, parameters, result flag, body, requires, ensures
-abbrev pub functionBy : Rec → Function
-functionBy r =
+abbrev pub function_by : Rec → Function
+function_by r =
     record {
       name = number r 0;
       span = number r 1;
@@ -55,13 +55,13 @@ call_by r = record { callee = number r 0; span = number r 1; args = interval (fi
 
 -- those of an image
 unfoldable pub param_at : Image → ℕ → Param
-param_at im i = paramBy (recordOf im Parameters i)
+param_at im i = param_by (record_of_lem im Parameters i)
 
-unfoldable pub clauseAt : Image → ℕ → Clause
-clauseAt im i = clauseBy (recordOf im Clauses i)
+unfoldable pub clause_at : Image → ℕ → Clause
+clause_at im i = clause_by (record_of_lem im Clauses i)
 
-unfoldable pub functionAt : Image → ℕ → Function
-functionAt im i = functionBy (recordOf im Functions i)
+unfoldable pub function_at : Image → ℕ → Function
+function_at im i = function_by (record_of_lem im Functions i)
 
 unfoldable pub call_at : Image → ℕ → Call
-call_at im i = call_by (recordOf im Calls i)
+call_at im i = call_by (record_of_lem im Calls i)

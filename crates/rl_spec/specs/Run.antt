@@ -3,9 +3,9 @@
 use Rattle.std.specs.Prelude.{ℕ, zero, suc, ◌-◌, Bool, true, false, cond, List, [], ◌∷◌, length, drop, nat_lt}
 use Rattle.std.proofs.Math.Option.{Option, none, some}
 use Rattle.rl_spec.specs.Values as value
-use Rattle.rl_spec.specs.Values.{ConstVal, sameText}
-use Rattle.rl_spec.specs.Tree.{Expr, null, literal, identifier, unary, binary, grouping, assign, okLiteral, errLiteral, isErr, resultUnwrap, other}
-use Rattle.rl_spec.specs.Fold.{unaryValue, binaryValue}
+use Rattle.rl_spec.specs.Values.{ConstVal, same_text}
+use Rattle.rl_spec.specs.Tree.{Expr, null, literal, identifier, unary, binary, grouping, assign, ok_literal, err_literal, is_err_lem, result_unwrap_lem, other}
+use Rattle.rl_spec.specs.Fold.{unary_value, binary_value}
 
 infixl 1 ◌>>=◌ ◌>>◌
 -- ---- values: a folded value, Null, or Ok or Err of one of these
@@ -73,9 +73,9 @@ halt o env n = ended o n
 abbrev pub fail : {T A : Type 0} → ℕ → Run T A
 fail k = halt (fault k)
 
-abbrev pub orFault : {T A : Type 0} → ℕ → Option A → Run T A
-orFault k none = fail k
-orFault k (some a) = give a
+abbrev pub or_fault : {T A : Type 0} → ℕ → Option A → Run T A
+or_fault k none = fail k
+or_fault k (some a) = give a
 
 -- a charge of 1: Spent exactly when it would pass the budget
 abbrev pub tick : {T : Type 0} → Run T (Unit {0})
@@ -108,12 +108,12 @@ truth_of k (value.float x) = fail k
 truth_of k (value.str x) = fail k
 truth_of k (value.bool b) = give b
 
-abbrev pub truthPlain : {T : Type 0} → ℕ → Plain T → Run T Bool
-truthPlain k nothing = fail k
-truthPlain k (folded v) = truth_of k v
+abbrev pub truth_plain : {T : Type 0} → ℕ → Plain T → Run T Bool
+truth_plain k nothing = fail k
+truth_plain k (folded v) = truth_of k v
 
 abbrev pub truth : {T : Type 0} → ℕ → Value T → Run T Bool
-truth k (plain p) = truthPlain k p
+truth k (plain p) = truth_plain k p
 truth k (ok p) = fail k
 truth k (err p) = fail k
 
@@ -124,10 +124,10 @@ plain_of (ok p) = fail 2
 plain_of (err p) = fail 2
 
 -- is_err and result_unwrap of a plain value are fault 2
-abbrev pub errOf : {T : Type 0} → Value T → Run T Bool
-errOf (plain p) = fail 2
-errOf (ok p) = give false
-errOf (err p) = give true
+abbrev pub err_of : {T : Type 0} → Value T → Run T Bool
+err_of (plain p) = fail 2
+err_of (ok p) = give false
+err_of (err p) = give true
 
 -- unwrapping Ok(m) gives m, Err(m) stops the run with m
 abbrev pub unwrapped : {T : Type 0} → Value T → Run T (Value T)
@@ -150,7 +150,7 @@ module _ {T : Type 0} (bytes : T → List ℕ) where
 
   unfoldable pub find : Env T → T → Option (Value T)
   find [] x = none
-  find (named y v ∷ env) x = cond (sameText (bytes y) (bytes x)) (some v) (find env x)
+  find (named y v ∷ env) x = cond (same_text (bytes y) (bytes x)) (some v) (find env x)
   find (hidden v ∷ env) x = find env x
 
   -- the bindings with a name's latest one changed
@@ -160,25 +160,25 @@ module _ {T : Type 0} (bytes : T → List ℕ) where
 
   unfoldable pub update : Env T → T → Value T → Option (Env T)
   update [] x v = none
-  update (named y w ∷ env) x v = cond (sameText (bytes y) (bytes x)) (some (named y v ∷ env)) (behind (named y w) (update env x v))
+  update (named y w ∷ env) x v = cond (same_text (bytes y) (bytes x)) (some (named y v ∷ env)) (behind (named y w) (update env x v))
   update (hidden w ∷ env) x v = behind (hidden w) (update env x v)
 
   -- fault 3: unknown name
   abbrev pub look : T → Run T (Value T)
-  look x env n = orFault 3 (find env x) env n
+  look x env n = or_fault 3 (find env x) env n
 
   abbrev pub store : T → Value T → Run T (Unit {0})
-  store x v env n = and_then (orFault 3 (update env x v) env n) (λ env' _ n'. got tt env' n')
+  store x v env n = and_then (or_fault 3 (update env x v) env n) (λ env' _ n'. got tt env' n')
 
   -- fault 4: no value
-  abbrev pub unaryOn : ℕ → Option (ConstVal T) → Run T (Value T)
-  unaryOn op none = fail 4
-  unaryOn op (some v) = orFault 4 (unaryValue op v) >>= λ w. give (folds w)
+  abbrev pub unary_on : ℕ → Option (ConstVal T) → Run T (Value T)
+  unary_on op none = fail 4
+  unary_on op (some v) = or_fault 4 (unary_value op v) >>= λ w. give (folds w)
 
-  abbrev pub binaryOn : ℕ → Option (ConstVal T) → Option (ConstVal T) → Run T (Value T)
-  binaryOn op none b = fail 4
-  binaryOn op (some v) none = fail 4
-  binaryOn op (some v) (some w) = orFault 4 (binaryValue bytes op v w) >>= λ x. give (folds x)
+  abbrev pub binary_on : ℕ → Option (ConstVal T) → Option (ConstVal T) → Run T (Value T)
+  binary_on op none b = fail 4
+  binary_on op (some v) none = fail 4
+  binary_on op (some v) (some w) = or_fault 4 (binary_value bytes op v w) >>= λ x. give (folds x)
 
   -- ---- expressions: each node costs 1, charged on entry, operands left to right
 
@@ -188,7 +188,7 @@ module _ {T : Type 0} (bytes : T → List ℕ) where
     give (plain nothing)
   eval (literal l) = do
     tick
-    v ← orFault 4 l
+    v ← or_fault 4 l
     give (folds v)
   eval (identifier x) = do
     tick
@@ -196,12 +196,12 @@ module _ {T : Type 0} (bytes : T → List ℕ) where
   eval (unary op e) = do
     tick
     v ← eval e
-    unaryOn op (operand v)
+    unary_on op (operand v)
   eval (binary l op r) = do
     tick
     v ← eval l
     w ← eval r
-    binaryOn op (operand v) (operand w)
+    binary_on op (operand v) (operand w)
   eval (grouping e) = do
     tick
     eval e
@@ -210,22 +210,22 @@ module _ {T : Type 0} (bytes : T → List ℕ) where
     v ← eval e
     store x v
     give v
-  eval (okLiteral e) = do
+  eval (ok_literal e) = do
     tick
     v ← eval e
     p ← plain_of v
     give (ok p)
-  eval (errLiteral e) = do
+  eval (err_literal e) = do
     tick
     v ← eval e
     p ← plain_of v
     give (err p)
-  eval (isErr e) = do
+  eval (is_err_lem e) = do
     tick
     v ← eval e
-    b ← errOf v
+    b ← err_of v
     give (folds (value.bool b))
-  eval (resultUnwrap e) = do
+  eval (result_unwrap_lem e) = do
     tick
     v ← eval e
     unwrapped v

@@ -20,13 +20,13 @@ use Rattle.rl_spec.specs.declared.RunAnswer.{RunAnswer}
 use Rattle.rl_spec.specs.declared.RunAnswer.TheVariants.{Ran, Refused}
 use Rattle.rl_spec.specs.Read.{number_of, answer_of}
 use Rattle.rl_spec.specs.Image.{Image, image_of, text_of}
-use Rattle.rl_spec.specs.Folded.{const_of, asConst}
-use Rattle.rl_spec.specs.Words.{sortWordOf, payloadWordOf, wordsValue}
-use Rattle.rl_spec.specs.Records.{functionAt}
+use Rattle.rl_spec.specs.Folded.{const_of, as_const}
+use Rattle.rl_spec.specs.Words.{sort_word_of, payload_word_of, words_value}
+use Rattle.rl_spec.specs.Records.{function_at}
 use Rattle.rl_spec.specs.Run as run
-use Rattle.rl_spec.specs.Reading.{runFunction}
-use Rattle.rl_spec.specs.Mapped.{mapOutcome, Text}
-use Rattle.rl_spec.specs.Functions.{plainFunction}
+use Rattle.rl_spec.specs.Reading.{run_function}
+use Rattle.rl_spec.specs.Mapped.{map_outcome, Text}
+use Rattle.rl_spec.specs.Functions.{plain_function}
 
 -- ---- the declared values and outcomes, as those of the definitions; a text is its index
 
@@ -39,53 +39,53 @@ value_of (Bare p) = run.plain (plain_of p)
 value_of (Ok p) = run.ok (plain_of p)
 value_of (Err p) = run.err (plain_of p)
 
-abbrev pub asPlain : run.Plain ℕ → Plain
-asPlain run.nothing = Null
-asPlain (run.folded v) = Const (asConst v)
+abbrev pub as_plain : run.Plain ℕ → Plain
+as_plain run.nothing = Null
+as_plain (run.folded v) = Const (as_const v)
 
-abbrev pub asValue : run.Value ℕ → Value
-asValue (run.plain p) = Bare (asPlain p)
-asValue (run.ok p) = Ok (asPlain p)
-asValue (run.err p) = Err (asPlain p)
+abbrev pub as_value : run.Value ℕ → Value
+as_value (run.plain p) = Bare (as_plain p)
+as_value (run.ok p) = Ok (as_plain p)
+as_value (run.err p) = Err (as_plain p)
 
-abbrev pub asOutcome : run.Outcome ℕ → Outcome
-asOutcome (run.returned v) = Returned (asValue v)
-asOutcome (run.stopped p) = Stopped (asPlain p)
-asOutcome (run.fault k) = Fault k
-asOutcome run.spent = Spent
+abbrev pub as_outcome : run.Outcome ℕ → Outcome
+as_outcome (run.returned v) = Returned (as_value v)
+as_outcome (run.stopped p) = Stopped (as_plain p)
+as_outcome (run.fault k) = Fault k
+as_outcome run.spent = Spent
 
-abbrev pub outcomeOf : Outcome → run.Outcome ℕ
-outcomeOf (Returned v) = run.returned (value_of v)
-outcomeOf (Stopped p) = run.stopped (plain_of p)
-outcomeOf (Fault k) = run.fault k
-outcomeOf Spent = run.spent
+abbrev pub outcome_of : Outcome → run.Outcome ℕ
+outcome_of (Returned v) = run.returned (value_of v)
+outcome_of (Stopped p) = run.stopped (plain_of p)
+outcome_of (Fault k) = run.fault k
+outcome_of Spent = run.spent
 
 -- an outcome whose texts are an image's, with their bytes
-abbrev pub outcomeIn : Image → Outcome → run.Outcome Text
-outcomeIn im o = mapOutcome (text_of im) (outcomeOf o)
+abbrev pub outcome_in : Image → Outcome → run.Outcome Text
+outcome_in im o = map_outcome (text_of im) (outcome_of o)
 
 -- ---- arguments
 
 -- a text is one of the image's
-abbrev pub constHas : Counts → ConstVal → Bool
-constHas c (Int x) = true
-constHas c (Float x) = true
-constHas c (Str t) = nat_lt t c.texts
-constHas c (Truth b) = true
+abbrev pub const_has : Counts → ConstVal → Bool
+const_has c (Int x) = true
+const_has c (Float x) = true
+const_has c (Str t) = nat_lt t c.texts
+const_has c (Truth b) = true
 
-abbrev pub plainHas : Counts → Plain → Bool
-plainHas c Null = true
-plainHas c (Const v) = constHas c v
+abbrev pub plain_has : Counts → Plain → Bool
+plain_has c Null = true
+plain_has c (Const v) = const_has c v
 
 -- 20 looks into an Ok and an Err
-abbrev pub valueHas : Counts → Value → Bool
-valueHas c (Bare p) = plainHas c p
-valueHas c (Ok p) = plainHas c p
-valueHas c (Err p) = plainHas c p
+abbrev pub value_has : Counts → Value → Bool
+value_has c (Bare p) = plain_has c p
+value_has c (Ok p) = plain_has c p
+value_has c (Err p) = plain_has c p
 
-unfoldable pub allHave : Counts → List Argument → Bool
-allHave c [] = true
-allHave c (a ∷ as') = valueHas c a.value && allHave c as'
+unfoldable pub all_have_lem : Counts → List Argument → Bool
+all_have_lem c [] = true
+all_have_lem c (a ∷ as') = value_has c a.value && all_have_lem c as'
 
 abbrev pub given : Arguments → List Argument
 given args = take args.count args.values
@@ -95,63 +95,63 @@ values_of vs = map (λ a. value_of a.value) vs
 
 -- ---- THE ANSWER
 
-abbrev pub ranOf : run.Outcome ℕ × ℕ → RunAnswer
-ranOf r = Ran (asOutcome r.0) r.1
+abbrev pub ran_of : run.Outcome ℕ × ℕ → RunAnswer
+ran_of r = Ran (as_outcome r.0) r.1
 
 -- the run of a function of an image
-unfoldable pub ranIn : Image → ℕ → List Argument → ℕ → RunAnswer
-ranIn im f vs budget = ranOf (run.used budget (runFunction (text_of im) (plainFunction im f) (values_of vs) budget))
+unfoldable pub ran_in : Image → ℕ → List Argument → ℕ → RunAnswer
+ran_in im f vs budget = ran_of (run.used budget (run_function (text_of im) (plain_function im f) (values_of vs) budget))
 
 -- as many values as parameters, and no more than sixteen
-abbrev pub isFor : ℕ → ℕ → Bool
-isFor count params = count == params && not (nat_lt 16 count)
+abbrev pub is_for : ℕ → ℕ → Bool
+is_for count params = count == params && not (nat_lt 16 count)
 
 abbrev pub run_by : List ℕ → ℕ → Arguments → ℕ → Answer → RunAnswer
 run_by s f args budget (read.Accepted a c) =
     cond (not (nat_lt f c.functions)) (Refused NoSuchFunction 0)
-    (cond (not (isFor args.count (functionAt (image_of s) f).params.count)) (Refused WrongValues 0)
-    (cond (not (allHave c (given args))) (Refused NoSuchText 0)
-    (cond (nat_lt 1000000 budget) (Refused BudgetOverLimit 0) (ranIn (image_of s) f (given args) budget))))
+    (cond (not (is_for args.count (function_at (image_of s) f).params.count)) (Refused WrongValues 0)
+    (cond (not (all_have_lem c (given args))) (Refused NoSuchText 0)
+    (cond (nat_lt 1000000 budget) (Refused BudgetOverLimit 0) (ran_in (image_of s) f (given args) budget))))
 run_by s f args budget (read.Refused q n) = Refused q n
 
 unfoldable pub run_of : List ℕ → ℕ → ℕ → Arguments → ℕ → RunAnswer
 run_of s k f args budget = run_by s f args budget (answer_of s k)
 
-abbrev pub runNumber : RunAnswer → ℕ
-runNumber (Ran o n) = 0
-runNumber (Refused q n) = number_of q
+abbrev pub run_number : RunAnswer → ℕ
+run_number (Ran o n) = 0
+run_number (Refused q n) = number_of q
 
 -- ---- a value in two words: its sort, 0 Null, 1 Int, 2 Float, 3 Str, 4 Bool, and 8 more in an Ok, 16 more in an Err; and its payload
 
-abbrev pub foldedIn : Plain → Folded
-foldedIn Null = fold.Nothing
-foldedIn (Const v) = fold.Value v
+abbrev pub folded_in : Plain → Folded
+folded_in Null = fold.Nothing
+folded_in (Const v) = fold.Value v
 
-abbrev pub plainIn : Folded → Plain
-plainIn fold.Nothing = Null
-plainIn (fold.Value v) = Const v
+abbrev pub plain_in : Folded → Plain
+plain_in fold.Nothing = Null
+plain_in (fold.Value v) = Const v
 
-abbrev pub contentOf : Value → Plain
-contentOf (Bare p) = p
-contentOf (Ok p) = p
-contentOf (Err p) = p
+abbrev pub content_of : Value → Plain
+content_of (Bare p) = p
+content_of (Ok p) = p
+content_of (Err p) = p
 
-abbrev pub wrapWord : Value → ℕ
-wrapWord (Bare p) = 0
-wrapWord (Ok p) = 8
-wrapWord (Err p) = 16
+abbrev pub wrap_word : Value → ℕ
+wrap_word (Bare p) = 0
+wrap_word (Ok p) = 8
+wrap_word (Err p) = 16
 
-abbrev pub valueSort : Value → ℕ
-valueSort v = sortWordOf (foldedIn (contentOf v)) + wrapWord v
+abbrev pub value_sort : Value → ℕ
+value_sort v = sort_word_of (folded_in (content_of v)) + wrap_word v
 
-abbrev pub valuePayload : Value → ℕ
-valuePayload v = payloadWordOf (foldedIn (contentOf v))
+abbrev pub value_payload : Value → ℕ
+value_payload v = payload_word_of (folded_in (content_of v))
 
-abbrev pub plainOfWords : ℕ → ℕ → Plain
-plainOfWords sort payload = plainIn (wordsValue sort payload)
+abbrev pub plain_of_words : ℕ → ℕ → Plain
+plain_of_words sort payload = plain_in (words_value sort payload)
 
 -- the value of two words
-unfoldable pub valueOfWords : ℕ → ℕ → Value
-valueOfWords sort payload =
-    cond (nat_lt sort 8) (Bare (plainOfWords sort payload))
-    (cond (nat_lt sort 16) (Ok (plainOfWords (sort - 8) payload)) (Err (plainOfWords (sort - 16) payload)))
+unfoldable pub value_of_words : ℕ → ℕ → Value
+value_of_words sort payload =
+    cond (nat_lt sort 8) (Bare (plain_of_words sort payload))
+    (cond (nat_lt sort 16) (Ok (plain_of_words (sort - 8) payload)) (Err (plain_of_words (sort - 16) payload)))

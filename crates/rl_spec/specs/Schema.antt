@@ -13,8 +13,8 @@ unfoldable pub limits : List ℕ
 limits = 16384 ∷ 2048 ∷ 4096 ∷ 4096 ∷ 2048 ∷ 256 ∷ 256 ∷ 64 ∷ 256 ∷ []
 
 -- where the text bytes start: after the kind, the arena number and nine counts
-abbrev pub textBytesAt : ℕ
-textBytesAt = 23
+abbrev pub text_bytes_at : ℕ
+text_bytes_at = 23
 
 -- ---- the sections of records, in order
 
@@ -52,8 +52,8 @@ highest Clauses = 81
 highest Functions = 82
 highest Calls = 83
 
-unfoldable pub inSection : Section → ℕ → Bool
-inSection o k = cond (nat_lt k (lowest o)) false (nat_le k (highest o))
+unfoldable pub in_section : Section → ℕ → Bool
+in_section o k = cond (nat_lt k (lowest o)) false (nat_le k (highest o))
 
 -- the greatest height; the records of the other sections have no children of their own section
 abbrev pub tallest : Section → ℕ
@@ -98,8 +98,8 @@ operator = 6
 abbrev pub refinement : ℕ
 refinement = 7
 
-abbrev pub operandSort : ℕ
-operandSort = 8
+abbrev pub operand_sort : ℕ
+operand_sort = 8
 
 abbrev pub operand : ℕ
 operand = 9
@@ -116,8 +116,8 @@ text = 12
 abbrev pub node : ℕ
 node = 13
 
-abbrev pub nodeOrNone : ℕ
-nodeOrNone = 14
+abbrev pub node_or_none : ℕ
+node_or_none = 14
 
 abbrev pub statement : ℕ
 statement = 15
@@ -125,8 +125,8 @@ statement = 15
 abbrev pub branch : ℕ
 branch = 16
 
-abbrev pub elseBranch : ℕ
-elseBranch = 17
+abbrev pub else_branch : ℕ
+else_branch = 17
 
 abbrev pub texts : ℕ
 texts = 18
@@ -134,11 +134,11 @@ texts = 18
 abbrev pub nodes : ℕ
 nodes = 19
 
-abbrev pub nodePairs : ℕ
-nodePairs = 20
+abbrev pub node_pairs : ℕ
+node_pairs = 20
 
-abbrev pub fieldPairs : ℕ
-fieldPairs = 21
+abbrev pub field_pairs : ℕ
+field_pairs = 21
 
 abbrev pub body : ℕ
 body = 22
@@ -152,8 +152,8 @@ parameters = 24
 abbrev pub clauses : ℕ
 clauses = 25
 
-unfoldable pub sortOf : ℕ → Sort
-sortOf c =
+unfoldable pub sort_of : ℕ → Sort
+sort_of c =
     cond (c == raw1) (Raw 1)
     (cond (c == raw2) (Raw 2)
     (cond (c == raw4) (Raw 4)
@@ -161,20 +161,20 @@ sortOf c =
     (cond (c == flag) (Byte 0 1)
     (cond (c == operator) (Byte 1 63)
     (cond (c == refinement) (Byte 0 6)
-    (cond (c == operandSort) OperandSort
+    (cond (c == operand_sort) OperandSort
     (cond (c == operand) Operand
     (cond (c == scalar) Scalar
     (cond (c == part) Part
     (cond (c == text) (One Text)
     (cond (c == node) (One Expression)
-    (cond (c == nodeOrNone) (Maybe Expression)
+    (cond (c == node_or_none) (Maybe Expression)
     (cond (c == statement) (One Statement)
     (cond (c == branch) (One Branch)
-    (cond (c == elseBranch) (Maybe ElseBranch)
+    (cond (c == else_branch) (Maybe ElseBranch)
     (cond (c == texts) (Many Text Text 1)
     (cond (c == nodes) (Many Expression Expression 1)
-    (cond (c == nodePairs) (Many Expression Expression 2)
-    (cond (c == fieldPairs) (Many Text Expression 2)
+    (cond (c == node_pairs) (Many Expression Expression 2)
+    (cond (c == field_pairs) (Many Text Expression 2)
     (cond (c == body) (Many Statement Statement 1)
     (cond (c == arms) (Many Arm Arm 1) (cond (c == parameters) (Range Parameters) (Range Clauses))))))))))))))))))))))))
 
@@ -245,7 +245,7 @@ schema =
     -- ArrayLiteral
     ∷ row 35 (span ∷ nodes ∷ [])
     -- MapLiteral
-    ∷ row 36 (span ∷ nodePairs ∷ [])
+    ∷ row 36 (span ∷ node_pairs ∷ [])
     -- SetLiteral
     ∷ row 37 (span ∷ nodes ∷ [])
     -- TupleLiteral
@@ -277,7 +277,7 @@ schema =
     -- Propagate
     ∷ row 51 (span ∷ node ∷ [])
     -- StructLiteral
-    ∷ row 52 (span ∷ text ∷ fieldPairs ∷ [])
+    ∷ row 52 (span ∷ text ∷ field_pairs ∷ [])
     -- FieldAccess
     ∷ row 53 (span ∷ node ∷ text ∷ [])
     -- FieldAssign
@@ -297,9 +297,9 @@ schema =
     -- Return alone
     ∷ row 67 (span ∷ [])
     -- Conditional
-    ∷ row 68 (span ∷ branch ∷ elseBranch ∷ [])
+    ∷ row 68 (span ∷ branch ∷ else_branch ∷ [])
     -- ConditionalBranch
-    ∷ row 69 (span ∷ nodeOrNone ∷ body ∷ flag ∷ [])
+    ∷ row 69 (span ∷ node_or_none ∷ body ∷ flag ∷ [])
     -- While
     ∷ row 70 (span ∷ node ∷ body ∷ [])
     -- Loop
@@ -313,7 +313,7 @@ schema =
     -- Match
     ∷ row 75 (span ∷ node ∷ arms ∷ [])
     -- match arm
-    ∷ row 76 (span ∷ nodeOrNone ∷ body ∷ [])
+    ∷ row 76 (span ∷ node_or_none ∷ body ∷ [])
     -- Break
     ∷ row 77 (span ∷ [])
     -- Continue
@@ -321,18 +321,18 @@ schema =
     -- any other statement
     ∷ row 79 (span ∷ opaque ∷ [])
     -- Parameter: name, type, refinement, operand's sort, operand
-    ∷ row 80 (text ∷ opaque ∷ refinement ∷ operandSort ∷ operand ∷ [])
+    ∷ row 80 (text ∷ opaque ∷ refinement ∷ operand_sort ∷ operand ∷ [])
     -- Clause: condition, message
-    ∷ row 81 (node ∷ nodeOrNone ∷ [])
+    ∷ row 81 (node ∷ node_or_none ∷ [])
     -- Function: name, span, parameters, result flag, body, requires, ensures
     ∷ row 82 (text ∷ span ∷ parameters ∷ flag ∷ body ∷ clauses ∷ clauses ∷ [])
     -- Call: callee, span, arguments
     ∷ row 83 (text ∷ span ∷ nodes ∷ [])
     ∷ []
 
-unfoldable pub fieldsIn : ℕ → List Row → List ℕ
-fieldsIn k [] = []
-fieldsIn k (r ∷ rs) = cond (k == r.kind) r.fields (fieldsIn k rs)
+unfoldable pub fields_in_lem : ℕ → List Row → List ℕ
+fields_in_lem k [] = []
+fields_in_lem k (r ∷ rs) = cond (k == r.kind) r.fields (fields_in_lem k rs)
 
 unfoldable pub fields_of : ℕ → List ℕ
-fields_of k = fieldsIn k schema
+fields_of k = fields_in_lem k schema

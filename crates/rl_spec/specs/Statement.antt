@@ -7,9 +7,9 @@ use Rattle.rl_spec.specs.declared.Optional.{Optional}
 use Rattle.rl_spec.specs.declared.Optional.TheVariants.{None, Some}
 use Rattle.rl_spec.specs.declared.StatementForm.{StatementForm}
 use Rattle.rl_spec.specs.declared.StatementForm.TheVariants.{Declaration, Expression, Return, ReturnAlone, Conditional, Branch as ABranch, While, Loop, Break, Continue, Other}
-use Rattle.rl_spec.specs.Image.{Rec, Image, recordOf, field_of, entry_of}
-use Rattle.rl_spec.specs.Tree.{Expr, number, descend, exprTree, optionalTree}
-use Rattle.rl_spec.specs.Ranges.{interval, optional, numbersIn}
+use Rattle.rl_spec.specs.Image.{Rec, Image, record_of_lem, field_of, entry_of}
+use Rattle.rl_spec.specs.Tree.{Expr, number, descend, expr_tree, optional_tree}
+use Rattle.rl_spec.specs.Ranges.{interval, optional, numbers_in}
 
 infixr 5 ◌▸◌
 mutual
@@ -17,12 +17,12 @@ mutual
     declaration : T → Expr T → Stmt T
     expression : Expr T → Stmt T
     return : Expr T → Stmt T
-    returnAlone : Stmt T
+    return_alone : Stmt T
     conditional : Branch T → Else T → Stmt T
     while : Expr T → Body T → Stmt T
     loop : Body T → Stmt T
     break continue : Stmt T
-    otherStatement : Stmt T
+    other_statement : Stmt T
 
   pub data Body (T : Type 0) : Type 0 where
     nil : Body T
@@ -33,58 +33,58 @@ mutual
     branch : Option (Expr T) → Body T → Branch T
 
   pub data Else (T : Type 0) : Type 0 where
-    noElse : Else T
-    elseBranch : Branch T → Else T
-    elseConditional : Branch T → Else T → Else T
+    no_else : Else T
+    else_branch : Branch T → Else T
+    else_conditional : Branch T → Else T → Else T
 
 -- ---- those of an image
 
 -- a record of the section of statements is a statement or a branch
 pub data Item (T : Type 0) : Type 0 where
-  aStatement : Stmt T → Item T
-  aBranch : Branch T → Item T
+  a_statement : Stmt T → Item T
+  a_branch : Branch T → Item T
 
 -- a branch among statements is a form that is not taken
-abbrev pub asStatement : {T : Type 0} → Item T → Stmt T
-asStatement (aStatement s) = s
-asStatement (aBranch b) = otherStatement
+abbrev pub as_statement : {T : Type 0} → Item T → Stmt T
+as_statement (a_statement s) = s
+as_statement (a_branch b) = other_statement
 
-abbrev pub asBranch : {T : Type 0} → Item T → Branch T
-asBranch (aStatement s) = branch none nil
-asBranch (aBranch b) = b
+abbrev pub as_branch : {T : Type 0} → Item T → Branch T
+as_branch (a_statement s) = branch none nil
+as_branch (a_branch b) = b
 
 abbrev pub else_of : {T : Type 0} → Stmt T → Else T
-else_of (declaration x e) = noElse
-else_of (expression e) = noElse
-else_of (return e) = noElse
-else_of returnAlone = noElse
-else_of (conditional b e) = elseConditional b e
-else_of (while e b) = noElse
-else_of (loop b) = noElse
-else_of break = noElse
-else_of continue = noElse
-else_of otherStatement = noElse
+else_of (declaration x e) = no_else
+else_of (expression e) = no_else
+else_of (return e) = no_else
+else_of return_alone = no_else
+else_of (conditional b e) = else_conditional b e
+else_of (while e b) = no_else
+else_of (loop b) = no_else
+else_of break = no_else
+else_of continue = no_else
+else_of other_statement = no_else
 
-abbrev pub asElse : {T : Type 0} → Item T → Else T
-asElse (aStatement s) = else_of s
-asElse (aBranch b) = elseBranch b
+abbrev pub as_else : {T : Type 0} → Item T → Else T
+as_else (a_statement s) = else_of s
+as_else (a_branch b) = else_branch b
 
-abbrev pub bodyFrom : {T : Type 0} → List (Item T) → Body T
-bodyFrom [] = nil
-bodyFrom (x ∷ xs) = asStatement x ▸ bodyFrom xs
+abbrev pub body_from : {T : Type 0} → List (Item T) → Body T
+body_from [] = nil
+body_from (x ∷ xs) = as_statement x ▸ body_from xs
 
 -- the body of a list, by the items that its entries stand for
-abbrev pub bodyBy : {T : Type 0} → Image → (ℕ → Item T) → Interval → Body T
-bodyBy im item list = bodyFrom (map (λ k. item (entry_of im k)) (numbersIn list))
+abbrev pub body_by : {T : Type 0} → Image → (ℕ → Item T) → Interval → Body T
+body_by im item list = body_from (map (λ k. item (entry_of im k)) (numbers_in list))
 
-abbrev pub elseBy : {T : Type 0} → (ℕ → Item T) → Optional → Else T
-elseBy item None = noElse
-elseBy item (Some n) = asElse (item n)
+abbrev pub else_by : {T : Type 0} → (ℕ → Item T) → Optional → Else T
+else_by item None = no_else
+else_by item (Some n) = as_else (item n)
 
 -- ---- the form of a record; field 0 is the span
 
-unfoldable pub statementBy : Rec → StatementForm
-statementBy r =
+unfoldable pub statement_by : Rec → StatementForm
+statement_by r =
     cond (r.kind == 64) (Declaration (number r 1) (number r 3))
     (cond (r.kind == 65) (Expression (number r 1))
     (cond (r.kind == 66) (Return (number r 1))
@@ -96,25 +96,25 @@ statementBy r =
     (cond (r.kind == 77) Break
     (cond (r.kind == 78) Continue Other)))))))))
 
-abbrev pub statementOf : Image → ℕ → StatementForm
-statementOf im i = statementBy (recordOf im Statements i)
+abbrev pub statement_of : Image → ℕ → StatementForm
+statement_of im i = statement_by (record_of_lem im Statements i)
 
 -- a form with the items of the statements before it
-abbrev pub itemBy : Image → StatementForm → (ℕ → Item ℕ) → Item ℕ
-itemBy im (Declaration x n) item = aStatement (declaration x (exprTree im n))
-itemBy im (Expression n) item = aStatement (expression (exprTree im n))
-itemBy im (Return n) item = aStatement (return (exprTree im n))
-itemBy im ReturnAlone item = aStatement returnAlone
-itemBy im (Conditional b e) item = aStatement (conditional (asBranch (item b)) (elseBy item e))
-itemBy im (ABranch n list) item = aBranch (branch (optionalTree im n) (bodyBy im item list))
-itemBy im (While n list) item = aStatement (while (exprTree im n) (bodyBy im item list))
-itemBy im (Loop list) item = aStatement (loop (bodyBy im item list))
-itemBy im Break item = aStatement break
-itemBy im Continue item = aStatement continue
-itemBy im Other item = aStatement otherStatement
+abbrev pub item_by_lem : Image → StatementForm → (ℕ → Item ℕ) → Item ℕ
+item_by_lem im (Declaration x n) item = a_statement (declaration x (expr_tree im n))
+item_by_lem im (Expression n) item = a_statement (expression (expr_tree im n))
+item_by_lem im (Return n) item = a_statement (return (expr_tree im n))
+item_by_lem im ReturnAlone item = a_statement return_alone
+item_by_lem im (Conditional b e) item = a_statement (conditional (as_branch (item b)) (else_by item e))
+item_by_lem im (ABranch n list) item = a_branch (branch (optional_tree im n) (body_by im item list))
+item_by_lem im (While n list) item = a_statement (while (expr_tree im n) (body_by im item list))
+item_by_lem im (Loop list) item = a_statement (loop (body_by im item list))
+item_by_lem im Break item = a_statement break
+item_by_lem im Continue item = a_statement continue
+item_by_lem im Other item = a_statement other_statement
 
-unfoldable pub itemTree : Image → ℕ → Item ℕ
-itemTree im = descend (λ _. aStatement otherStatement) (λ i item. itemBy im (statementOf im i) item)
+unfoldable pub item_tree : Image → ℕ → Item ℕ
+item_tree im = descend (λ _. a_statement other_statement) (λ i item. item_by_lem im (statement_of im i) item)
 
-abbrev pub bodyTree : Image → Interval → Body ℕ
-bodyTree im list = bodyBy im (itemTree im) list
+abbrev pub body_tree : Image → Interval → Body ℕ
+body_tree im list = body_by im (item_tree im) list

@@ -12,9 +12,9 @@ use Rattle.rl_spec.specs.declared.Optional.{Optional}
 use Rattle.rl_spec.specs.declared.Optional.TheVariants.{None, Some}
 use Rattle.rl_spec.specs.declared.Form.{Form}
 use Rattle.rl_spec.specs.declared.Form.TheVariants.{Null, Literal, Identifier, Unary, Binary, Grouping, Assign, OkLiteral, ErrLiteral, IsErr, ResultUnwrap, Other}
-use Rattle.rl_spec.specs.Image.{Field, Rec, Image, first, second, recordOf, field_of, entry_of, text_of}
-use Rattle.rl_spec.specs.Values.{ConstVal, sameText}
-use Rattle.rl_spec.specs.Folded.{foldedOf}
+use Rattle.rl_spec.specs.Image.{Field, Rec, Image, first, second, record_of_lem, field_of, entry_of, text_of}
+use Rattle.rl_spec.specs.Values.{ConstVal, same_text}
+use Rattle.rl_spec.specs.Folded.{folded_of}
 
 -- ---- the trees. Forms that neither folding nor the runner takes are one.
 
@@ -27,7 +27,7 @@ pub data Expr (T : Type 0) : Type 0 where
   binary : Expr T → ℕ → Expr T → Expr T
   grouping : Expr T → Expr T
   assign : T → Expr T → Expr T
-  okLiteral errLiteral isErr resultUnwrap : Expr T → Expr T
+  ok_literal err_literal is_err_lem result_unwrap_lem : Expr T → Expr T
   other : Expr T
 
 -- ---- the form of a record
@@ -50,26 +50,26 @@ abbrev pub number : Rec → ℕ → ℕ
 number r j = first (field_of r j)
 
 -- the bytes of the text that the k-th entry of a list names
-abbrev pub textIn : Image → Field → ℕ → List ℕ
-textIn im list k = text_of im (entry_of im (first list + k))
+abbrev pub text_in : Image → Field → ℕ → List ℕ
+text_in im list k = text_of im (entry_of im (first list + k))
 
 -- the path std::res::NAME
-unfoldable pub isResPath : Image → Field → List ℕ → Bool
-isResPath im path name =
+unfoldable pub is_res_path : Image → Field → List ℕ → Bool
+is_res_path im path name =
     (second path == 3)
-    && sameText (textIn im path 0) (ascii "std")
-    && sameText (textIn im path 1) (ascii "res")
-    && sameText (textIn im path 2) name
+    && same_text (text_in im path 0) (ascii "std")
+    && same_text (text_in im path 1) (ascii "res")
+    && same_text (text_in im path 2) name
 
 -- a Call, by its path and its arguments
-unfoldable pub callForm : Image → Field → Field → Form
-callForm im path args =
+unfoldable pub call_form : Image → Field → Field → Form
+call_form im path args =
     cond (second args == 1)
-    (cond (isResPath im path (ascii "is_err")) (IsErr (entry_of im (first args)))
-    (cond (isResPath im path (ascii "result_unwrap")) (ResultUnwrap (entry_of im (first args))) Other)) Other
+    (cond (is_res_path im path (ascii "is_err_lem")) (IsErr (entry_of im (first args)))
+    (cond (is_res_path im path (ascii "result_unwrap_lem")) (ResultUnwrap (entry_of im (first args))) Other)) Other
 
-unfoldable pub formBy : Image → Rec → Form
-formBy im r =
+unfoldable pub form_by : Image → Rec → Form
+form_by im r =
     cond (r.kind == 16) Null
     (cond (r.kind == 17) (Literal (Value (Int (signed 64 (number r 1)))))
     (cond (r.kind == 18) (Literal (Value (Int (signed 32 (number r 1)))))
@@ -88,12 +88,12 @@ formBy im r =
     (cond (r.kind == 33) (Unary (number r 1) (number r 2))
     (cond (r.kind == 34) (Grouping (number r 1))
     (cond (r.kind == 39) (Assign (number r 1) (number r 2))
-    (cond (r.kind == 41) (callForm im (field_of r 1) (field_of r 2))
+    (cond (r.kind == 41) (call_form im (field_of r 1) (field_of r 2))
     (cond (r.kind == 49) (OkLiteral (number r 1))
     (cond (r.kind == 50) (ErrLiteral (number r 1)) Other))))))))))))))))))))
 
 abbrev pub form_of : Image → ℕ → Form
-form_of im i = formBy im (recordOf im Expressions i)
+form_of im i = form_by im (record_of_lem im Expressions i)
 
 -- ---- the tree at an index
 
@@ -101,32 +101,32 @@ form_of im i = formBy im (recordOf im Expressions i)
 abbrev pub below : {X : Type 0} → ℕ → (ℕ → X) → (ℕ → X) → ℕ → X
 below i d g j = cond (nat_lt j i) (g j) (d j)
 
-unfoldable pub descendBy : {X : Type 0} → (ℕ → X) → (ℕ → (ℕ → X) → X) → ℕ → ℕ → X
-descendBy d step zero i = d i
-descendBy d step (suc fuel) i = step i (below i d (descendBy d step fuel))
+unfoldable pub descend_by : {X : Type 0} → (ℕ → X) → (ℕ → (ℕ → X) → X) → ℕ → ℕ → X
+descend_by d step zero i = d i
+descend_by d step (suc fuel) i = step i (below i d (descend_by d step fuel))
 
 unfoldable pub descend : {X : Type 0} → (ℕ → X) → (ℕ → (ℕ → X) → X) → ℕ → X
-descend d step i = descendBy d step (suc i) i
+descend d step i = descend_by d step (suc i) i
 
 -- a form with the trees of its parts
-abbrev pub treeBy : Image → Form → (ℕ → Expr ℕ) → Expr ℕ
-treeBy im Null tree = null
-treeBy im (Literal v) tree = literal (foldedOf v)
-treeBy im (Identifier t) tree = identifier t
-treeBy im (Unary op n) tree = unary op (tree n)
-treeBy im (Binary l op r) tree = binary (tree l) op (tree r)
-treeBy im (Grouping n) tree = grouping (tree n)
-treeBy im (Assign t n) tree = assign t (tree n)
-treeBy im (OkLiteral n) tree = okLiteral (tree n)
-treeBy im (ErrLiteral n) tree = errLiteral (tree n)
-treeBy im (IsErr n) tree = isErr (tree n)
-treeBy im (ResultUnwrap n) tree = resultUnwrap (tree n)
-treeBy im Other tree = other
+abbrev pub tree_by : Image → Form → (ℕ → Expr ℕ) → Expr ℕ
+tree_by im Null tree = null
+tree_by im (Literal v) tree = literal (folded_of v)
+tree_by im (Identifier t) tree = identifier t
+tree_by im (Unary op n) tree = unary op (tree n)
+tree_by im (Binary l op r) tree = binary (tree l) op (tree r)
+tree_by im (Grouping n) tree = grouping (tree n)
+tree_by im (Assign t n) tree = assign t (tree n)
+tree_by im (OkLiteral n) tree = ok_literal (tree n)
+tree_by im (ErrLiteral n) tree = err_literal (tree n)
+tree_by im (IsErr n) tree = is_err_lem (tree n)
+tree_by im (ResultUnwrap n) tree = result_unwrap_lem (tree n)
+tree_by im Other tree = other
 
-unfoldable pub exprTree : Image → ℕ → Expr ℕ
-exprTree im = descend (λ _. other) (λ i tree. treeBy im (form_of im i) tree)
+unfoldable pub expr_tree : Image → ℕ → Expr ℕ
+expr_tree im = descend (λ _. other) (λ i tree. tree_by im (form_of im i) tree)
 
 -- the condition of a branch, the message of a clause
-abbrev pub optionalTree : Image → Optional → Option (Expr ℕ)
-optionalTree im None = none
-optionalTree im (Some n) = some (exprTree im n)
+abbrev pub optional_tree : Image → Optional → Option (Expr ℕ)
+optional_tree im None = none
+optional_tree im (Some n) = some (expr_tree im n)

@@ -19,67 +19,67 @@ pub data RefineOp : Type 0 where
 -- ---- comparisons
 
 -- by what is less and what is the same
-abbrev pub compareBy : {A : Type 0} → (A → A → Bool) → (A → A → Bool) → RefineOp → A → A → Bool
-compareBy less same gt x y = less y x
-compareBy less same ge x y = less y x || same y x
-compareBy less same lt x y = less x y
-compareBy less same le x y = less x y || same x y
-compareBy less same eq x y = same x y
-compareBy less same ne x y = not (same x y)
+abbrev pub compare_by : {A : Type 0} → (A → A → Bool) → (A → A → Bool) → RefineOp → A → A → Bool
+compare_by less same gt x y = less y x
+compare_by less same ge x y = less y x || same y x
+compare_by less same lt x y = less x y
+compare_by less same le x y = less x y || same x y
+compare_by less same eq x y = same x y
+compare_by less same ne x y = not (same x y)
 
-abbrev pub sameInt : ℤ → ℤ → Bool
-sameInt (pos a) (pos b) = a == b
-sameInt (pos a) (negsuc b) = false
-sameInt (negsuc a) (pos b) = false
-sameInt (negsuc a) (negsuc b) = a == b
+abbrev pub same_int : ℤ → ℤ → Bool
+same_int (pos a) (pos b) = a == b
+same_int (pos a) (negsuc b) = false
+same_int (negsuc a) (pos b) = false
+same_int (negsuc a) (negsuc b) = a == b
 
 -- texts byte by byte
-unfoldable pub sameText : List ℕ → List ℕ → Bool
-sameText [] [] = true
-sameText [] (b ∷ t) = false
-sameText (a ∷ s) [] = false
-sameText (a ∷ s) (b ∷ t) = cond (a == b) (sameText s t) false
+unfoldable pub same_text : List ℕ → List ℕ → Bool
+same_text [] [] = true
+same_text [] (b ∷ t) = false
+same_text (a ∷ s) [] = false
+same_text (a ∷ s) (b ∷ t) = cond (a == b) (same_text s t) false
 
-unfoldable pub lessText : List ℕ → List ℕ → Bool
-lessText s [] = false
-lessText [] (b ∷ t) = true
-lessText (a ∷ s) (b ∷ t) = cond (a == b) (lessText s t) (nat_lt a b)
+unfoldable pub less_text : List ℕ → List ℕ → Bool
+less_text s [] = false
+less_text [] (b ∷ t) = true
+less_text (a ∷ s) (b ∷ t) = cond (a == b) (less_text s t) (nat_lt a b)
 
 -- a comparison with a NaN has no verdict
 unfoldable pub compare_floats : RefineOp → Float → Float → Option Bool
-compare_floats op x y = cond (F.is_nan x || F.is_nan y) none (some (compareBy F.lt F.eq op x y))
+compare_floats op x y = cond (F.is_nan x || F.is_nan y) none (some (compare_by F.lt F.eq op x y))
 
 -- truth values are equal or not, and neither is less
-unfoldable pub compareBools : RefineOp → Bool → Bool → Option Bool
-compareBools gt x y = none
-compareBools ge x y = none
-compareBools lt x y = none
-compareBools le x y = none
-compareBools eq x y = some (beq x y)
-compareBools ne x y = some (not (beq x y))
+unfoldable pub compare_bools : RefineOp → Bool → Bool → Option Bool
+compare_bools gt x y = none
+compare_bools ge x y = none
+compare_bools lt x y = none
+compare_bools le x y = none
+compare_bools eq x y = some (beq x y)
+compare_bools ne x y = some (not (beq x y))
 
 -- a whole number beside a float is the nearest f64, ties to even; what is no number is a NaN
-abbrev pub asF64 : {T : Type 0} → ConstVal T → Float
-asF64 (int i) = F.of_int binary64 i
-asF64 (float f) = f
-asF64 (str t) = nan
-asF64 (bool b) = nan
+abbrev pub as_f64 : {T : Type 0} → ConstVal T → Float
+as_f64 (int i) = F.of_int binary64 i
+as_f64 (float f) = f
+as_f64 (str t) = nan
+as_f64 (bool b) = nan
 
 module _ {T : Type 0} (bytes : T → List ℕ) where
-  unfoldable pub compareValues : RefineOp → ConstVal T → ConstVal T → Option Bool
-  compareValues op (int x) (int y) = some (compareBy int_lt sameInt op x y)
-  compareValues op (int x) (float y) = compare_floats op (F.of_int binary64 x) y
-  compareValues op (int x) (str y) = none
-  compareValues op (int x) (bool y) = none
-  compareValues op (float x) y = compare_floats op x (asF64 y)
-  compareValues op (str x) (int y) = none
-  compareValues op (str x) (float y) = none
-  compareValues op (str x) (str y) = some (compareBy lessText sameText op (bytes x) (bytes y))
-  compareValues op (str x) (bool y) = none
-  compareValues op (bool x) (int y) = none
-  compareValues op (bool x) (float y) = none
-  compareValues op (bool x) (str y) = none
-  compareValues op (bool x) (bool y) = compareBools op x y
+  unfoldable pub compare_values : RefineOp → ConstVal T → ConstVal T → Option Bool
+  compare_values op (int x) (int y) = some (compare_by int_lt same_int op x y)
+  compare_values op (int x) (float y) = compare_floats op (F.of_int binary64 x) y
+  compare_values op (int x) (str y) = none
+  compare_values op (int x) (bool y) = none
+  compare_values op (float x) y = compare_floats op x (as_f64 y)
+  compare_values op (str x) (int y) = none
+  compare_values op (str x) (float y) = none
+  compare_values op (str x) (str y) = some (compare_by less_text same_text op (bytes x) (bytes y))
+  compare_values op (str x) (bool y) = none
+  compare_values op (bool x) (int y) = none
+  compare_values op (bool x) (float y) = none
+  compare_values op (bool x) (str y) = none
+  compare_values op (bool x) (bool y) = compare_bools op x y
 
 -- ---- arithmetic
 
@@ -90,33 +90,33 @@ checked z = cond (nat_lt (mag z) (2 ^ 63)) (some (int z)) none
 pub data ArithOp : Type 0 where
   plus minus star slash : ArithOp
 
-abbrev pub arithInts : {T : Type 0} → ArithOp → ℤ → ℤ → Option (ConstVal T)
-arithInts plus x y = checked (x +ℤ y)
-arithInts minus x y = checked (x -ℤ y)
-arithInts star x y = checked (x *ℤ y)
-arithInts slash x y = cond (sameInt y (pos 0)) none (checked (int_div x y))
+abbrev pub arith_ints : {T : Type 0} → ArithOp → ℤ → ℤ → Option (ConstVal T)
+arith_ints plus x y = checked (x +ℤ y)
+arith_ints minus x y = checked (x -ℤ y)
+arith_ints star x y = checked (x *ℤ y)
+arith_ints slash x y = cond (same_int y (pos 0)) none (checked (int_div x y))
 
-abbrev pub roundedOnce : {T : Type 0} → ArithOp → Float → Float → Option (ConstVal T)
-roundedOnce plus x y = some (float (F.add binary64 x y))
-roundedOnce minus x y = some (float (F.sub binary64 x y))
-roundedOnce star x y = some (float (F.mul binary64 x y))
-roundedOnce slash x y = cond (F.eq y (F.of_int binary64 (pos 0))) none (some (float (F.div binary64 x y)))
+abbrev pub rounded_once : {T : Type 0} → ArithOp → Float → Float → Option (ConstVal T)
+rounded_once plus x y = some (float (F.add binary64 x y))
+rounded_once minus x y = some (float (F.sub binary64 x y))
+rounded_once star x y = some (float (F.mul binary64 x y))
+rounded_once slash x y = cond (F.eq y (F.of_int binary64 (pos 0))) none (some (float (F.div binary64 x y)))
 
 -- an operand that is a NaN has no value
-abbrev pub arithFloats : {T : Type 0} → ArithOp → Float → Float → Option (ConstVal T)
-arithFloats op x y = cond (F.is_nan x || F.is_nan y) none (roundedOnce op x y)
+abbrev pub arith_floats : {T : Type 0} → ArithOp → Float → Float → Option (ConstVal T)
+arith_floats op x y = cond (F.is_nan x || F.is_nan y) none (rounded_once op x y)
 
-unfoldable pub arithValues : {T : Type 0} → ArithOp → ConstVal T → ConstVal T → Option (ConstVal T)
-arithValues op (int x) (int y) = arithInts op x y
-arithValues op (int x) (float y) = arithFloats op (F.of_int binary64 x) y
-arithValues op (int x) (str y) = none
-arithValues op (int x) (bool y) = none
-arithValues op (float x) y = arithFloats op x (asF64 y)
-arithValues op (str x) (int y) = none
-arithValues op (str x) (float y) = none
-arithValues op (str x) (str y) = none
-arithValues op (str x) (bool y) = none
-arithValues op (bool x) y = none
+unfoldable pub arith_values : {T : Type 0} → ArithOp → ConstVal T → ConstVal T → Option (ConstVal T)
+arith_values op (int x) (int y) = arith_ints op x y
+arith_values op (int x) (float y) = arith_floats op (F.of_int binary64 x) y
+arith_values op (int x) (str y) = none
+arith_values op (int x) (bool y) = none
+arith_values op (float x) y = arith_floats op x (as_f64 y)
+arith_values op (str x) (int y) = none
+arith_values op (str x) (float y) = none
+arith_values op (str x) (str y) = none
+arith_values op (str x) (bool y) = none
+arith_values op (bool x) y = none
 
 -- `!` and `-`
 unfoldable pub bang : {T : Type 0} → ConstVal T → Option (ConstVal T)

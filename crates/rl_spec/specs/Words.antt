@@ -13,29 +13,29 @@ abbrev pub bits64 : ℤ → ℕ
 bits64 (pos n) = n
 bits64 (negsuc n) = 2 ^ 64 - suc n
 
-abbrev pub sortWord : ConstVal → ℕ
-sortWord (Int x) = 1
-sortWord (Float x) = 2
-sortWord (Str t) = 3
-sortWord (Truth b) = 4
+abbrev pub sort_word : ConstVal → ℕ
+sort_word (Int x) = 1
+sort_word (Float x) = 2
+sort_word (Str t) = 3
+sort_word (Truth b) = 4
 
-abbrev pub payloadWord : ConstVal → ℕ
-payloadWord (Int x) = bits64 x
-payloadWord (Float x) = to_bits binary64 x
-payloadWord (Str t) = t
-payloadWord (Truth b) = cond b 1 0
+abbrev pub payload_word : ConstVal → ℕ
+payload_word (Int x) = bits64 x
+payload_word (Float x) = to_bits binary64 x
+payload_word (Str t) = t
+payload_word (Truth b) = cond b 1 0
 
-abbrev pub sortWordOf : Folded → ℕ
-sortWordOf (Value v) = sortWord v
-sortWordOf Nothing = 0
+abbrev pub sort_word_of : Folded → ℕ
+sort_word_of (Value v) = sort_word v
+sort_word_of Nothing = 0
 
-abbrev pub payloadWordOf : Folded → ℕ
-payloadWordOf (Value v) = payloadWord v
-payloadWordOf Nothing = 0
+abbrev pub payload_word_of : Folded → ℕ
+payload_word_of (Value v) = payload_word v
+payload_word_of Nothing = 0
 
 -- the value of two words; any other sort is none, and an index above 65,535 is 65,535, which no image has
-unfoldable pub wordsValue : ℕ → ℕ → Folded
-wordsValue sort payload =
+unfoldable pub words_value : ℕ → ℕ → Folded
+words_value sort payload =
     cond (sort == 1) (Value (Int (signed 64 payload)))
     (cond (sort == 2) (Value (Float (from_bits binary64 payload)))
     (cond (sort == 3) (Value (Str (min payload 65535)))

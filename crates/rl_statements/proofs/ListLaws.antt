@@ -12,10 +12,10 @@ use Rattle.rl_spec.specs.declared.Interval.{Interval}
 use Rattle.rl_spec.specs.declared.Outcome.TheVariants.{Fault, Spent}
 use Rattle.rl_spec.specs.declared.Value.{Value}
 use Rattle.rl_spec.specs.Image.{Image, entry_of, text_of}
-use Rattle.rl_spec.specs.Statement.{Body, ◌▸◌, asStatement}
+use Rattle.rl_spec.specs.Statement.{Body, ◌▸◌, as_statement}
 use Rattle.rl_spec.specs.Run as run
-use Rattle.rl_spec.specs.Run.{Result, got, ended, and_then, leaving, orFault, eval}
-use Rattle.rl_spec.specs.Runner.{value_of, valueOfWords}
+use Rattle.rl_spec.specs.Run.{Result, got, ended, and_then, leaving, or_fault, eval}
+use Rattle.rl_spec.specs.Runner.{value_of, value_of_words}
 use Rattle.rl_spec.specs.Reading.{body}
 use Rattle.rl_names.specs.Names.{Classes}
 use Rattle.rl_machine.specs.declared.types.Flow.{Flow}
@@ -23,49 +23,49 @@ use Rattle.rl_machine.specs.declared.types.Flow.TheVariants.{Onward, Skipped, Ov
 use Rattle.rl_machine.specs.declared.types.Frame.{Frame}
 use Rattle.rl_machine.specs.declared.types.State.{State}
 use Rattle.rl_machine.specs.declared.types.State.TheVariants.{Next, Tested, Compound, Visit, Push, Seek, Bind, Give, Ends}
-use Rattle.rl_machine.specs.Machine.{result_of, bodyRun, treeUnder, itemUnder, lastAs, after, byFrame, meaning, FrameRoom, Room, Low, Enters, EntersRoom, Resumes, ResumesRoom, Begins, Follows}
+use Rattle.rl_machine.specs.Machine.{result_of, body_run, tree_under, item_under, last_as, after, by_frame, meaning, FrameRoom, Room, Low, Enters, EntersRoom, Resumes, ResumesRoom, Begins, Follows}
 use Rattle.rl_statements.specs.declared.types.Binding.{Binding}
 use Rattle.rl_statements.specs.declared.types.Env.{Env}
 use Rattle.rl_statements.specs.declared.types.Ran.{Ran}
 use Rattle.rl_statements.specs.declared.types.Waiting.{Waiting}
-use Rattle.rl_statements.specs.Bindings.{blank, boundOf, boundsIn, bounds}
-use Rattle.rl_statements.specs.Lists.{listLeft, statementRun, Runs, blankFrame, resume, FramesRoom, Stands}
-use Rattle.rl_statements.proofs.BindingLaws.{bounds-length, bounds-left, bounds-pushed, Passed, Sought, find-here, find_none, update-none, update_here}
-use Rattle.rl_statements.proofs.Rests.{eval-spent, first-spent, first-begun, none_left, some_left}
+use Rattle.rl_statements.specs.Bindings.{blank, bound_of, bounds_in, bounds}
+use Rattle.rl_statements.specs.Lists.{list_left, statement_run, Runs, blank_frame, resume, FramesRoom, Stands}
+use Rattle.rl_statements.proofs.BindingLaws.{bounds_length, bounds_left, bounds_pushed, Passed, Sought, find_here, find_none, update_none, update_here}
+use Rattle.rl_statements.proofs.Rests.{eval_spent, first_spent, first_begun, none_left, some_left}
 
 -- ---- frames
 
-resume-kept : (im : Image) (base : ℕ) (rest : Body ℕ) (fs : List Waiting) (p t : ℕ) (w : Waiting) → t ≤ p →
+resume_kept : (im : Image) (base : ℕ) (rest : Body ℕ) (fs : List Waiting) (p t : ℕ) (w : Waiting) → t ≤ p →
     resume im base rest (set fs p w) t ≡ resume im base rest fs t
 unfolding resume
-resume-kept im base rest fs p zero w h = refl
-resume-kept im base rest fs p (suc t) w h =
-    ap (λ x v. byFrame im base rest x.frame v (resume im base rest (set fs p w) t)) (get_or-set_other fs p t w blankFrame (λ q. absurd (omega (arith, q, h))))
-    ∙ ap (λ k v. byFrame im base rest (get_or fs t blankFrame).frame v k) (resume-kept im base rest fs p t w (omega (arith, h)))
+resume_kept im base rest fs p zero w h = refl
+resume_kept im base rest fs p (suc t) w h =
+    ap (λ x v. by_frame im base rest x.frame v (resume im base rest (set fs p w) t)) (get_or-set_other fs p t w blank_frame (λ q. absurd (omega (arith, q, h))))
+    ∙ ap (λ k v. by_frame im base rest (get_or fs t blank_frame).frame v k) (resume_kept im base rest fs p t w (omega (arith, h)))
 
-room-kept : (im : Image) (fs : List Waiting) (p t : ℕ) (w : Waiting) → t ≤ p → FramesRoom im fs t → FramesRoom im (set fs p w) t
+room_kept : (im : Image) (fs : List Waiting) (p t : ℕ) (w : Waiting) → t ≤ p → FramesRoom im fs t → FramesRoom im (set fs p w) t
 unfolding FramesRoom
-room-kept im fs p zero w h r = tt
-room-kept im fs p (suc t) w h r =
-    (subst (λ x. FrameRoom im t x.frame) (sym (get_or-set_other fs p t w blankFrame (λ q. absurd (omega (arith, q, h))))) r.0, room-kept im fs p t w (omega (arith, h)) r.1)
+room_kept im fs p zero w h r = tt
+room_kept im fs p (suc t) w h r =
+    (subst (λ x. FrameRoom im t x.frame) (sym (get_or-set_other fs p t w blank_frame (λ q. absurd (omega (arith, q, h))))) r.0, room_kept im fs p t w (omega (arith, h)) r.1)
 
 plus_one : (n : ℕ) → suc n ≡ n + 1
 plus_one n = omega arith
 
-resume-pushed : (im : Image) (base : ℕ) (rest : Body ℕ) (fs : List Waiting) (t : ℕ) (f : Frame) → t < length fs →
-    resume im base rest (set fs t (record { frame = f })) (t + 1) ≡ (λ v. byFrame im base rest f v (resume im base rest fs t))
+resume_pushed : (im : Image) (base : ℕ) (rest : Body ℕ) (fs : List Waiting) (t : ℕ) (f : Frame) → t < length fs →
+    resume im base rest (set fs t (record { frame = f })) (t + 1) ≡ (λ v. by_frame im base rest f v (resume im base rest fs t))
 unfolding resume
-resume-pushed im base rest fs t f h =
+resume_pushed im base rest fs t f h =
     ap (resume im base rest (set fs t (record { frame = f }))) (sym (plus_one t))
-    ∙ ap (λ x v. byFrame im base rest x.frame v (resume im base rest (set fs t (record { frame = f })) t)) (get_or-set_same fs t (record { frame = f }) blankFrame h)
-    ∙ ap (λ k v. byFrame im base rest f v k) (resume-kept im base rest fs t t (record { frame = f }) (omega arith))
+    ∙ ap (λ x v. by_frame im base rest x.frame v (resume im base rest (set fs t (record { frame = f })) t)) (get_or-set_same fs t (record { frame = f }) blank_frame h)
+    ∙ ap (λ k v. by_frame im base rest f v k) (resume_kept im base rest fs t t (record { frame = f }) (omega arith))
 
-room-pushed : (im : Image) (fs : List Waiting) (t : ℕ) (f : Frame) → t < length fs → FrameRoom im t f → FramesRoom im fs t
+room_pushed : (im : Image) (fs : List Waiting) (t : ℕ) (f : Frame) → t < length fs → FrameRoom im t f → FramesRoom im fs t
     → FramesRoom im (set fs t (record { frame = f })) (t + 1)
 unfolding FramesRoom
-room-pushed im fs t f h r q =
+room_pushed im fs t f h r q =
     subst (FramesRoom im (set fs t (record { frame = f }))) (plus_one t)
-    (subst (λ x. FrameRoom im t x.frame) (sym (get_or-set_same fs t (record { frame = f }) blankFrame h)) r, room-kept im fs t t (record { frame = f }) (omega arith) q)
+    (subst (λ x. FrameRoom im t x.frame) (sym (get_or-set_same fs t (record { frame = f }) blank_frame h)) r, room_kept im fs t t (record { frame = f }) (omega arith) q)
 
 one_more : (n : ℕ) → (n ≡ 0 → ⊥) → suc (n - 1) ≡ n
 one_more n h = omega (arith, h)
@@ -78,7 +78,7 @@ module _ (im : Image) (follow : Result ℕ Flow → Result ℕ Flow) (whole : Re
   At e left base done fs top st = Stands im follow whole bound outermost list budget e left base done fs top st
 
   abbrev rest : ℕ → Body ℕ
-  rest done = listLeft im bound outermost list done
+  rest done = list_left im bound outermost list done
 
   -- ---- statements
 
@@ -92,33 +92,33 @@ module _ (im : Image) (follow : Result ℕ Flow → Result ℕ Flow) (whole : Re
 
     pub list_over : (st₀ : State) → At e left base done fs top st₀ → st₀ ≡ Next → list.count ≤ done → At e left base done fs top (Ends Onward)
     unfolding body
-    list_over st₀ h₀ e₀ n = over Next h Onward (ap (λ b. leaving base (bodyRun im b (bounds e) left)) (sym (none_left im bound list outermost done n)))
+    list_over st₀ h₀ e₀ n = over Next h Onward (ap (λ b. leaving base (body_run im b (bounds e) left)) (sym (none_left im bound list outermost done n)))
       where
         h : At e left base done fs top Next
         h = subst (λ x. At e left base done fs top x) e₀ h₀
 
-    pub list-spent : (st₀ : State) → At e left base done fs top st₀ → st₀ ≡ Next → done < list.count → left ≡ 0 → At e left base done fs top (Ends (Over Spent))
-    list-spent st₀ h₀ e₀ n z =
+    pub list_spent : (st₀ : State) → At e left base done fs top st₀ → st₀ ≡ Next → done < list.count → left ≡ 0 → At e left base done fs top (Ends (Over Spent))
+    list_spent st₀ h₀ e₀ n z =
         over Next h (Over Spent)
-        (subst (λ m. ended run.spent m ≡ leaving base (bodyRun im (rest done) (bounds e) m)) (sym z)
-        (sym (ap (λ b. leaving base (bodyRun im b (bounds e) 0)) (some_left im bound list outermost (outermost && eqb (done + 1) list.count) done n refl)
-        ∙ first-spent im base _ _ (bounds e))))
+        (subst (λ m. ended run.spent m ≡ leaving base (body_run im (rest done) (bounds e) m)) (sym z)
+        (sym (ap (λ b. leaving base (body_run im b (bounds e) 0)) (some_left im bound list outermost (outermost && eqb (done + 1) list.count) done n refl)
+        ∙ first_spent im base _ _ (bounds e))))
       where
         h : At e left base done fs top Next
         h = subst (λ x. At e left base done fs top x) e₀ h₀
 
-    pub list-next : (last : Bool) (s : ℕ) (st : State) → (st₀ : State) → At e left base done fs top st₀ → st₀ ≡ Next → done < list.count → (left ≡ 0 → ⊥)
+    pub list_next : (last : Bool) (s : ℕ) (st : State) → (st₀ : State) → At e left base done fs top st₀ → st₀ ≡ Next → done < list.count → (left ≡ 0 → ⊥)
         → last ≡ (outermost && eqb (done + 1) list.count)
-        → s ≡ entry_of im (list.first + done) → Begins im (lastAs last (asStatement (itemUnder im bound s))) st
+        → s ≡ entry_of im (list.first + done) → Begins im (last_as last (as_statement (item_under im bound s))) st
         → ((im : Image) → Low im → Room im bound 0 st) → Low im → At e (left - 1) base (done + 1) fs 0 st
     unfolding FramesRoom
-    list-next last s st st₀ h₀ e₀ n p l q b r low =
+    list_next last s st st₀ h₀ e₀ n p l q b r low =
         record {
           means = ap follow (b base (rest (done + 1)) (resume im base (rest (done + 1)) fs 0) (bounds e) (left - 1)
-              ∙ sym (first-begun im base (lastAs last (asStatement (itemUnder im bound s))) (rest (done + 1)) (bounds e) (left - 1))
-              ∙ ap (λ m. leaving base (bodyRun im (lastAs last (asStatement (itemUnder im bound s)) ▸ rest (done + 1)) (bounds e) m)) (one_more left p)
-              ∙ ap (λ m. leaving base (bodyRun im (lastAs last (asStatement (itemUnder im bound m)) ▸ rest (done + 1)) (bounds e) left)) q
-              ∙ ap (λ b. leaving base (bodyRun im b (bounds e) left)) (sym (some_left im bound list outermost last done n l))) ∙ h.means;
+              ∙ sym (first_begun im base (last_as last (as_statement (item_under im bound s))) (rest (done + 1)) (bounds e) (left - 1))
+              ∙ ap (λ m. leaving base (body_run im (last_as last (as_statement (item_under im bound s)) ▸ rest (done + 1)) (bounds e) m)) (one_more left p)
+              ∙ ap (λ m. leaving base (body_run im (last_as last (as_statement (item_under im bound m)) ▸ rest (done + 1)) (bounds e) left)) q
+              ∙ ap (λ b. leaving base (body_run im b (bounds e) left)) (sym (some_left im bound list outermost last done n l))) ∙ h.means;
           room = r im low;
           frames = tt;
           most = omega arith;
@@ -131,10 +131,10 @@ module _ (im : Image) (follow : Result ℕ Flow → Result ℕ Flow) (whole : Re
         h : At e left base done fs top Next
         h = subst (λ x. At e left base done fs top x) e₀ h₀
 
-    pub list-tested : (st₀ : State) (b : Bool) → At e left base done fs top st₀ → st₀ ≡ Tested b → b ≡ true → At e left e.len done fs top Next
-    list-tested st₀ b h₀ e₀ b₀ =
+    pub list_tested : (st₀ : State) (b : Bool) → At e left base done fs top st₀ → st₀ ≡ Tested b → b ≡ true → At e left e.len done fs top Next
+    list_tested st₀ b h₀ e₀ b₀ =
         record {
-          means = ap follow (ap (λ k. leaving k (bodyRun im (rest done) (bounds e) left)) (sym (bounds-length e.slots e.len))) ∙ h.means;
+          means = ap follow (ap (λ k. leaving k (body_run im (rest done) (bounds e) left)) (sym (bounds_length e.slots e.len))) ∙ h.means;
           room = tt;
           frames = h.frames;
           most = h.most;
@@ -147,10 +147,10 @@ module _ (im : Image) (follow : Result ℕ Flow → Result ℕ Flow) (whole : Re
         h : At e left base done fs top (Tested true)
         h = subst (λ x. At e left base done fs top x) (e₀ ∙ ap Tested b₀) h₀
 
-    pub list-skipped : (st₀ : State) (b : Bool) → At e left base done fs top st₀ → st₀ ≡ Tested b → b ≡ false → At e left e.len done fs top (Ends Skipped)
-    list-skipped st₀ b h₀ e₀ b₀ =
+    pub list_skipped : (st₀ : State) (b : Bool) → At e left base done fs top st₀ → st₀ ≡ Tested b → b ≡ false → At e left e.len done fs top (Ends Skipped)
+    list_skipped st₀ b h₀ e₀ b₀ =
         record {
-          means = ap follow (ap (λ env. got Skipped env left) (bounds-left e.slots e.len e.len ∙ ap (boundsIn e.slots) (all_of e.len))) ∙ h.means;
+          means = ap follow (ap (λ env. got Skipped env left) (bounds_left e.slots e.len e.len ∙ ap (bounds_in e.slots) (all_of e.len))) ∙ h.means;
           room = tt;
           frames = h.frames;
           most = h.most;
@@ -163,9 +163,9 @@ module _ (im : Image) (follow : Result ℕ Flow → Result ℕ Flow) (whole : Re
         h : At e left base done fs top (Tested false)
         h = subst (λ x. At e left base done fs top x) (e₀ ∙ ap Tested b₀) h₀
 
-    pub list-compound : (s : ℕ) (r : Ran) (st : State) → (st₀ : State) → At e left base done fs top st₀ → st₀ ≡ (Compound s) → Runs (statementRun im s) e left r
+    pub list_compound : (s : ℕ) (r : Ran) (st : State) → (st₀ : State) → At e left base done fs top st₀ → st₀ ≡ (Compound s) → Runs (statement_run im s) e left r
         → ((im : Image) → Follows im r.flow st) → ((im : Image) (bound t : ℕ) → Room im bound t st) → At r.env r.left base done fs top st
-    list-compound s r st st₀ h₀ e₀ q f m =
+    list_compound s r st st₀ h₀ e₀ q f m =
         record {
           means = ap follow (f im base (rest done) (resume im base (rest done) fs top) (bounds r.env) r.left
               ∙ ap (λ x. and_then x (after im base (rest done))) q.does) ∙ h.means;
@@ -183,21 +183,21 @@ module _ (im : Image) (follow : Result ℕ Flow → Result ℕ Flow) (whole : Re
 
     -- ---- nodes
 
-    pub visit-spent : (n limit : ℕ) → (st₀ : State) → At e left base done fs top st₀ → st₀ ≡ (Visit n limit) → left ≡ 0 → At e left base done fs top (Ends (Over Spent))
-    visit-spent n limit st₀ h₀ e₀ z =
+    pub visit_spent : (n limit : ℕ) → (st₀ : State) → At e left base done fs top st₀ → st₀ ≡ (Visit n limit) → left ≡ 0 → At e left base done fs top (Ends (Over Spent))
+    visit_spent n limit st₀ h₀ e₀ z =
         over (Visit n limit) h (Over Spent)
-        (subst (λ m. ended run.spent m ≡ and_then (eval (text_of im) (treeUnder im limit n) (bounds e) m) (resume im base (rest done) fs top)) (sym z)
-        (sym (ap (λ x. and_then x (resume im base (rest done) fs top)) (eval-spent (text_of im) (treeUnder im limit n) (bounds e)))))
+        (subst (λ m. ended run.spent m ≡ and_then (eval (text_of im) (tree_under im limit n) (bounds e) m) (resume im base (rest done) fs top)) (sym z)
+        (sym (ap (λ x. and_then x (resume im base (rest done) fs top)) (eval_spent (text_of im) (tree_under im limit n) (bounds e)))))
       where
         h : At e left base done fs top (Visit n limit)
         h = subst (λ x. At e left base done fs top x) e₀ h₀
 
-    pub visit-node : (n limit : ℕ) (st : State) → (st₀ : State) → At e left base done fs top st₀ → st₀ ≡ (Visit n limit) → (left ≡ 0 → ⊥)
-        → Enters im (treeUnder im limit n) st → EntersRoom im (treeUnder im limit n) st → At e (left - 1) base done fs top st
-    visit-node n limit st st₀ h₀ e₀ p m r =
+    pub visit_node : (n limit : ℕ) (st : State) → (st₀ : State) → At e left base done fs top st₀ → st₀ ≡ (Visit n limit) → (left ≡ 0 → ⊥)
+        → Enters im (tree_under im limit n) st → EntersRoom im (tree_under im limit n) st → At e (left - 1) base done fs top st
+    visit_node n limit st st₀ h₀ e₀ p m r =
         record {
           means = ap follow (m base (rest done) (resume im base (rest done) fs top) (bounds e) (left - 1)
-              ∙ ap (λ j. and_then (eval (text_of im) (treeUnder im limit n) (bounds e) j) (resume im base (rest done) fs top)) (one_more left p)) ∙ h.means;
+              ∙ ap (λ j. and_then (eval (text_of im) (tree_under im limit n) (bounds e) j) (resume im base (rest done) fs top)) (one_more left p)) ∙ h.means;
           room = r bound top h.room;
           frames = h.frames;
           most = h.most;
@@ -210,14 +210,14 @@ module _ (im : Image) (follow : Result ℕ Flow → Result ℕ Flow) (whole : Re
         h : At e left base done fs top (Visit n limit)
         h = subst (λ x. At e left base done fs top x) e₀ h₀
 
-    pub push-frame : (f : Frame) (n limit : ℕ) → (st₀ : State) → At e left base done fs top st₀ → st₀ ≡ (Push f n limit) → top < 69
+    pub push_frame : (f : Frame) (n limit : ℕ) → (st₀ : State) → At e left base done fs top st₀ → st₀ ≡ (Push f n limit) → top < 69
         → At e left base done (set fs top (record { frame = f })) (top + 1) (Visit n limit)
-    push-frame f n limit st₀ h₀ e₀ m =
+    push_frame f n limit st₀ h₀ e₀ m =
         record {
-          means = ap follow (ap (λ k. and_then (eval (text_of im) (treeUnder im limit n) (bounds e) left) k)
-              (resume-pushed im base (rest done) fs top f (omega (arith, m, h.size)))) ∙ h.means;
+          means = ap follow (ap (λ k. and_then (eval (text_of im) (tree_under im limit n) (bounds e) left) k)
+              (resume_pushed im base (rest done) fs top f (omega (arith, m, h.size)))) ∙ h.means;
           room = h.room.0;
-          frames = room-pushed im fs top f (omega (arith, m, h.size)) h.room.1 h.frames;
+          frames = room_pushed im fs top f (omega (arith, m, h.size)) h.room.1 h.frames;
           most = omega (arith, m);
           held = h.held;
           size = length-set fs top (record { frame = f }) ∙ h.size;
@@ -228,30 +228,30 @@ module _ (im : Image) (follow : Result ℕ Flow → Result ℕ Flow) (whole : Re
         h : At e left base done fs top (Push f n limit)
         h = subst (λ x. At e left base done fs top x) e₀ h₀
 
-    pub push-never : (f : Frame) (n limit : ℕ) (st : State) → (st₀ : State) → At e left base done fs top st₀ → st₀ ≡ (Push f n limit) → 69 ≤ top
+    pub push_never : (f : Frame) (n limit : ℕ) (st : State) → (st₀ : State) → At e left base done fs top st₀ → st₀ ≡ (Push f n limit) → 69 ≤ top
         → At e left base done fs top st
-    push-never f n limit st st₀ h₀ e₀ p = absurd (omega (arith, p, h.room.0))
+    push_never f n limit st st₀ h₀ e₀ p = absurd (omega (arith, p, h.room.0))
       where
         h : At e left base done fs top (Push f n limit)
         h = subst (λ x. At e left base done fs top x) e₀ h₀
 
     -- ---- a value for the newest frame
 
-    pub give-none : (v : Value) → (st₀ : State) → At e left base done fs top st₀ → st₀ ≡ (Give v) → top ≡ 0 → At e left base done fs top (Ends (Over (Fault 1)))
+    pub give_none : (v : Value) → (st₀ : State) → At e left base done fs top st₀ → st₀ ≡ (Give v) → top ≡ 0 → At e left base done fs top (Ends (Over (Fault 1)))
     unfolding resume
-    give-none v st₀ h₀ e₀ z = over (Give v) h (Over (Fault 1)) (subst (λ t. ended (run.fault 1) left ≡ resume im base (rest done) fs t (value_of v) (bounds e) left) (sym z) refl)
+    give_none v st₀ h₀ e₀ z = over (Give v) h (Over (Fault 1)) (subst (λ t. ended (run.fault 1) left ≡ resume im base (rest done) fs t (value_of v) (bounds e) left) (sym z) refl)
       where
         h : At e left base done fs top (Give v)
         h = subst (λ x. At e left base done fs top x) e₀ h₀
 
-    pub give-frame : (v : Value) (w : Waiting) (st : State) → (st₀ : State) → At e left base done fs top st₀ → st₀ ≡ (Give v) → (top ≡ 0 → ⊥)
-        → w ≡ get_or fs (top - 1) blankFrame → Resumes im w.frame (value_of v) st → ResumesRoom im w.frame st
+    pub give_frame : (v : Value) (w : Waiting) (st : State) → (st₀ : State) → At e left base done fs top st₀ → st₀ ≡ (Give v) → (top ≡ 0 → ⊥)
+        → w ≡ get_or fs (top - 1) blank_frame → Resumes im w.frame (value_of v) st → ResumesRoom im w.frame st
         → At e left base done fs (top - 1) st
     unfolding resume FramesRoom
-    give-frame v w st st₀ h₀ e₀ p d m r =
+    give_frame v w st st₀ h₀ e₀ p d m r =
         record {
           means = ap follow (m base (rest done) (resume im base (rest done) fs (top - 1)) (bounds e) left
-              ∙ ap (λ x. byFrame im base (rest done) x.frame (value_of v) (resume im base (rest done) fs (top - 1)) (bounds e) left) d
+              ∙ ap (λ x. by_frame im base (rest done) x.frame (value_of v) (resume im base (rest done) fs (top - 1)) (bounds e) left) d
               ∙ ap (λ t. resume im base (rest done) fs t (value_of v) (bounds e) left) (one_more top p)) ∙ h.means;
           room = r bound (top - 1) (subst (λ x. FrameRoom im (top - 1) x.frame) (sym d) (subst (λ t. FramesRoom im fs t) (sym (one_more top p)) h.frames).0);
           frames = (subst (λ t. FramesRoom im fs t) (sym (one_more top p)) h.frames).1;
@@ -276,15 +276,15 @@ module _ (im : Image) (follow : Result ℕ Flow → Result ℕ Flow) (whole : Re
       slot : (found ≡ 0 → ⊥) → Passed cs e.slots x e.len (suc (found - 1))
       slot d = subst (Passed cs e.slots x e.len) (sym (one_more found d)) (q.here (omega (arith, d))).0
 
-      pub name-found : (w : Value) → storing ≡ false → (found ≡ 0 → ⊥)
-          → w ≡ valueOfWords (get_or e.slots (found - 1) blank).sort (get_or e.slots (found - 1) blank).payload
+      pub name_found : (w : Value) → storing ≡ false → (found ≡ 0 → ⊥)
+          → w ≡ value_of_words (get_or e.slots (found - 1) blank).sort (get_or e.slots (found - 1) blank).payload
           → At e left base done fs top (Give w)
-      name-found w b d p =
+      name_found w b d p =
           record {
             means =
                 ap follow
                 (ap (λ z. resume im base (rest done) fs top (value_of z) (bounds e) left) p
-                ∙ sym (ap (λ o. and_then (orFault 3 o (bounds e) left) (resume im base (rest done) fs top)) (find-here (text_of im) cs c e.slots x e.len (found - 1) (slot d) (q.here (omega (arith, d))).1)))
+                ∙ sym (ap (λ o. and_then (or_fault 3 o (bounds e) left) (resume im base (rest done) fs top)) (find_here (text_of im) cs c e.slots x e.len (found - 1) (slot d) (q.here (omega (arith, d))).1)))
                 ∙ (sought false b).means;
             room = tt;
             frames = h₀.frames;
@@ -295,13 +295,13 @@ module _ (im : Image) (follow : Result ℕ Flow → Result ℕ Flow) (whole : Re
             within = h₀.within;
           }
 
-      pub name-stored : (b : Binding) → storing ≡ true → (found ≡ 0 → ⊥) → boundOf b ≡ run.named (get_or e.slots (found - 1) blank).name (value_of v)
+      pub name_stored : (b : Binding) → storing ≡ true → (found ≡ 0 → ⊥) → bound_of b ≡ run.named (get_or e.slots (found - 1) blank).name (value_of v)
           → At (record { slots = set e.slots (found - 1) b; len = e.len }) left base done fs top (Give v)
-      name-stored b d n w =
+      name_stored b d n w =
           record {
             means =
                 ap follow
-                (sym (ap (λ o. and_then (and_then (orFault 3 o (bounds e) left) (λ env' _ n'. got tt env' n')) (λ _. resume im base (rest done) fs top (value_of v)))
+                (sym (ap (λ o. and_then (and_then (or_fault 3 o (bounds e) left) (λ env' _ n'. got tt env' n')) (λ _. resume im base (rest done) fs top (value_of v)))
                 (update_here (text_of im) cs c e.slots x (value_of v) b (found - 1) (omega (arith, n, q.most, h₀.held.fits, h₀.held.slots)) w (q.here (omega (arith, n))).1 e.len (slot n))))
                 ∙ (sought true d).means;
             room = tt;
@@ -320,21 +320,21 @@ module _ (im : Image) (follow : Result ℕ Flow → Result ℕ Flow) (whole : Re
       missed : (b : Bool) → storing ≡ b → Passed cs e.slots x e.len 0 → At e left base done fs top (Ends (Over (Fault 3)))
       missed true d p =
           over (Seek x true v) (sought true d) (Over (Fault 3))
-          (sym (ap (λ o. and_then (and_then (orFault 3 o (bounds e) left) (λ env' _ n'. got tt env' n')) (λ _. resume im base (rest done) fs top (value_of v))) (update-none (text_of im) cs c e.slots x (value_of v) e.len p)))
+          (sym (ap (λ o. and_then (and_then (or_fault 3 o (bounds e) left) (λ env' _ n'. got tt env' n')) (λ _. resume im base (rest done) fs top (value_of v))) (update_none (text_of im) cs c e.slots x (value_of v) e.len p)))
       missed false d p =
           over (Seek x false v) (sought false d) (Over (Fault 3))
-          (sym (ap (λ o. and_then (orFault 3 o (bounds e) left) (resume im base (rest done) fs top)) (find_none (text_of im) cs c e.slots x e.len p)))
+          (sym (ap (λ o. and_then (or_fault 3 o (bounds e) left) (resume im base (rest done) fs top)) (find_none (text_of im) cs c e.slots x e.len p)))
 
-      pub name-missing : found ≡ 0 → j ≤ 0 → At e left base done fs top (Ends (Over (Fault 3)))
-      name-missing d l = missed storing refl (none_has d l)
+      pub name_missing : found ≡ 0 → j ≤ 0 → At e left base done fs top (Ends (Over (Fault 3)))
+      name_missing d l = missed storing refl (none_has d l)
 
-    pub name-bound : (x : ℕ) (v : Value) (b : Binding) → (st₀ : State) → At e left base done fs top st₀ → st₀ ≡ (Bind x v) → e.len < 128
-        → boundOf b ≡ run.named x (value_of v)
+    pub name_bound : (x : ℕ) (v : Value) (b : Binding) → (st₀ : State) → At e left base done fs top st₀ → st₀ ≡ (Bind x v) → e.len < 128
+        → bound_of b ≡ run.named x (value_of v)
         → At (record { slots = set e.slots e.len b; len = e.len + 1 }) left base done fs top Next
-    name-bound x v b st₀ h₀ e₀ p w =
+    name_bound x v b st₀ h₀ e₀ p w =
         record {
-          means = ap follow (ap (λ env. leaving base (bodyRun im (rest done) env left)) (ap (boundsIn (set e.slots e.len b)) (sym (plus_one e.len)) ∙ bounds-pushed e.slots e.len b (omega (arith, p, h.held.slots)) ∙ ap (λ z. z ∷ bounds e) w)
-              ∙ sym (rw (ap (λ k. ltb k 128) (bounds-length e.slots e.len) ∙ lt-ltb e.len 128 p) refl)) ∙ h.means;
+          means = ap follow (ap (λ env. leaving base (body_run im (rest done) env left)) (ap (bounds_in (set e.slots e.len b)) (sym (plus_one e.len)) ∙ bounds_pushed e.slots e.len b (omega (arith, p, h.held.slots)) ∙ ap (λ z. z ∷ bounds e) w)
+              ∙ sym (rw (ap (λ k. ltb k 128) (bounds_length e.slots e.len) ∙ lt-ltb e.len 128 p) refl)) ∙ h.means;
           room = tt;
           frames = h.frames;
           most = h.most;
@@ -347,13 +347,13 @@ module _ (im : Image) (follow : Result ℕ Flow → Result ℕ Flow) (whole : Re
         h : At e left base done fs top (Bind x v)
         h = subst (λ x. At e left base done fs top x) e₀ h₀
 
-    pub name-over : (x : ℕ) (v : Value) → (st₀ : State) → At e left base done fs top st₀ → st₀ ≡ (Bind x v) → 128 ≤ e.len → At e left base done fs top (Ends (Over (Fault 5)))
-    name-over x v st₀ h₀ e₀ p =
-        over (Bind x v) h (Over (Fault 5)) (sym (rw (ap (λ k. ltb k 128) (bounds-length e.slots e.len) ∙ le-ltb e.len 128 p) refl))
+    pub name_over : (x : ℕ) (v : Value) → (st₀ : State) → At e left base done fs top st₀ → st₀ ≡ (Bind x v) → 128 ≤ e.len → At e left base done fs top (Ends (Over (Fault 5)))
+    name_over x v st₀ h₀ e₀ p =
+        over (Bind x v) h (Over (Fault 5)) (sym (rw (ap (λ k. ltb k 128) (bounds_length e.slots e.len) ∙ le-ltb e.len 128 p) refl))
       where
         h : At e left base done fs top (Bind x v)
         h = subst (λ x. At e left base done fs top x) e₀ h₀
 
     -- a statement that holds statements is below the bound
-    pub compound-below : (s : ℕ) (st₀ : State) → At e left base done fs top st₀ → st₀ ≡ Compound s → s < bound
-    compound-below s st₀ h e₀ = (subst (At e left base done fs top) e₀ h).room
+    pub compound_below : (s : ℕ) (st₀ : State) → At e left base done fs top st₀ → st₀ ≡ Compound s → s < bound
+    compound_below s st₀ h e₀ = (subst (At e left base done fs top) e₀ h).room

@@ -17,17 +17,17 @@ use Rattle.rl_spec.specs.declared.StatementForm.{StatementForm}
 use Rattle.rl_spec.specs.declared.StatementForm.TheVariants as form
 use Rattle.rl_spec.specs.contracts.StatementForm as forms
 use Rattle.rl_spec.specs.Image.{Image, text_of}
-use Rattle.rl_spec.specs.Found.{imageFound}
-use Rattle.rl_spec.specs.Tree.{exprTree, optionalTree}
-use Rattle.rl_spec.specs.Statement.{otherStatement, Body, nil, Branch, branch, Else, noElse, Item, aStatement, asStatement, asBranch, asElse, bodyBy, elseBy, statementOf, itemBy, itemTree}
+use Rattle.rl_spec.specs.Found.{image_found}
+use Rattle.rl_spec.specs.Tree.{expr_tree, optional_tree}
+use Rattle.rl_spec.specs.Statement.{other_statement, Body, nil, Branch, branch, Else, no_else, Item, a_statement, as_statement, as_branch, as_else, body_by, else_by, statement_of, item_by_lem, item_tree}
 use Rattle.rl_spec.specs.Run.{Env, Result, got, ended, Run, and_then, give, leaving, scoped}
 use Rattle.rl_spec.specs.Reading as reading
-use Rattle.rl_spec.specs.Reading.{plainly, taken, when, stmt, body, branchOr}
-use Rattle.rl_laws.specs.Descend.{item-is, under-earlier, under-later}
+use Rattle.rl_spec.specs.Reading.{plainly, taken, when, stmt, body, branch_or}
+use Rattle.rl_laws.specs.Descend.{item_is, under_earlier, under_later}
 use Rattle.rl_machine.specs.declared.types.Flow.{Flow}
 use Rattle.rl_machine.specs.declared.types.Flow.TheVariants.{Onward, Breaks, Continues, Skipped, Over}
 use Rattle.rl_machine.specs.contracts.types.Flow as flow
-use Rattle.rl_machine.specs.Machine.{result_of, flows, bodyRun, tested, guarded, compound, itemUnder}
+use Rattle.rl_machine.specs.Machine.{result_of, flows, body_run, tested, guarded, compound, item_under}
 use Rattle.rl_statements.specs.declared.types.BranchForm.{BranchForm}
 use Rattle.rl_statements.specs.declared.types.BranchForm.TheVariants as branches
 use Rattle.rl_statements.specs.declared.types.ElseForm.{ElseForm}
@@ -36,20 +36,20 @@ use Rattle.rl_statements.specs.declared.types.CompoundForm.{CompoundForm}
 use Rattle.rl_statements.specs.declared.types.CompoundForm.TheVariants as compounds
 use Rattle.rl_statements.specs.declared.types.Turn.TheVariants.{Finish}
 use Rattle.rl_statements.specs.Lists as lists
-use Rattle.rl_statements.specs.Lists.{bodyLeft, run_of, statementRun, unskipped, turnAfter}
-use Rattle.rl_statements.specs.Views.{branchOf, else_of, compoundOf, or_else, BranchIs, ElseIs, CompoundIs}
+use Rattle.rl_statements.specs.Lists.{body_left, run_of, statement_run, unskipped, turn_after}
+use Rattle.rl_statements.specs.Views.{branch_of, else_of, compound_of, or_else, BranchIs, ElseIs, CompoundIs}
 
 -- ---- the parts of a form
 
-abbrev none-item : Item ℕ
-none-item = aStatement otherStatement
+abbrev none_item : Item ℕ
+none_item = a_statement other_statement
 
-item-at : (im : Image) (limit b : ℕ) (x : StatementForm) → b < limit → statementOf im b ≡ x → itemUnder im limit b ≡ itemBy im x (itemUnder im b)
-item-at im limit b x h e =
-    under-earlier (λ _. none-item) (itemTree im) limit b h ∙ item-is im b ∙ ap (λ y. itemBy im y (itemUnder im b)) e
+item_at : (im : Image) (limit b : ℕ) (x : StatementForm) → b < limit → statement_of im b ≡ x → item_under im limit b ≡ item_by_lem im x (item_under im b)
+item_at im limit b x h e =
+    under_earlier (λ _. none_item) (item_tree im) limit b h ∙ item_is im b ∙ ap (λ y. item_by_lem im y (item_under im b)) e
 
-statement-at : (im : Image) (s : ℕ) (x : StatementForm) → statementOf im s ≡ x → asStatement (itemTree im s) ≡ asStatement (itemBy im x (itemUnder im s))
-statement-at im s x e = ap asStatement (item-is im s ∙ ap (λ y. itemBy im y (itemUnder im s)) e)
+statement_at : (im : Image) (s : ℕ) (x : StatementForm) → statement_of im s ≡ x → as_statement (item_tree im s) ≡ as_statement (item_by_lem im x (item_under im s))
+statement_at im s x e = ap as_statement (item_is im s ∙ ap (λ y. item_by_lem im y (item_under im s)) e)
 
 plus_none : (n : ℕ) → n + 0 ≡ n
 plus_none n = omega arith
@@ -58,43 +58,43 @@ less_none : (n : ℕ) → n - 0 ≡ n
 less_none n = omega arith
 
 -- nothing of the list is done
-whole-list : (im : Image) (b : ℕ) (list : Interval) → bodyLeft im b list 0 ≡ bodyBy im (itemUnder im b) list
-whole-list im b list = rw (plus_none list.first, less_none list.count) refl
+whole_list : (im : Image) (b : ℕ) (list : Interval) → body_left im b list 0 ≡ body_by im (item_under im b) list
+whole_list im b list = rw (plus_none list.first, less_none list.count) refl
 
 -- ---- a branch
 
-all-less : (n : ℕ) → n - n ≡ 0
-all-less n = omega arith
+all_less : (n : ℕ) → n - n ≡ 0
+all_less n = omega arith
 
 -- a branch that is missing
-nothing-done : (im : Image) (env : Env ℕ) (n : ℕ) → guarded im none nil env n ≡ got Onward env n
+nothing_done : (im : Image) (env : Env ℕ) (n : ℕ) → guarded im none nil env n ≡ got Onward env n
 unfolding body
-nothing-done im env n = ap (λ k. got Onward (drop k env) n) (all-less (length env))
+nothing_done im env n = ap (λ k. got Onward (drop k env) n) (all_less (length env))
 
-abbrev branchIn : Image → Item ℕ → Run ℕ Flow
-branchIn im i = lists.branchOf im (asBranch i)
+abbrev branch_in : Image → Item ℕ → Run ℕ Flow
+branch_in im i = lists.branch_of im (as_branch i)
 
 module _ (im : Image) (limit b : ℕ) where
   -- no branch stands there
-  no-branch : (i : Item ℕ) → itemUnder im limit b ≡ i → asBranch i ≡ branch none nil → BranchIs im limit b branches.Missing
-  no-branch i e f env n = ap (λ j. branchIn im j env n) e ∙ ap (λ p. lists.branchOf im p env n) f ∙ nothing-done im env n
+  no_branch : (i : Item ℕ) → item_under im limit b ≡ i → as_branch i ≡ branch none nil → BranchIs im limit b branches.Missing
+  no_branch i e f env n = ap (λ j. branch_in im j env n) e ∙ ap (λ p. lists.branch_of im p env n) f ∙ nothing_done im env n
 
-  branch-is : (x : StatementForm) → b < limit → statementOf im b ≡ x → BranchIs im limit b (branchOf x)
-  branch-is (form.Declaration y n) h e = no-branch _ (item-at im limit b _ h e) refl
-  branch-is (form.Expression n) h e = no-branch _ (item-at im limit b _ h e) refl
-  branch-is (form.Return n) h e = no-branch _ (item-at im limit b _ h e) refl
-  branch-is form.ReturnAlone h e = no-branch _ (item-at im limit b _ h e) refl
-  branch-is (form.Conditional c o) h e = no-branch _ (item-at im limit b _ h e) refl
-  branch-is (form.Branch n list) h e = (
+  branch_is : (x : StatementForm) → b < limit → statement_of im b ≡ x → BranchIs im limit b (branch_of x)
+  branch_is (form.Declaration y n) h e = no_branch _ (item_at im limit b _ h e) refl
+  branch_is (form.Expression n) h e = no_branch _ (item_at im limit b _ h e) refl
+  branch_is (form.Return n) h e = no_branch _ (item_at im limit b _ h e) refl
+  branch_is form.ReturnAlone h e = no_branch _ (item_at im limit b _ h e) refl
+  branch_is (form.Conditional c o) h e = no_branch _ (item_at im limit b _ h e) refl
+  branch_is (form.Branch n list) h e = (
     h,
-    λ env m. ap (λ i. branchIn im i env m) (item-at im limit b (form.Branch n list) h e)
-        ∙ ap (λ k. guarded im (optionalTree im n) k env m) (sym (whole-list im b list)),
+    λ env m. ap (λ i. branch_in im i env m) (item_at im limit b (form.Branch n list) h e)
+        ∙ ap (λ k. guarded im (optional_tree im n) k env m) (sym (whole_list im b list)),
   )
-  branch-is (form.While n list) h e = no-branch _ (item-at im limit b _ h e) refl
-  branch-is (form.Loop list) h e = no-branch _ (item-at im limit b _ h e) refl
-  branch-is form.Break h e = no-branch _ (item-at im limit b _ h e) refl
-  branch-is form.Continue h e = no-branch _ (item-at im limit b _ h e) refl
-  branch-is form.Other h e = no-branch _ (item-at im limit b _ h e) refl
+  branch_is (form.While n list) h e = no_branch _ (item_at im limit b _ h e) refl
+  branch_is (form.Loop list) h e = no_branch _ (item_at im limit b _ h e) refl
+  branch_is form.Break h e = no_branch _ (item_at im limit b _ h e) refl
+  branch_is form.Continue h e = no_branch _ (item_at im limit b _ h e) refl
+  branch_is form.Other h e = no_branch _ (item_at im limit b _ h e) refl
 
 -- ---- a branch, and what is done where it is skipped
 
@@ -102,23 +102,23 @@ module _ (im : Image) (k : Run ℕ reading.Flow) where
   abbrev els : Flow → Run ℕ Flow
   els = or_else (λ env n. flows (k env n))
 
-  left-scope : (base : ℕ) (r : Result ℕ reading.Flow) → flows (leaving base r) ≡ and_then (leaving base (flows r)) els
-  left-scope base (got reading.onward env n) = refl
-  left-scope base (got reading.breaks env n) = refl
-  left-scope base (got reading.continues env n) = refl
-  left-scope base (ended o n) = refl
+  left_scope : (base : ℕ) (r : Result ℕ reading.Flow) → flows (leaving base r) ≡ and_then (leaving base (flows r)) els
+  left_scope base (got reading.onward env n) = refl
+  left_scope base (got reading.breaks env n) = refl
+  left_scope base (got reading.continues env n) = refl
+  left_scope base (ended o n) = refl
 
-  by-test : (b : Body ℕ) (r : Result ℕ Bool) →
+  by_test : (b : Body ℕ) (r : Result ℕ Bool) →
       flows (and_then r (λ t. when t (scoped (body (text_of im) plainly b)) k))
-      ≡ and_then (and_then r (λ t. tested im t (λ env n. leaving (length env) (bodyRun im b env n)))) els
-  by-test b (got true env n) = left-scope (length env) (body (text_of im) plainly b env n)
-  by-test b (got false env n) = refl
-  by-test b (ended o n) = refl
+      ≡ and_then (and_then r (λ t. tested im t (λ env n. leaving (length env) (body_run im b env n)))) els
+  by_test b (got true env n) = left_scope (length env) (body (text_of im) plainly b env n)
+  by_test b (got false env n) = refl
+  by_test b (ended o n) = refl
 
-  branch-or : (p : Branch ℕ) (env : Env ℕ) (n : ℕ) →
-      flows (branchOr (text_of im) plainly p k env n) ≡ and_then (lists.branchOf im p env n) els
-  unfolding branchOr
-  branch-or (branch c b) env n = by-test b (taken (text_of im) c env n)
+  branch_or_lem : (p : Branch ℕ) (env : Env ℕ) (n : ℕ) →
+      flows (branch_or (text_of im) plainly p k env n) ≡ and_then (lists.branch_of im p env n) els
+  unfolding branch_or
+  branch_or_lem (branch c b) env n = by_test b (taken (text_of im) c env n)
 
 unskips : (r : Result ℕ Flow) → and_then r (or_else (give Onward)) ≡ and_then r (λ f. result_of (unskipped f))
 unskips (got Onward env n) = refl
@@ -134,167 +134,167 @@ module _ (im : Image) (limit : ℕ) (other : Optional) where
   abbrev else_in : Else ℕ → Run ℕ Flow
   else_in x env n = flows (reading.or_else (text_of im) plainly x env n)
 
-  no-else : elseBy (itemUnder im limit) other ≡ noElse → ElseIs im limit other elses.Missing
+  no_else_lem : else_by (item_under im limit) other ≡ no_else → ElseIs im limit other elses.Missing
   unfolding reading.or_else
-  no-else e env n = ap (λ x. else_in x env n) e
+  no_else_lem e env n = ap (λ x. else_in x env n) e
 
-  else-some : (s : ℕ) (i : Item ℕ) → other ≡ Some s → itemUnder im limit s ≡ i → elseBy (itemUnder im limit) other ≡ asElse i
-  else-some s i h e = ap (elseBy (itemUnder im limit)) h ∙ ap asElse e
+  else_some : (s : ℕ) (i : Item ℕ) → other ≡ Some s → item_under im limit s ≡ i → else_by (item_under im limit) other ≡ as_else i
+  else_some s i h e = ap (else_by (item_under im limit)) h ∙ ap as_else e
 
-  else_is : (x : StatementForm) (s : ℕ) → other ≡ Some s → s < limit → statementOf im s ≡ x → ElseIs im limit other (else_of x s)
+  else_is : (x : StatementForm) (s : ℕ) → other ≡ Some s → s < limit → statement_of im s ≡ x → ElseIs im limit other (else_of x s)
   unfolding reading.or_else stmt
-  else_is (form.Declaration y n) s g h e = no-else (else-some s _ g (item-at im limit s _ h e))
-  else_is (form.Expression n) s g h e = no-else (else-some s _ g (item-at im limit s _ h e))
-  else_is (form.Return n) s g h e = no-else (else-some s _ g (item-at im limit s _ h e))
-  else_is form.ReturnAlone s g h e = no-else (else-some s _ g (item-at im limit s _ h e))
+  else_is (form.Declaration y n) s g h e = no_else_lem (else_some s _ g (item_at im limit s _ h e))
+  else_is (form.Expression n) s g h e = no_else_lem (else_some s _ g (item_at im limit s _ h e))
+  else_is (form.Return n) s g h e = no_else_lem (else_some s _ g (item_at im limit s _ h e))
+  else_is form.ReturnAlone s g h e = no_else_lem (else_some s _ g (item_at im limit s _ h e))
   else_is (form.Conditional c o) s g h e = (
     h,
-    λ env n. ap (λ x. else_in x env n) (else-some s _ g (item-at im limit s _ h e))
-        ∙ sym (ap (λ y. compound im y env n) (statement-at im s (form.Conditional c o) e)),
+    λ env n. ap (λ x. else_in x env n) (else_some s _ g (item_at im limit s _ h e))
+        ∙ sym (ap (λ y. compound im y env n) (statement_at im s (form.Conditional c o) e)),
   )
   else_is (form.Branch c list) s g h e =
-      λ env n. ap (λ x. else_in x env n) (else-some s _ g (item-at im limit s (form.Branch c list) h e))
-      ∙ branch-or im (give reading.onward) (asBranch (itemBy im (form.Branch c list) (itemUnder im s))) env n
-      ∙ unskips (branchIn im (itemBy im (form.Branch c list) (itemUnder im s)) env n)
-      ∙ sym (ap (λ i. and_then (branchIn im i env n) (λ f. result_of (unskipped f))) (item-at im limit s (form.Branch c list) h e))
-  else_is (form.While n list) s g h e = no-else (else-some s _ g (item-at im limit s _ h e))
-  else_is (form.Loop list) s g h e = no-else (else-some s _ g (item-at im limit s _ h e))
-  else_is form.Break s g h e = no-else (else-some s _ g (item-at im limit s _ h e))
-  else_is form.Continue s g h e = no-else (else-some s _ g (item-at im limit s _ h e))
-  else_is form.Other s g h e = no-else (else-some s _ g (item-at im limit s _ h e))
+      λ env n. ap (λ x. else_in x env n) (else_some s _ g (item_at im limit s (form.Branch c list) h e))
+      ∙ branch_or_lem im (give reading.onward) (as_branch (item_by_lem im (form.Branch c list) (item_under im s))) env n
+      ∙ unskips (branch_in im (item_by_lem im (form.Branch c list) (item_under im s)) env n)
+      ∙ sym (ap (λ i. and_then (branch_in im i env n) (λ f. result_of (unskipped f))) (item_at im limit s (form.Branch c list) h e))
+  else_is (form.While n list) s g h e = no_else_lem (else_some s _ g (item_at im limit s _ h e))
+  else_is (form.Loop list) s g h e = no_else_lem (else_some s _ g (item_at im limit s _ h e))
+  else_is form.Break s g h e = no_else_lem (else_some s _ g (item_at im limit s _ h e))
+  else_is form.Continue s g h e = no_else_lem (else_some s _ g (item_at im limit s _ h e))
+  else_is form.Other s g h e = no_else_lem (else_some s _ g (item_at im limit s _ h e))
 
 -- ---- a statement that holds statements
 
 module _ (im : Image) (s : ℕ) where
-  made : (x : StatementForm) → statementOf im s ≡ x → (env : Env ℕ) (n : ℕ)
-      → statementRun im s env n ≡ compound im (asStatement (itemBy im x (itemUnder im s))) env n
-  made x e env n = ap (λ y. compound im y env n) (statement-at im s x e)
+  made : (x : StatementForm) → statement_of im s ≡ x → (env : Env ℕ) (n : ℕ)
+      → statement_run im s env n ≡ compound im (as_statement (item_by_lem im x (item_under im s))) env n
+  made x e env n = ap (λ y. compound im y env n) (statement_at im s x e)
 
-  compound-is : (x : StatementForm) → statementOf im s ≡ x → CompoundIs im s (compoundOf x)
+  compound_is : (x : StatementForm) → statement_of im s ≡ x → CompoundIs im s (compound_of x)
   unfolding stmt
-  compound-is (form.Declaration y n) e = made _ e
-  compound-is (form.Expression n) e = made _ e
-  compound-is (form.Return n) e = made _ e
-  compound-is form.ReturnAlone e = made _ e
-  compound-is (form.Conditional b other) e =
+  compound_is (form.Declaration y n) e = made _ e
+  compound_is (form.Expression n) e = made _ e
+  compound_is (form.Return n) e = made _ e
+  compound_is form.ReturnAlone e = made _ e
+  compound_is (form.Conditional b other) e =
       λ env n. made _ e env n
-      ∙ branch-or im (reading.or_else (text_of im) plainly (elseBy (itemUnder im s) other)) (asBranch (itemUnder im s b)) env n
-  compound-is (form.Branch n list) e = made _ e
-  compound-is (form.While n list) e =
+      ∙ branch_or_lem im (reading.or_else (text_of im) plainly (else_by (item_under im s) other)) (as_branch (item_under im s b)) env n
+  compound_is (form.Branch n list) e = made _ e
+  compound_is (form.While n list) e =
       λ env m. made _ e env m
-      ∙ ap (λ b. run_of im true (some (exprTree im n)) b env m) (sym (whole-list im s list))
-  compound-is (form.Loop list) e =
-      λ env m. made _ e env m ∙ ap (λ b. run_of im true none b env m) (sym (whole-list im s list))
-  compound-is form.Break e = made _ e
-  compound-is form.Continue e = made _ e
-  compound-is form.Other e = made _ e
+      ∙ ap (λ b. run_of im true (some (expr_tree im n)) b env m) (sym (whole_list im s list))
+  compound_is (form.Loop list) e =
+      λ env m. made _ e env m ∙ ap (λ b. run_of im true none b env m) (sym (whole_list im s list))
+  compound_is form.Break e = made _ e
+  compound_is form.Continue e = made _ e
+  compound_is form.Other e = made _ e
 
 -- ---- what stands at an index
 
 module _ (b p : List ℕ) (c : Counts) where
   abbrev here : Image
-  here = imageFound b p c
+  here = image_found b p c
 
-  pub branch-late : (limit i : ℕ) → limit ≤ i → BranchIs here limit i branches.Missing
-  branch-late limit i h = no-branch here limit i none-item (under-later (λ _. none-item) (itemTree here) limit i h) refl
+  pub branch_late : (limit i : ℕ) → limit ≤ i → BranchIs here limit i branches.Missing
+  branch_late limit i h = no_branch here limit i none_item (under_later (λ _. none_item) (item_tree here) limit i h) refl
 
-  pub branch-view : (limit i : ℕ) (x : StatementForm) (r : BranchForm) → i < limit → x ≡ statementOf here i → r ≡ branchOf x → BranchIs here limit i r
-  branch-view limit i x r h e f = subst (BranchIs here limit i) (sym f) (branch-is here limit i x h (sym e))
+  pub branch_view : (limit i : ℕ) (x : StatementForm) (r : BranchForm) → i < limit → x ≡ statement_of here i → r ≡ branch_of x → BranchIs here limit i r
+  branch_view limit i x r h e f = subst (BranchIs here limit i) (sym f) (branch_is here limit i x h (sym e))
 
   module _ (limit : ℕ) (other : Optional) where
     pub no_other : other ≡ None → ElseIs here limit other elses.Missing
-    no_other e = no-else here limit other (ap (elseBy (itemUnder here limit)) e)
+    no_other e = no_else_lem here limit other (ap (else_by (item_under here limit)) e)
 
-    pub other-late : (s : ℕ) → other ≡ Some s → limit ≤ s → ElseIs here limit other elses.Missing
-    other-late s g h = no-else here limit other (else-some here limit other s none-item g (under-later (λ _. none-item) (itemTree here) limit s h))
+    pub other_late : (s : ℕ) → other ≡ Some s → limit ≤ s → ElseIs here limit other elses.Missing
+    other_late s g h = no_else_lem here limit other (else_some here limit other s none_item g (under_later (λ _. none_item) (item_tree here) limit s h))
 
-    pub else-view : (s : ℕ) (x : StatementForm) (r : ElseForm) → other ≡ Some s → s < limit → x ≡ statementOf here s → r ≡ else_of x s → ElseIs here limit other r
-    else-view s x r g h e f = subst (ElseIs here limit other) (sym f) (else_is here limit other x s g h (sym e))
+    pub else_view : (s : ℕ) (x : StatementForm) (r : ElseForm) → other ≡ Some s → s < limit → x ≡ statement_of here s → r ≡ else_of x s → ElseIs here limit other r
+    else_view s x r g h e f = subst (ElseIs here limit other) (sym f) (else_is here limit other x s g h (sym e))
 
-  pub compound-view : (s : ℕ) (x : StatementForm) (r : CompoundForm) → x ≡ statementOf here s → r ≡ compoundOf x → CompoundIs here s r
-  compound-view s x r e f = subst (CompoundIs here s) (sym f) (compound-is here s x (sym e))
+  pub compound_view : (s : ℕ) (x : StatementForm) (r : CompoundForm) → x ≡ statement_of here s → r ≡ compound_of x → CompoundIs here s r
+  compound_view s x r e f = subst (CompoundIs here s) (sym f) (compound_is here s x (sym e))
 
 -- ---- the forms of a view
 
 module _ (x : StatementForm) where
-  pub branch-form : (n : Optional) (list : Interval) → x ≡ form.Branch n list → branches.Branch n list ≡ branchOf x
-  branch-form n list e = ap branchOf (sym e)
+  pub branch_form : (n : Optional) (list : Interval) → x ≡ form.Branch n list → branches.Branch n list ≡ branch_of x
+  branch_form n list e = ap branch_of (sym e)
 
-  pub compound-conditional : (b : ℕ) (o : Optional) → x ≡ form.Conditional b o → compounds.Conditional b o ≡ compoundOf x
-  compound-conditional b o e = ap compoundOf (sym e)
+  pub compound_conditional : (b : ℕ) (o : Optional) → x ≡ form.Conditional b o → compounds.Conditional b o ≡ compound_of x
+  compound_conditional b o e = ap compound_of (sym e)
 
-  pub else-branch-form : (s : ℕ) (n : Optional) (list : Interval) → x ≡ form.Branch n list → elses.Branch s ≡ else_of x s
-  else-branch-form s n list e = ap (λ y. else_of y s) (sym e)
+  pub else_branch_form : (s : ℕ) (n : Optional) (list : Interval) → x ≡ form.Branch n list → elses.Branch s ≡ else_of x s
+  else_branch_form s n list e = ap (λ y. else_of y s) (sym e)
 
-  pub else-conditional-form : (s b : ℕ) (o : Optional) → x ≡ form.Conditional b o → elses.Conditional s ≡ else_of x s
-  else-conditional-form s b o e = ap (λ y. else_of y s) (sym e)
+  pub else_conditional_form : (s b : ℕ) (o : Optional) → x ≡ form.Conditional b o → elses.Conditional s ≡ else_of x s
+  else_conditional_form s b o e = ap (λ y. else_of y s) (sym e)
 
-  pub compound-while : (n : ℕ) (list : Interval) → x ≡ form.While n list → compounds.Loop (Some n) list ≡ compoundOf x
-  compound-while n list e = ap compoundOf (sym e)
+  pub compound_while : (n : ℕ) (list : Interval) → x ≡ form.While n list → compounds.Loop (Some n) list ≡ compound_of x
+  compound_while n list e = ap compound_of (sym e)
 
-  pub compound-loop : (list : Interval) → x ≡ form.Loop list → compounds.Loop None list ≡ compoundOf x
-  compound-loop list e = ap compoundOf (sym e)
+  pub compound_loop : (list : Interval) → x ≡ form.Loop list → compounds.Loop None list ≡ compound_of x
+  compound_loop list e = ap compound_of (sym e)
 
 -- every form but a branch
-pub not-branch : (x : StatementForm) → OneOf (0 ∷ 1 ∷ 2 ∷ 3 ∷ 4 ∷ 6 ∷ 7 ∷ 8 ∷ 9 ∷ 10 ∷ []) (tag_of forms.the_type x) → branches.Missing ≡ branchOf x
-not-branch (form.Declaration y n) h = refl
-not-branch (form.Expression n) h = refl
-not-branch (form.Return n) h = refl
-not-branch form.ReturnAlone h = refl
-not-branch (form.Conditional b o) h = refl
-not-branch (form.Branch n list) h = absurd (miss (0 ∷ 1 ∷ 2 ∷ 3 ∷ 4 ∷ 6 ∷ 7 ∷ 8 ∷ 9 ∷ 10 ∷ []) 5 tt h)
-not-branch (form.While n list) h = refl
-not-branch (form.Loop list) h = refl
-not-branch form.Break h = refl
-not-branch form.Continue h = refl
-not-branch form.Other h = refl
+pub not_branch : (x : StatementForm) → OneOf (0 ∷ 1 ∷ 2 ∷ 3 ∷ 4 ∷ 6 ∷ 7 ∷ 8 ∷ 9 ∷ 10 ∷ []) (tag_of forms.the_type x) → branches.Missing ≡ branch_of x
+not_branch (form.Declaration y n) h = refl
+not_branch (form.Expression n) h = refl
+not_branch (form.Return n) h = refl
+not_branch form.ReturnAlone h = refl
+not_branch (form.Conditional b o) h = refl
+not_branch (form.Branch n list) h = absurd (miss (0 ∷ 1 ∷ 2 ∷ 3 ∷ 4 ∷ 6 ∷ 7 ∷ 8 ∷ 9 ∷ 10 ∷ []) 5 tt h)
+not_branch (form.While n list) h = refl
+not_branch (form.Loop list) h = refl
+not_branch form.Break h = refl
+not_branch form.Continue h = refl
+not_branch form.Other h = refl
 
 -- every form but a branch and a conditional
-pub not-else : (x : StatementForm) (s : ℕ) → OneOf (0 ∷ 1 ∷ 2 ∷ 3 ∷ 6 ∷ 7 ∷ 8 ∷ 9 ∷ 10 ∷ []) (tag_of forms.the_type x) → elses.Missing ≡ else_of x s
-not-else (form.Declaration y n) s h = refl
-not-else (form.Expression n) s h = refl
-not-else (form.Return n) s h = refl
-not-else form.ReturnAlone s h = refl
-not-else (form.Conditional b o) s h = absurd (miss (0 ∷ 1 ∷ 2 ∷ 3 ∷ 6 ∷ 7 ∷ 8 ∷ 9 ∷ 10 ∷ []) 4 tt h)
-not-else (form.Branch n list) s h = absurd (miss (0 ∷ 1 ∷ 2 ∷ 3 ∷ 6 ∷ 7 ∷ 8 ∷ 9 ∷ 10 ∷ []) 5 tt h)
-not-else (form.While n list) s h = refl
-not-else (form.Loop list) s h = refl
-not-else form.Break s h = refl
-not-else form.Continue s h = refl
-not-else form.Other s h = refl
+pub not_else : (x : StatementForm) (s : ℕ) → OneOf (0 ∷ 1 ∷ 2 ∷ 3 ∷ 6 ∷ 7 ∷ 8 ∷ 9 ∷ 10 ∷ []) (tag_of forms.the_type x) → elses.Missing ≡ else_of x s
+not_else (form.Declaration y n) s h = refl
+not_else (form.Expression n) s h = refl
+not_else (form.Return n) s h = refl
+not_else form.ReturnAlone s h = refl
+not_else (form.Conditional b o) s h = absurd (miss (0 ∷ 1 ∷ 2 ∷ 3 ∷ 6 ∷ 7 ∷ 8 ∷ 9 ∷ 10 ∷ []) 4 tt h)
+not_else (form.Branch n list) s h = absurd (miss (0 ∷ 1 ∷ 2 ∷ 3 ∷ 6 ∷ 7 ∷ 8 ∷ 9 ∷ 10 ∷ []) 5 tt h)
+not_else (form.While n list) s h = refl
+not_else (form.Loop list) s h = refl
+not_else form.Break s h = refl
+not_else form.Continue s h = refl
+not_else form.Other s h = refl
 
 -- every form but a conditional and a loop
-pub not-compound : (x : StatementForm) → OneOf (0 ∷ 1 ∷ 2 ∷ 3 ∷ 5 ∷ 8 ∷ 9 ∷ 10 ∷ []) (tag_of forms.the_type x) → compounds.Missing ≡ compoundOf x
-not-compound (form.Declaration y n) h = refl
-not-compound (form.Expression n) h = refl
-not-compound (form.Return n) h = refl
-not-compound form.ReturnAlone h = refl
-not-compound (form.Conditional b o) h = absurd (miss (0 ∷ 1 ∷ 2 ∷ 3 ∷ 5 ∷ 8 ∷ 9 ∷ 10 ∷ []) 4 tt h)
-not-compound (form.Branch n list) h = refl
-not-compound (form.While n list) h = absurd (miss (0 ∷ 1 ∷ 2 ∷ 3 ∷ 5 ∷ 8 ∷ 9 ∷ 10 ∷ []) 6 tt h)
-not-compound (form.Loop list) h = absurd (miss (0 ∷ 1 ∷ 2 ∷ 3 ∷ 5 ∷ 8 ∷ 9 ∷ 10 ∷ []) 7 tt h)
-not-compound form.Break h = refl
-not-compound form.Continue h = refl
-not-compound form.Other h = refl
+pub not_compound : (x : StatementForm) → OneOf (0 ∷ 1 ∷ 2 ∷ 3 ∷ 5 ∷ 8 ∷ 9 ∷ 10 ∷ []) (tag_of forms.the_type x) → compounds.Missing ≡ compound_of x
+not_compound (form.Declaration y n) h = refl
+not_compound (form.Expression n) h = refl
+not_compound (form.Return n) h = refl
+not_compound form.ReturnAlone h = refl
+not_compound (form.Conditional b o) h = absurd (miss (0 ∷ 1 ∷ 2 ∷ 3 ∷ 5 ∷ 8 ∷ 9 ∷ 10 ∷ []) 4 tt h)
+not_compound (form.Branch n list) h = refl
+not_compound (form.While n list) h = absurd (miss (0 ∷ 1 ∷ 2 ∷ 3 ∷ 5 ∷ 8 ∷ 9 ∷ 10 ∷ []) 6 tt h)
+not_compound (form.Loop list) h = absurd (miss (0 ∷ 1 ∷ 2 ∷ 3 ∷ 5 ∷ 8 ∷ 9 ∷ 10 ∷ []) 7 tt h)
+not_compound form.Break h = refl
+not_compound form.Continue h = refl
+not_compound form.Other h = refl
 
 -- ---- a turn's end
 
 module _ (l : Bool) (f : Flow) where
-  pub turn-breaks : l ≡ true → f ≡ Breaks → Finish Onward ≡ turnAfter l f
-  turn-breaks d e = rw (d, e) refl
+  pub turn_breaks : l ≡ true → f ≡ Breaks → Finish Onward ≡ turn_after l f
+  turn_breaks d e = rw (d, e) refl
 
-  pub turn-skipped : l ≡ true → f ≡ Skipped → Finish Onward ≡ turnAfter l f
-  turn-skipped d e = rw (d, e) refl
+  pub turn_skipped : l ≡ true → f ≡ Skipped → Finish Onward ≡ turn_after l f
+  turn_skipped d e = rw (d, e) refl
 
-  pub turn-over : (o : Outcome) → l ≡ true → f ≡ Over o → Finish (Over o) ≡ turnAfter l f
-  turn-over o d e = rw (d, e) refl
+  pub turn_over : (o : Outcome) → l ≡ true → f ≡ Over o → Finish (Over o) ≡ turn_after l f
+  turn_over o d e = rw (d, e) refl
 
-  pub turn-list : l ≡ false → Finish f ≡ turnAfter l f
-  turn-list d = rw d refl
+  pub turn_list : l ≡ false → Finish f ≡ turn_after l f
+  turn_list d = rw d refl
 
-pub not-skipped : (f : Flow) → OneOf (0 ∷ 1 ∷ 2 ∷ 4 ∷ []) (tag_of flow.the_type f) → f ≡ unskipped f
-not-skipped Onward h = refl
-not-skipped Breaks h = refl
-not-skipped Continues h = refl
-not-skipped Skipped h = absurd (miss (0 ∷ 1 ∷ 2 ∷ 4 ∷ []) 3 tt h)
-not-skipped (Over o) h = refl
+pub not_skipped : (f : Flow) → OneOf (0 ∷ 1 ∷ 2 ∷ 4 ∷ []) (tag_of flow.the_type f) → f ≡ unskipped f
+not_skipped Onward h = refl
+not_skipped Breaks h = refl
+not_skipped Continues h = refl
+not_skipped Skipped h = absurd (miss (0 ∷ 1 ∷ 2 ∷ 4 ∷ []) 3 tt h)
+not_skipped (Over o) h = refl

@@ -1,7 +1,7 @@
 -- The bindings that an environment stands for. Assumes nothing.
 use Rattle.std.specs.Prelude.{ℕ, zero, suc, ◌≤◌, ◌≡◌, List, [], ◌∷◌, length, get_or}
 use Rattle.rl_spec.specs.Run as run
-use Rattle.rl_spec.specs.Runner.{value_of, valueOfWords}
+use Rattle.rl_spec.specs.Runner.{value_of, value_of_words}
 use Rattle.rl_statements.specs.declared.types.Binding.{Binding}
 use Rattle.rl_statements.specs.declared.types.Env.{Env}
 
@@ -9,13 +9,13 @@ use Rattle.rl_statements.specs.declared.types.Env.{Env}
 abbrev pub blank : Binding
 blank = record { name = 0; sort = 0; payload = 0 }
 
-abbrev pub boundOf : Binding → run.Bound ℕ
-boundOf b = run.named b.name (value_of (valueOfWords b.sort b.payload))
+abbrev pub bound_of : Binding → run.Bound ℕ
+bound_of b = run.named b.name (value_of (value_of_words b.sort b.payload))
 
 -- the first k slots, the latest first
-unfoldable pub boundsIn : List Binding → ℕ → run.Env ℕ
-boundsIn slots zero = []
-boundsIn slots (suc k) = boundOf (get_or slots k blank) ∷ boundsIn slots k
+unfoldable pub bounds_in : List Binding → ℕ → run.Env ℕ
+bounds_in slots zero = []
+bounds_in slots (suc k) = bound_of (get_or slots k blank) ∷ bounds_in slots k
 
 -- at most 128 of 128 slots are bound
 pub record Held (e : Env) : Type 0 where
@@ -23,4 +23,4 @@ pub record Held (e : Env) : Type 0 where
   pub slots : length e.slots ≡ 128
 
 abbrev pub bounds : Env → run.Env ℕ
-bounds e = boundsIn e.slots e.len
+bounds e = bounds_in e.slots e.len

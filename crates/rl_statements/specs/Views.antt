@@ -16,20 +16,20 @@ use Rattle.rl_statements.specs.declared.types.ElseForm.{ElseForm}
 use Rattle.rl_statements.specs.declared.types.ElseForm.TheVariants as else
 use Rattle.rl_statements.specs.declared.types.CompoundForm.{CompoundForm}
 use Rattle.rl_statements.specs.declared.types.CompoundForm.TheVariants as compound
-use Rattle.rl_statements.specs.Lists.{listRun, statementRun, branchRun, otherwiseRun, unskipped}
+use Rattle.rl_statements.specs.Lists.{list_run, statement_run, branch_run, otherwise_run, unskipped}
 
-abbrev pub branchOf : StatementForm → BranchForm
-branchOf (form.Declaration x n) = branch.Missing
-branchOf (form.Expression n) = branch.Missing
-branchOf (form.Return n) = branch.Missing
-branchOf form.ReturnAlone = branch.Missing
-branchOf (form.Conditional b e) = branch.Missing
-branchOf (form.Branch n list) = branch.Branch n list
-branchOf (form.While n list) = branch.Missing
-branchOf (form.Loop list) = branch.Missing
-branchOf form.Break = branch.Missing
-branchOf form.Continue = branch.Missing
-branchOf form.Other = branch.Missing
+abbrev pub branch_of : StatementForm → BranchForm
+branch_of (form.Declaration x n) = branch.Missing
+branch_of (form.Expression n) = branch.Missing
+branch_of (form.Return n) = branch.Missing
+branch_of form.ReturnAlone = branch.Missing
+branch_of (form.Conditional b e) = branch.Missing
+branch_of (form.Branch n list) = branch.Branch n list
+branch_of (form.While n list) = branch.Missing
+branch_of (form.Loop list) = branch.Missing
+branch_of form.Break = branch.Missing
+branch_of form.Continue = branch.Missing
+branch_of form.Other = branch.Missing
 
 abbrev pub else_of : StatementForm → ℕ → ElseForm
 else_of (form.Declaration x n) s = else.Missing
@@ -44,18 +44,18 @@ else_of form.Break s = else.Missing
 else_of form.Continue s = else.Missing
 else_of form.Other s = else.Missing
 
-abbrev pub compoundOf : StatementForm → CompoundForm
-compoundOf (form.Declaration x n) = compound.Missing
-compoundOf (form.Expression n) = compound.Missing
-compoundOf (form.Return n) = compound.Missing
-compoundOf form.ReturnAlone = compound.Missing
-compoundOf (form.Conditional b e) = compound.Conditional b e
-compoundOf (form.Branch n list) = compound.Missing
-compoundOf (form.While n list) = compound.Loop (Some n) list
-compoundOf (form.Loop list) = compound.Loop None list
-compoundOf form.Break = compound.Missing
-compoundOf form.Continue = compound.Missing
-compoundOf form.Other = compound.Missing
+abbrev pub compound_of : StatementForm → CompoundForm
+compound_of (form.Declaration x n) = compound.Missing
+compound_of (form.Expression n) = compound.Missing
+compound_of (form.Return n) = compound.Missing
+compound_of form.ReturnAlone = compound.Missing
+compound_of (form.Conditional b e) = compound.Conditional b e
+compound_of (form.Branch n list) = compound.Missing
+compound_of (form.While n list) = compound.Loop (Some n) list
+compound_of (form.Loop list) = compound.Loop None list
+compound_of form.Break = compound.Missing
+compound_of form.Continue = compound.Missing
+compound_of form.Other = compound.Missing
 
 -- two runs of the same bindings and budget come to the same
 abbrev pub Alike : Run ℕ Flow → Run ℕ Flow → Type 0
@@ -71,16 +71,16 @@ or_else k (Over o) = result_of (Over o)
 
 -- the branch at b: a list below b
 abbrev pub BranchIs : Image → ℕ → ℕ → BranchForm → Type 0
-BranchIs im limit b (branch.Branch n list) = (b < limit) × Alike (branchRun im limit b) (listRun im b false false n list)
-BranchIs im limit b branch.Missing = Alike (branchRun im limit b) (result_of Onward)
+BranchIs im limit b (branch.Branch n list) = (b < limit) × Alike (branch_run im limit b) (list_run im b false false n list)
+BranchIs im limit b branch.Missing = Alike (branch_run im limit b) (result_of Onward)
 
 abbrev pub ElseIs : Image → ℕ → Optional → ElseForm → Type 0
-ElseIs im limit other (else.Branch s) = Alike (otherwiseRun im limit other) (λ env n. and_then (branchRun im limit s env n) (λ f. result_of (unskipped f)))
-ElseIs im limit other (else.Conditional s) = (s < limit) × Alike (otherwiseRun im limit other) (statementRun im s)
-ElseIs im limit other else.Missing = Alike (otherwiseRun im limit other) (result_of Onward)
+ElseIs im limit other (else.Branch s) = Alike (otherwise_run im limit other) (λ env n. and_then (branch_run im limit s env n) (λ f. result_of (unskipped f)))
+ElseIs im limit other (else.Conditional s) = (s < limit) × Alike (otherwise_run im limit other) (statement_run im s)
+ElseIs im limit other else.Missing = Alike (otherwise_run im limit other) (result_of Onward)
 
 abbrev pub CompoundIs : Image → ℕ → CompoundForm → Type 0
 CompoundIs im s (compound.Conditional b other) =
-    Alike (statementRun im s) (λ env n. and_then (branchRun im s b env n) (or_else (otherwiseRun im s other)))
-CompoundIs im s (compound.Loop n list) = Alike (statementRun im s) (listRun im s false true n list)
-CompoundIs im s compound.Missing = Alike (statementRun im s) (result_of (Over (Fault 1)))
+    Alike (statement_run im s) (λ env n. and_then (branch_run im s b env n) (or_else (otherwise_run im s other)))
+CompoundIs im s (compound.Loop n list) = Alike (statement_run im s) (list_run im s false true n list)
+CompoundIs im s compound.Missing = Alike (statement_run im s) (result_of (Over (Fault 1)))

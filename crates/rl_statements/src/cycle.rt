@@ -4,10 +4,10 @@ ghost use Rattle.std.specs.Prelude.{◌≡◌, ◌&&◌, ℕ, min, eqb, get_or};
 ghost use Rattle.rl_spec.specs.Image.{Image};
 ghost use Rattle.rl_spec.specs.Run.{named};
 ghost use Rattle.rl_spec.specs.Runner.{value_of};
-ghost use Rattle.rl_spec.specs.Found.{imageFound};
+ghost use Rattle.rl_spec.specs.Found.{image_found};
 ghost use Rattle.rl_machine.specs.Machine.{Room, Low};
-ghost use Rattle.rl_statements.specs.Bindings.{boundOf, Held};
-ghost use Rattle.rl_statements.specs.Lists.{listRun, branchRun, otherwiseRun, statementRun, unskipped, turnAfter, BeginsList, Sound, Runs};
+ghost use Rattle.rl_statements.specs.Bindings.{bound_of, Held};
+ghost use Rattle.rl_statements.specs.Lists.{list_run, branch_run, otherwise_run, statement_run, unskipped, turn_after, BeginsList, Sound, Runs};
 
 use crate::types::{Binding, BranchForm, CompoundForm, ElseForm, Env, Ran, Turn, Waiting};
 use crate::views::{branch_at, compound_at, else_at};
@@ -19,7 +19,7 @@ use rl_words::{value_of_words, value_payload, value_sort};
 
 // A name with its value. The value that the words stand for is this one.
 pub fn binding(name: u16, v: Value) -> Binding
-    ensures { boundOf result ≡ named name (value_of v) }
+    ensures { bound_of result ≡ named name (value_of v) }
 {
     Binding {
         name,
@@ -63,7 +63,7 @@ fn first_state(looping: bool, condition: Optional) -> State
 
 // After a turn: another one, or the end.
 fn turn_after(looping: bool, f: Flow) -> Turn
-    ensures { result ≡ turnAfter looping f }
+    ensures { result ≡ turn_after looping f }
 {
     if looping {
         return match f {
@@ -103,9 +103,9 @@ pub fn list(
     env: Env,
     budget: u32,
 ) -> Ran
-    requires sound { Sound (imageFound image.now starts.now counts) classes.now }
+    requires sound { Sound (image_found image.now starts.now counts) classes.now }
     requires held { Held env }
-    ensures { Runs (listRun (imageFound image.now starts.now counts) bound outermost looping condition body) env budget result }
+    ensures { Runs (list_run (image_found image.now starts.now counts) bound outermost looping condition body) env budget result }
 {
     let mut e = env;
     let mut left = budget;
@@ -266,9 +266,9 @@ fn branch(
     env: Env,
     left: u32,
 ) -> Ran
-    requires sound { Sound (imageFound image.now starts.now counts) classes.now }
+    requires sound { Sound (image_found image.now starts.now counts) classes.now }
     requires held { Held env }
-    ensures { Runs (branchRun (imageFound image.now starts.now counts) limit b) env left result }
+    ensures { Runs (branch_run (image_found image.now starts.now counts) limit b) env left result }
 {
     let form = branch_at(image, starts, counts, b, limit);
     match form {
@@ -295,9 +295,9 @@ fn otherwise(
     env: Env,
     left: u32,
 ) -> Ran
-    requires sound { Sound (imageFound image.now starts.now counts) classes.now }
+    requires sound { Sound (image_found image.now starts.now counts) classes.now }
     requires held { Held env }
-    ensures { Runs (otherwiseRun (imageFound image.now starts.now counts) limit other) env left result }
+    ensures { Runs (otherwise_run (image_found image.now starts.now counts) limit other) env left result }
 {
     let form = else_at(image, starts, counts, other, limit);
     match form {
@@ -331,9 +331,9 @@ fn statement(
     env: Env,
     left: u32,
 ) -> Ran
-    requires sound { Sound (imageFound image.now starts.now counts) classes.now }
+    requires sound { Sound (image_found image.now starts.now counts) classes.now }
     requires held { Held env }
-    ensures { Runs (statementRun (imageFound image.now starts.now counts) s) env left result }
+    ensures { Runs (statement_run (image_found image.now starts.now counts) s) env left result }
 {
     let form = compound_at(image, starts, counts, s);
     match form {

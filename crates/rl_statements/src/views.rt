@@ -1,14 +1,14 @@
 // Statements that hold statements, by their parts.
 ghost use Rattle.std.specs.Prelude.{◌≡◌};
-ghost use Rattle.rl_spec.specs.Found.{imageFound};
-ghost use Rattle.rl_statements.specs.Views.{branchOf, else_of, compoundOf, BranchIs, ElseIs, CompoundIs};
+ghost use Rattle.rl_spec.specs.Found.{image_found};
+ghost use Rattle.rl_statements.specs.Views.{branch_of, else_of, compound_of, BranchIs, ElseIs, CompoundIs};
 
 use crate::types::{BranchForm, CompoundForm, ElseForm};
 use rl_records::statement_at;
 use rl_spec::{Counts, Optional, StatementForm};
 
 fn branch_of(form: StatementForm) -> BranchForm
-    ensures { result ≡ branchOf form }
+    ensures { result ≡ branch_of form }
 {
     match form {
         StatementForm::Branch { condition, body } => BranchForm::Branch { condition, body },
@@ -27,7 +27,7 @@ fn else_of(form: StatementForm, s: u16) -> ElseForm
 }
 
 fn compound_of(form: StatementForm) -> CompoundForm
-    ensures { result ≡ compoundOf form }
+    ensures { result ≡ compound_of form }
 {
     match form {
         StatementForm::Conditional { branch, other } => CompoundForm::Conditional { branch, other },
@@ -45,7 +45,7 @@ fn compound_of(form: StatementForm) -> CompoundForm
 
 // The branch at an index below a limit.
 pub fn branch_at(image: &[u8], starts: &[u16], counts: Counts, b: u16, limit: u16) -> BranchForm
-    ensures { BranchIs (imageFound image.now starts.now counts) limit b result }
+    ensures { BranchIs (image_found image.now starts.now counts) limit b result }
 {
     if limit <= b {
         return BranchForm::Missing;
@@ -61,7 +61,7 @@ pub fn else_at(
     other: Optional,
     limit: u16,
 ) -> ElseForm
-    ensures { ElseIs (imageFound image.now starts.now counts) limit other result }
+    ensures { ElseIs (image_found image.now starts.now counts) limit other result }
 {
     let Optional::Some(s) = other else {
         return ElseForm::Missing;
@@ -73,7 +73,7 @@ pub fn else_at(
 }
 
 pub fn compound_at(image: &[u8], starts: &[u16], counts: Counts, s: u16) -> CompoundForm
-    ensures { CompoundIs (imageFound image.now starts.now counts) s result }
+    ensures { CompoundIs (image_found image.now starts.now counts) s result }
 {
     compound_of(statement_at(image, starts, counts, s))
 }

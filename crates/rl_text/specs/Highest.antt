@@ -2,6 +2,6 @@
 -- Assumes nothing.
 use Rattle.std.specs.Prelude.{ℕ, zero, suc, max, List, get_or}
 
-unfoldable pub highestOf : List ℕ → ℕ → ℕ
-highestOf s zero = 0
-highestOf s (suc n) = max (highestOf s n) (get_or s n 0)
+unfoldable pub highest_of : List ℕ → ℕ → ℕ
+highest_of s zero = 0
+highest_of s (suc n) = max (highest_of s n) (get_or s n 0)

@@ -1,6 +1,6 @@
 ghost use Rattle.std.specs.Prelude.{◌≡◌, cond, [], ◌∷◌, ◌+◌, ◌<◌, max, length, drop};
-ghost use Rattle.rl_text.specs.Highest.{highestOf};
-ghost use Rattle.rl_spec.specs.Utf8.{◌to◌, utf8Tail, begins, charWidth, utf8, is_scalar};
+ghost use Rattle.rl_text.specs.Highest.{highest_of};
+ghost use Rattle.rl_spec.specs.Utf8.{◌to◌, utf8_tail, begins, char_width, utf8, is_scalar};
 
 // Whether an octet from low to high stands at a place.
 fn octet(s: &[u8], at: usize, low: u8, high: u8) -> bool
@@ -19,7 +19,7 @@ fn octet(s: &[u8], at: usize, low: u8, high: u8) -> bool
 // 2 where a tail follows the octet at a place, else 0.
 fn two(s: &[u8], at: usize) -> usize
     requires { at < length s.now }
-    ensures { result ≡ cond (begins (utf8Tail ∷ []) (drop (at + 1) s.now)) 2 0 }
+    ensures { result ≡ cond (begins (utf8_tail ∷ []) (drop (at + 1) s.now)) 2 0 }
 {
     if octet(s, at + 1, 0x80, 0xBF) {
         return 2;
@@ -30,7 +30,7 @@ fn two(s: &[u8], at: usize) -> usize
 // 3 where an octet from low to high and a tail follow, else 0.
 fn three(s: &[u8], at: usize, low: u8, high: u8) -> usize
     requires { at < length s.now }
-    ensures { result ≡ cond (begins (low to high ∷ utf8Tail ∷ []) (drop (at + 1) s.now)) 3 0 }
+    ensures { result ≡ cond (begins (low to high ∷ utf8_tail ∷ []) (drop (at + 1) s.now)) 3 0 }
 {
     if octet(s, at + 1, low, high) {
         if octet(s, at + 2, 0x80, 0xBF) {
@@ -44,7 +44,7 @@ fn three(s: &[u8], at: usize, low: u8, high: u8) -> usize
 // 4 where an octet from low to high and two tails follow, else 0.
 fn four(s: &[u8], at: usize, low: u8, high: u8) -> usize
     requires { at < length s.now }
-    ensures { result ≡ cond (begins (low to high ∷ utf8Tail ∷ utf8Tail ∷ []) (drop (at + 1) s.now)) 4 0 }
+    ensures { result ≡ cond (begins (low to high ∷ utf8_tail ∷ utf8_tail ∷ []) (drop (at + 1) s.now)) 4 0 }
 {
     if octet(s, at + 1, low, high) {
         if octet(s, at + 2, 0x80, 0xBF) {
@@ -60,7 +60,7 @@ fn four(s: &[u8], at: usize, low: u8, high: u8) -> usize
 
 // The length of the character that starts at a place, 0 where none does.
 pub fn char_width(s: &[u8], at: usize) -> usize
-    ensures { result ≡ charWidth s.now at }
+    ensures { result ≡ char_width s.now at }
 {
     if s.len() <= at {
         return 0;
@@ -104,7 +104,7 @@ fn higher(a: u8, b: u8) -> u8
 
 // The highest octet of a text. The compiler makes many octets a step of it.
 fn highest(s: &[u8]) -> u8
-    ensures { result ≡ highestOf s.now (length s.now) }
+    ensures { result ≡ highest_of s.now (length s.now) }
 {
     let mut m = 0;
     let mut i = 0;

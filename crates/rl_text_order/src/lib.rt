@@ -1,13 +1,13 @@
 // Texts: equal, and ordered by their bytes. Eight bytes are compared at a step where both texts have eight more, the last ones one by one.
 ghost use Rattle.std.specs.Prelude.{◌≡◌, ◌+◌, ◌*◌, ◌≤◌, length};
 ghost use Rattle.rl_laws.specs.Words.{Word};
-ghost use Rattle.rl_spec.specs.Values.{sameText, lessText};
+ghost use Rattle.rl_spec.specs.Values.{same_text, less_text};
 
 use rl_bytes::least;
 
 // Whether two texts are the same, byte by byte.
 pub fn same_bytes(a: &[u8], b: &[u8]) -> bool
-    ensures { result ≡ sameText a.now b.now }
+    ensures { result ≡ same_text a.now b.now }
 {
     let mut i = 0;
     while i < a.len() {
@@ -24,7 +24,7 @@ pub fn same_bytes(a: &[u8], b: &[u8]) -> bool
 
 // Whether a text is less than another, byte by byte.
 pub fn less_bytes(a: &[u8], b: &[u8]) -> bool
-    ensures { result ≡ lessText a.now b.now }
+    ensures { result ≡ less_text a.now b.now }
 {
     let mut i = 0;
     while i < a.len() {
@@ -63,7 +63,7 @@ pub fn u64_be_at(s: &[u8], at: usize) -> u64
 
 // Whether two texts are the same.
 pub fn same_text(a: &[u8], b: &[u8]) -> bool
-    ensures { result ≡ sameText a.now b.now }
+    ensures { result ≡ same_text a.now b.now }
 {
     let n = a.len();
     if n < 8 {
@@ -86,7 +86,7 @@ pub fn same_text(a: &[u8], b: &[u8]) -> bool
 
 // Whether a text is less than another. The first byte decides most.
 pub fn less_text(a: &[u8], b: &[u8]) -> bool
-    ensures { result ≡ lessText a.now b.now }
+    ensures { result ≡ less_text a.now b.now }
 {
     if a.len() == 0 {
         return 0 < b.len();

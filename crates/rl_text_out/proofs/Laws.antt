@@ -10,10 +10,10 @@ use lib.ListN.{length, get_or, set, take}
 use lib.Seq.{paste, paste-suc}
 use borrow.Author.Tests.{lt-ltb, le-ltb}
 use Rattle.io.specs.Digits.{last_digits, IsDigitCount}
-use Rattle.rl_spec.specs.Message.{decimalBy, decimal}
-use Rattle.rl_laws.specs.Tests.{by-ltb}
-use Rattle.rl_text_out.specs.Put.{fitting, withText, afterText}
-use Rattle.rl_text_out.proofs.Joined.{after-past, with-past}
+use Rattle.rl_spec.specs.Message.{decimal_by, decimal}
+use Rattle.rl_laws.specs.Tests.{by_ltb}
+use Rattle.rl_text_out.specs.Put.{fitting, with_text, after_text}
+use Rattle.rl_text_out.proofs.Joined.{after_past, with_past}
 
 -- a turn of the copy
 pub copied_more : (d t w : List ℕ) (at i n : ℕ) → w ≡ paste d at t i → at + n ≤ length d → n ≤ length t → i < n
@@ -30,26 +30,26 @@ copied_all d t w at i n e h k =
 
 -- where there is no room
 module _ (out text : List ℕ) (at : ℕ) (h : length out ≤ at) where
-  pub after_none : at ≡ afterText out at text
-  after_none = sym (after-past out at text h)
+  pub after_none : at ≡ after_text out at text
+  after_none = sym (after_past out at text h)
 
-  pub with_none : out ≡ withText out at text
-  with_none = sym (with-past out at text h)
+  pub with_none : out ≡ with_text out at text
+  with_none = sym (with_past out at text h)
 
 -- where there is some
 module _ (out text : List ℕ) (at n : ℕ) (e : n ≡ min (length text) (length out - at)) where
-  pub after-some : at + n ≡ afterText out at text
-  unfolding afterText fitting
-  after-some = ap (λ (k : ℕ). at + k) e
+  pub after_some : at + n ≡ after_text out at text
+  unfolding after_text fitting
+  after_some = ap (λ (k : ℕ). at + k) e
 
-  pub with-some : (w : List ℕ) → w ≡ paste out at text n → w ≡ withText out at text
-  unfolding withText fitting
-  with-some w f = f ∙ ap (λ (k : ℕ). paste out at text k) e
+  pub with_some : (w : List ℕ) → w ≡ paste out at text n → w ≡ with_text out at text
+  unfolding with_text fitting
+  with_some w f = f ∙ ap (λ (k : ℕ). paste out at text k) e
 
 -- the fewest digits of a number are those of `decimal`
 
-by_digits : (k j n : ℕ) → IsDigitCount 10 1 n k → k ≤ j → last_digits 10 k n ≡ decimalBy j n
-unfolding decimalBy
+by_digits : (k j n : ℕ) → IsDigitCount 10 1 n k → k ≤ j → last_digits 10 k n ≡ decimal_by j n
+unfolding decimal_by
 by_digits zero j n f h = absurd (omega arith)
 by_digits (suc k) zero n f h = absurd (omega arith)
 by_digits (suc zero) (suc j) n f h =
@@ -66,9 +66,9 @@ by_digits (suc (suc k)) (suc j) n f h =
     rw (le-ltb n 10 (omega arith), lt-ltb (n % 10) 10 (omega arith), by_digits (suc k) j (n / 10) g (omega arith)) refl
 
 -- 64 bits have at most 20
-pub is-decimal : (n k : ℕ) → IsDigitCount 10 1 n k → n < 2 ^ 64 → last_digits 10 k n ≡ decimal n
+pub is_decimal : (n k : ℕ) → IsDigitCount 10 1 n k → n < 2 ^ 64 → last_digits 10 k n ≡ decimal n
 unfolding decimal
-is-decimal n k f h = by_digits k 20 n f (by-ltb k 21 (λ l. omega arith) (λ l. absurd (many l)))
+is_decimal n k f h = by_digits k 20 n f (by_ltb k 21 (λ l. omega arith) (λ l. absurd (many l)))
   where
     many : 21 ≤ k → ⊥
     many l =
@@ -77,8 +77,8 @@ is-decimal n k f h = by_digits k 20 n f (by-ltb k 21 (λ l. omega arith) (λ l. 
         omega arith
 
 module _ (out text : List ℕ) (at n k : ℕ) (f : IsDigitCount 10 1 n k) (h : n < 2 ^ 64) (e : take k text ≡ last_digits 10 k n) where
-  pub after-number : (r : ℕ) → r ≡ afterText out at (take k text) → r ≡ afterText out at (decimal n)
-  after-number r g = g ∙ ap (λ (t : List ℕ). afterText out at t) (e ∙ is-decimal n k f h)
+  pub after_number : (r : ℕ) → r ≡ after_text out at (take k text) → r ≡ after_text out at (decimal n)
+  after_number r g = g ∙ ap (λ (t : List ℕ). after_text out at t) (e ∙ is_decimal n k f h)
 
-  pub with_number : (w : List ℕ) → w ≡ withText out at (take k text) → w ≡ withText out at (decimal n)
-  with_number w g = g ∙ ap (λ (t : List ℕ). withText out at t) (e ∙ is-decimal n k f h)
+  pub with_number : (w : List ℕ) → w ≡ with_text out at (take k text) → w ≡ with_text out at (decimal n)
+  with_number w g = g ∙ ap (λ (t : List ℕ). with_text out at t) (e ∙ is_decimal n k f h)

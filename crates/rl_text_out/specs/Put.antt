@@ -7,9 +7,9 @@ unfoldable pub fitting : List ℕ → ℕ → List ℕ → ℕ
 fitting out at text = min (length text) (length out - at)
 
 -- the buffer with the text at the place, as far as there is room
-unfoldable pub withText : List ℕ → ℕ → List ℕ → List ℕ
-withText out at text = paste out at text (fitting out at text)
+unfoldable pub with_text : List ℕ → ℕ → List ℕ → List ℕ
+with_text out at text = paste out at text (fitting out at text)
 
 -- the place after the text
-unfoldable pub afterText : List ℕ → ℕ → List ℕ → ℕ
-afterText out at text = at + fitting out at text
+unfoldable pub after_text : List ℕ → ℕ → List ℕ → ℕ
+after_text out at text = at + fitting out at text

@@ -3,7 +3,7 @@
 ghost use Rattle.std.specs.Prelude.{◌≡◌, ◌+◌, ◌≤◌, length};
 ghost use Rattle.std.proofs.Math.Seq.{paste};
 ghost use Rattle.rl_spec.specs.Message.{decimal};
-ghost use Rattle.rl_text_out.specs.Put.{withText, afterText};
+ghost use Rattle.rl_text_out.specs.Put.{with_text, after_text};
 
 use rl_bytes::least;
 
@@ -20,8 +20,8 @@ fn copy(out: &mut [u8], at: usize, text: &[u8], n: usize)
 }
 
 pub fn put_text(out: &mut [u8], at: usize, text: &[u8]) -> usize
-    ensures value { result ≡ afterText out.old at text.now }
-    ensures out_after { out.new ≡ withText out.old at text.now }
+    ensures value { result ≡ after_text out.old at text.now }
+    ensures out_after { out.new ≡ with_text out.old at text.now }
 {
     if out.len() <= at {
         return at;
@@ -33,8 +33,8 @@ pub fn put_text(out: &mut [u8], at: usize, text: &[u8]) -> usize
 
 // A number in decimal digits, as few as hold it.
 pub fn put_number(out: &mut [u8], at: usize, n: u64) -> usize
-    ensures value { result ≡ afterText out.old at (decimal n) }
-    ensures out_after { out.new ≡ withText out.old at (decimal n) }
+    ensures value { result ≡ after_text out.old at (decimal n) }
+    ensures out_after { out.new ≡ with_text out.old at (decimal n) }
 {
     let mut text = [0u8; 20];
     let k = io::decimal(n, &mut text);

@@ -12,20 +12,20 @@ use borrow.Author.Tests.{ne_eqb}
 use Rattle.rl_spec.specs.declared.Counts.{Counts}
 use Rattle.rl_spec.specs.declared.Section.TheVariants.{Statements}
 use Rattle.rl_spec.specs.declared.Sort.{Sort}
-use Rattle.rl_spec.specs.Schema.{sortOf, width_of, fields_of}
+use Rattle.rl_spec.specs.Schema.{sort_of, width_of, fields_of}
 use Rattle.rl_spec.specs.declared.Optional.{Optional}
-use Rattle.rl_spec.specs.Ranges.{optionalField}
-use Rattle.rl_spec.specs.Image.{Field, num, recordOf, first, fieldIn, fields_at}
-use Rattle.rl_spec.specs.Found.{recordAs, recordFound, imageFound}
+use Rattle.rl_spec.specs.Ranges.{optional_field}
+use Rattle.rl_spec.specs.Image.{Field, num, record_of_lem, first, field_in_lem, fields_at}
+use Rattle.rl_spec.specs.Found.{record_as, record_found, image_found}
 use Rattle.rl_spec.specs.Make.{append, made}
-use Rattle.rl_laws.specs.Found.{record-found}
+use Rattle.rl_laws.specs.Found.{record_found_lem}
 use Rattle.rl_schema.specs.Codes.{codes}
-use Rattle.rl_schema.proofs.Rows.{codes-none, codes-more}
+use Rattle.rl_schema.proofs.Rows.{codes_none, codes_more}
 use Rattle.rl_arena.proofs.Laws.{width_small}
-use Rattle.rl_encode.specs.Words.{wordField, wordFields, wordRecord}
+use Rattle.rl_encode.specs.Words.{word_field, word_fields, word_record}
 use Rattle.rl_context.specs.Does.{State}
-use Rattle.rl_context.proofs.Copying.{codes-few, few-left}
-use Rattle.rl_transform.specs.Transforms.{fieldOfWord, listField, listPlace, flagField, rebuilt}
+use Rattle.rl_context.proofs.Copying.{codes_few, few_left}
+use Rattle.rl_transform.specs.Transforms.{field_of_word, list_field, list_place, flag_field, rebuilt}
 use Rattle.rl_context.specs.Guards.{Makes}
 
 -- ---- the fields of a record as words, one by one
@@ -36,15 +36,15 @@ pub record Reading (s : List ℕ) (row at : ℕ) (words : List ℕ) (rest place 
   pub near : place + 8 * length (codes rest) ≤ 65600
   pub size : 8 ≡ length words
   pub done : List Field
-  pub shown : (ws : List ℕ) → ((i : ℕ) → i < j → get_or ws i 0 ≡ get_or words i 0) → wordFields (codes row) ws 0 ≡ done ++ wordFields (codes rest) ws j
+  pub shown : (ws : List ℕ) → ((i : ℕ) → i < j → get_or ws i 0 ≡ get_or words i 0) → word_fields (codes row) ws 0 ≡ done ++ word_fields (codes rest) ws j
   pub follows : done ++ fields_at s (codes rest) place ≡ fields_at s (codes row) at
 
-pub reading-none : (s : List ℕ) (row at : ℕ) (words : List ℕ) → row < 2 ^ 64 → at ≤ 65536 → 8 ≡ length words → Reading s row at words row at 0
-reading-none s row at words small near size =
+pub reading_none : (s : List ℕ) (row at : ℕ) (words : List ℕ) → row < 2 ^ 64 → at ≤ 65536 → 8 ≡ length words → Reading s row at words row at 0
+reading_none s row at words small near size =
     record {
       small = small;
-      few = codes-few row;
-      near = omega (arith, codes-few row);
+      few = codes_few row;
+      near = omega (arith, codes_few row);
       size = size;
       done = [];
       shown = λ ws e. refl;
@@ -54,121 +54,121 @@ reading-none s row at words small near size =
 module _ (s : List ℕ) (row at : ℕ) (words : List ℕ) (rest place j : ℕ) (w : Reading s row at words rest place j) where
   module _ (q : rest ≡ 0 → ⊥) where
     counted : length (codes rest) ≡ suc (length (codes (rest / 256)))
-    counted = ap length (codes-more rest w.small q)
+    counted = ap length (codes_more rest w.small q)
 
-    pub reading-index : Fits w64 (j + 1)
-    reading-index = omega (arith, w.few)
+    pub reading_index : Fits w64 (j + 1)
+    reading_index = omega (arith, w.few)
 
-    module _ (o : Sort) (e : o ≡ sortOf (rest % 256)) (width : ℕ) (f : width ≡ width_of o) where
-      pub reading-place : Fits w64 (place + width)
-      reading-place = omega (arith, w.near, width_small (rest % 256) o e width f)
+    module _ (o : Sort) (e : o ≡ sort_of (rest % 256)) (width : ℕ) (f : width ≡ width_of o) where
+      pub reading_place : Fits w64 (place + width)
+      reading_place = omega (arith, w.near, width_small (rest % 256) o e width f)
 
-      pub reading-more : (word : ℕ) (words' : List ℕ) → wordField (sortOf (rest % 256)) word ≡ fieldIn s (sortOf (rest % 256)) place →
+      pub reading_more : (word : ℕ) (words' : List ℕ) → word_field (sort_of (rest % 256)) word ≡ field_in_lem s (sort_of (rest % 256)) place →
           words' ≡ set words j word → Reading s row at words' (rest / 256) (place + width) (j + 1)
-      unfolding wordFields fields_at
-      reading-more word words' g u =
+      unfolding word_fields fields_at
+      reading_more word words' g u =
           record {
             small = omega (arith, w.small);
-            few = few-left j rest w.small w.few q;
+            few = few_left j rest w.small w.few q;
             near = omega (arith, w.near, counted, width_small (rest % 256) o e width f);
             size = w.size ∙ sym (ap length u ∙ length-set words j word);
-            done = w.done ++ wordField (sortOf (rest % 256)) word ∷ [];
+            done = w.done ++ word_field (sort_of (rest % 256)) word ∷ [];
             shown = λ ws a.
                 w.shown ws (λ i h. a i (omega arith) ∙ ap (λ l. get_or l i 0) u ∙ get_or-set_other words j i word 0 (λ z. omega arith))
-                ∙ ap (λ cs. w.done ++ wordFields cs ws j) split
-                ∙ ap (λ x. w.done ++ wordField (sortOf (rest % 256)) x ∷ wordFields (codes (rest / 256)) ws (j + 1))
+                ∙ ap (λ cs. w.done ++ word_fields cs ws j) split
+                ∙ ap (λ x. w.done ++ word_field (sort_of (rest % 256)) x ∷ word_fields (codes (rest / 256)) ws (j + 1))
                 (a j (omega arith) ∙ ap (λ l. get_or l j 0) u ∙ get_or-set_same words j word 0 (omega (arith, w.size, w.few, counted)))
-                ∙ sym (append_assoc w.done (wordField (sortOf (rest % 256)) word ∷ []) (wordFields (codes (rest / 256)) ws (j + 1)));
+                ∙ sym (append_assoc w.done (word_field (sort_of (rest % 256)) word ∷ []) (word_fields (codes (rest / 256)) ws (j + 1)));
             follows =
-                append_assoc w.done (wordField (sortOf (rest % 256)) word ∷ []) (fields_at s (codes (rest / 256)) (place + width))
+                append_assoc w.done (word_field (sort_of (rest % 256)) word ∷ []) (fields_at s (codes (rest / 256)) (place + width))
                 ∙ ap₂ (λ x n. w.done ++ x ∷ fields_at s (codes (rest / 256)) (place + n)) g (f ∙ ap width_of e)
                 ∙ ap (λ cs. w.done ++ fields_at s cs place) (sym split)
                 ∙ w.follows;
           }
         where
           split : codes rest ≡ rest % 256 ∷ codes (rest / 256)
-          split = codes-more rest w.small q
+          split = codes_more rest w.small q
 
-  pub reading-all : rest ≡ 0 → wordFields (codes row) words 0 ≡ fields_at s (codes row) at
-  unfolding wordFields fields_at
-  reading-all z =
+  pub reading_all : rest ≡ 0 → word_fields (codes row) words 0 ≡ fields_at s (codes row) at
+  unfolding word_fields fields_at
+  reading_all z =
       w.shown words (λ i h. refl)
-      ∙ ap (λ cs. w.done ++ wordFields cs words j) none
+      ∙ ap (λ cs. w.done ++ word_fields cs words j) none
       ∙ ap (λ cs. w.done ++ fields_at s cs place) (sym none)
       ∙ w.follows
     where
       none : codes rest ≡ []
-      none = codes-none rest z
+      none = codes_none rest z
 
 -- ---- a word replaced is a field replaced
 
-words-after : (cs ws : List ℕ) (i o w : ℕ) → i < o → wordFields cs (set ws i w) o ≡ wordFields cs ws o
-unfolding wordFields
-words-after [] ws i o w h = refl
-words-after (c ∷ cs) ws i o w h =
-    ap₂ (λ x xs. wordField (sortOf c) x ∷ xs) (get_or-set_other ws i o w 0 (λ e. omega arith)) (words-after cs ws i (o + 1) w (omega arith))
+words_after : (cs ws : List ℕ) (i o w : ℕ) → i < o → word_fields cs (set ws i w) o ≡ word_fields cs ws o
+unfolding word_fields
+words_after [] ws i o w h = refl
+words_after (c ∷ cs) ws i o w h =
+    ap₂ (λ x xs. word_field (sort_of c) x ∷ xs) (get_or-set_other ws i o w 0 (λ e. omega arith)) (words_after cs ws i (o + 1) w (omega arith))
 
-words-set : (cs ws : List ℕ) (j o i w : ℕ) → i ≡ o + j → i < length ws →
-    wordFields cs (set ws i w) o ≡ set (wordFields cs ws o) j (wordField (sortOf (get_or cs j 0)) w)
-unfolding wordFields
-words-set [] ws j o i w e h = refl
-words-set (c ∷ cs) ws zero o i w e h =
-    ap₂ (λ x xs. wordField (sortOf c) x ∷ xs) (ap (λ n. get_or (set ws i w) n 0) n ∙ get_or-set_same ws i w 0 h) (words-after cs ws i (o + 1) w (omega arith))
+words_set : (cs ws : List ℕ) (j o i w : ℕ) → i ≡ o + j → i < length ws →
+    word_fields cs (set ws i w) o ≡ set (word_fields cs ws o) j (word_field (sort_of (get_or cs j 0)) w)
+unfolding word_fields
+words_set [] ws j o i w e h = refl
+words_set (c ∷ cs) ws zero o i w e h =
+    ap₂ (λ x xs. word_field (sort_of c) x ∷ xs) (ap (λ n. get_or (set ws i w) n 0) n ∙ get_or-set_same ws i w 0 h) (words_after cs ws i (o + 1) w (omega arith))
   where
     n : o ≡ i
     n = omega arith
-words-set (c ∷ cs) ws (suc j) o i w e h =
-    ap₂ (λ x xs. wordField (sortOf c) x ∷ xs) (get_or-set_other ws i o w 0 (λ z. omega arith)) (words-set cs ws j (o + 1) i w (omega arith) h)
+words_set (c ∷ cs) ws (suc j) o i w e h =
+    ap₂ (λ x xs. word_field (sort_of c) x ∷ xs) (get_or-set_other ws i o w 0 (λ z. omega arith)) (words_set cs ws j (o + 1) i w (omega arith) h)
 
 -- ---- the record again
 
 module _ (s p : List ℕ) (c : Counts) (id start kind : ℕ) (h : id < c.statements) (e : start ≡ get_or p (c.expressions + id) 0) (q : kind ≡ get_or s start 0) where
-  pub statement-is : recordOf (imageFound s p c) Statements id ≡ recordAs s kind start
-  unfolding recordFound
-  statement-is = record-found s p c Statements id h ∙ rw (← e, ← q) refl
+  pub statement_is : record_of_lem (image_found s p c) Statements id ≡ record_as s kind start
+  unfolding record_found
+  statement_is = record_found_lem s p c Statements id h ∙ rw (← e, ← q) refl
 
   module _
-      (row : ℕ) (is : codes row ≡ fields_of kind) (ws : List ℕ) (n : 8 ≡ length ws) (f : wordFields (codes row) ws 0 ≡ fields_at s (codes row) (start + 1))
+      (row : ℕ) (is : codes row ≡ fields_of kind) (ws : List ℕ) (n : 8 ≡ length ws) (f : word_fields (codes row) ws 0 ≡ fields_at s (codes row) (start + 1))
       (j w k v : ℕ) (a : j < 8) (b : k < 8) (us vs : List ℕ) (g : us ≡ set ws j w) (r : vs ≡ set us k v) where
-    words-rebuilt : wordFields (fields_of kind) vs 0 ≡ set (set (fields_at s (fields_of kind) (start + 1)) j (fieldOfWord kind j w)) k (fieldOfWord kind k v)
-    words-rebuilt =
-        ap (λ l. wordFields (fields_of kind) l 0) r
-        ∙ words-set (fields_of kind) us k 0 k v (omega arith) (omega (arith, n, ap length g, length-set ws j w))
-        ∙ ap (λ fs. set fs k (fieldOfWord kind k v)) once
+    words_rebuilt : word_fields (fields_of kind) vs 0 ≡ set (set (fields_at s (fields_of kind) (start + 1)) j (field_of_word kind j w)) k (field_of_word kind k v)
+    words_rebuilt =
+        ap (λ l. word_fields (fields_of kind) l 0) r
+        ∙ words_set (fields_of kind) us k 0 k v (omega arith) (omega (arith, n, ap length g, length-set ws j w))
+        ∙ ap (λ fs. set fs k (field_of_word kind k v)) once
       where
-        kept : wordFields (fields_of kind) ws 0 ≡ fields_at s (fields_of kind) (start + 1)
-        kept = subst (λ cs. wordFields cs ws 0 ≡ fields_at s cs (start + 1)) is f
+        kept : word_fields (fields_of kind) ws 0 ≡ fields_at s (fields_of kind) (start + 1)
+        kept = subst (λ cs. word_fields cs ws 0 ≡ fields_at s cs (start + 1)) is f
 
-        once : wordFields (fields_of kind) us 0 ≡ set (fields_at s (fields_of kind) (start + 1)) j (fieldOfWord kind j w)
+        once : word_fields (fields_of kind) us 0 ≡ set (fields_at s (fields_of kind) (start + 1)) j (field_of_word kind j w)
         once =
-            ap (λ l. wordFields (fields_of kind) l 0) g
-            ∙ words-set (fields_of kind) ws j 0 j w (omega arith) (omega (arith, n))
-            ∙ ap (λ fs. set fs j (fieldOfWord kind j w)) kept
+            ap (λ l. word_fields (fields_of kind) l 0) g
+            ∙ words_set (fields_of kind) ws j 0 j w (omega arith) (omega (arith, n))
+            ∙ ap (λ fs. set fs j (field_of_word kind j w)) kept
 
-    record-rebuilt : wordRecord kind vs ≡ rebuilt (recordOf (imageFound s p c) Statements id) j w k v
-    unfolding recordAs wordRecord
-    record-rebuilt = ap (made kind) words-rebuilt ∙ ap (λ x. rebuilt x j w k v) (sym statement-is)
+    record_rebuilt : word_record kind vs ≡ rebuilt (record_of_lem (image_found s p c) Statements id) j w k v
+    unfolding record_as word_record
+    record_rebuilt = ap (made kind) words_rebuilt ∙ ap (λ x. rebuilt x j w k v) (sym statement_is)
 
-    pub makes-rebuilt : (t : State) (index : ℕ) (u : State) → Makes (imageFound s p c) (append Statements (wordRecord kind vs ∷ [])) t index u →
-        Makes (imageFound s p c) (append Statements (rebuilt (recordOf (imageFound s p c) Statements id) j w k v ∷ [])) t index u
-    makes-rebuilt t index u d = subst (λ x. Makes (imageFound s p c) (append Statements (x ∷ [])) t index u) record-rebuilt d
+    pub makes_rebuilt : (t : State) (index : ℕ) (u : State) → Makes (image_found s p c) (append Statements (word_record kind vs ∷ [])) t index u →
+        Makes (image_found s p c) (append Statements (rebuilt (record_of_lem (image_found s p c) Statements id) j w k v ∷ [])) t index u
+    makes_rebuilt t index u d = subst (λ x. Makes (image_found s p c) (append Statements (x ∷ [])) t index u) record_rebuilt d
 
 -- a conditional's other branch, by its word
-pub same-other : (s p : List ℕ) (c : Counts) (id m : ℕ) (o : Optional) (word : ℕ) (t : State) (index : ℕ) (u : State) → num word ≡ optionalField o →
-    Makes (imageFound s p c) (append Statements (rebuilt (recordOf (imageFound s p c) Statements id) 1 m 2 word ∷ [])) t index u →
-    Makes (imageFound s p c) (append Statements (rebuilt (recordOf (imageFound s p c) Statements id) 1 m 2 (first (optionalField o)) ∷ [])) t index u
-same-other s p c id m o word t index u e d =
-    subst (λ n. Makes (imageFound s p c) (append Statements (rebuilt (recordOf (imageFound s p c) Statements id) 1 m 2 n ∷ [])) t index u) (ap first e) d
+pub same_other : (s p : List ℕ) (c : Counts) (id m : ℕ) (o : Optional) (word : ℕ) (t : State) (index : ℕ) (u : State) → num word ≡ optional_field o →
+    Makes (image_found s p c) (append Statements (rebuilt (record_of_lem (image_found s p c) Statements id) 1 m 2 word ∷ [])) t index u →
+    Makes (image_found s p c) (append Statements (rebuilt (record_of_lem (image_found s p c) Statements id) 1 m 2 (first (optional_field o)) ∷ [])) t index u
+same_other s p c id m o word t index u e d =
+    subst (λ n. Makes (image_found s p c) (append Statements (rebuilt (record_of_lem (image_found s p c) Statements id) 1 m 2 n ∷ [])) t index u) (ap first e) d
 
 -- ---- a kind that holds no list of statements, and one that is no branch
 
 module _ (kind : ℕ) (a : kind ≡ 69 → ⊥) where
-  pub flag-none : 7 ≡ flagField kind
-  flag-none = rw (ne_eqb kind 69 a) refl
+  pub flag_none : 7 ≡ flag_field kind
+  flag_none = rw (ne_eqb kind 69 a) refl
 
   module _ (b : kind ≡ 70 → ⊥) (c : kind ≡ 71 → ⊥) (d : kind ≡ 72 → ⊥) (e : kind ≡ 73 → ⊥) (f : kind ≡ 74 → ⊥) (g : kind ≡ 76 → ⊥) where
-    pub list-none : 0 ≡ listField kind
-    list-none = rw (ne_eqb kind 69 a, ne_eqb kind 70 b, ne_eqb kind 71 c, ne_eqb kind 72 d, ne_eqb kind 73 e, ne_eqb kind 74 f, ne_eqb kind 76 g) refl
+    pub list_none : 0 ≡ list_field kind
+    list_none = rw (ne_eqb kind 69 a, ne_eqb kind 70 b, ne_eqb kind 71 c, ne_eqb kind 72 d, ne_eqb kind 73 e, ne_eqb kind 74 f, ne_eqb kind 76 g) refl
 
-    pub place_none : 0 ≡ listPlace kind
+    pub place_none : 0 ≡ list_place kind
     place_none = rw (ne_eqb kind 69 a, ne_eqb kind 70 b, ne_eqb kind 71 c, ne_eqb kind 72 d, ne_eqb kind 73 e, ne_eqb kind 74 f, ne_eqb kind 76 g) refl

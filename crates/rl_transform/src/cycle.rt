@@ -1,10 +1,10 @@
 // List, statement and branch: a cycle on falling indices. `limit` is the index of the statement at hand.
 ghost use Rattle.std.specs.Prelude.{◌≡◌, ◌≤◌, ◌<◌};
 ghost use Rattle.rl_spec.specs.declared.Section.TheVariants.{Statements};
-ghost use Rattle.rl_spec.specs.Image.{recordOf};
-ghost use Rattle.rl_spec.specs.Found.{imageFound};
+ghost use Rattle.rl_spec.specs.Image.{record_of};
+ghost use Rattle.rl_spec.specs.Found.{image_found};
 ghost use Rattle.rl_context.specs.Does.{at};
-ghost use Rattle.rl_transform.specs.Transforms.{listField, Ready, ArmsIn, Returns, Below, OneStatement, Conditional, Branch, Match, Arms, Body};
+ghost use Rattle.rl_transform.specs.Transforms.{list_field, Ready, ArmsIn, Returns, Below, OneStatement, Conditional, Branch, Match, Arms, Body};
 
 use crate::rebuild::{flag_field, list_field, list_place, pushed, rebuild, rebuild_conditional};
 use rl_arena::{kind_at, statement_start};
@@ -137,7 +137,7 @@ fn transform_conditional(
     waiting: &mut [u16],
     ctx: Ctx,
 ) -> Made
-    ensures { Ready image.now starts.now counts rows.now ensured → id < counts.statements → (recordOf (imageFound image.now starts.now counts) Statements id).kind ≡ 68 → Conditional image.now starts.now counts ensured id (at ctx scratch.old waiting.old) result.index (at result.ctx scratch.new waiting.new) }
+    ensures { Ready image.now starts.now counts rows.now ensured → id < counts.statements → (record_of (image_found image.now starts.now counts) Statements id).kind ≡ 68 → Conditional image.now starts.now counts ensured id (at ctx scratch.old waiting.old) result.index (at result.ctx scratch.new waiting.new) }
 {
     let place = statement_start(starts, counts, id) as usize;
     let branch = transform_branch(
@@ -217,7 +217,7 @@ fn transform_match(
     waiting: &mut [u16],
     ctx: Ctx,
 ) -> Made
-    ensures { Ready image.now starts.now counts rows.now ensured → id < counts.statements → (recordOf (imageFound image.now starts.now counts) Statements id).kind ≡ 75 → Match image.now starts.now counts ensured id (at ctx scratch.old waiting.old) result.index (at result.ctx scratch.new waiting.new) }
+    ensures { Ready image.now starts.now counts rows.now ensured → id < counts.statements → (record_of (image_found image.now starts.now counts) Statements id).kind ≡ 75 → Match image.now starts.now counts ensured id (at ctx scratch.old waiting.old) result.index (at result.ctx scratch.new waiting.new) }
 {
     let place = (statement_start(starts, counts, id) as usize) + 7;
     let first = ctx.waiting;
@@ -285,7 +285,7 @@ fn transform_body(
     waiting: &mut [u16],
     ctx: Ctx,
 ) -> Made
-    ensures { Ready image.now starts.now counts rows.now ensured → limit ≤ counts.statements → s < counts.statements → (listField (recordOf (imageFound image.now starts.now counts) Statements s).kind ≡ 0 → ⊥) → Body image.now starts.now counts ensured limit s (at ctx scratch.old waiting.old) result.index (at result.ctx scratch.new waiting.new) }
+    ensures { Ready image.now starts.now counts rows.now ensured → limit ≤ counts.statements → s < counts.statements → (list_field (record_of (image_found image.now starts.now counts) Statements s).kind ≡ 0 → ⊥) → Body image.now starts.now counts ensured limit s (at ctx scratch.old waiting.old) result.index (at result.ctx scratch.new waiting.new) }
 {
     let start = statement_start(starts, counts, s);
     let kind = kind_at(image, start);

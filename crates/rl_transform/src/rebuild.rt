@@ -1,15 +1,15 @@
 // A statement's record again, with fields replaced.
 ghost use Rattle.std.specs.Prelude.{◌≡◌, List, [], ◌∷◌, ℕ, ◌+◌, ◌<◌, length};
 ghost use Rattle.rl_spec.specs.declared.Section.TheVariants.{Statements};
-ghost use Rattle.rl_spec.specs.Image.{recordOf, first, fields_at};
-ghost use Rattle.rl_spec.specs.Ranges.{optionalField};
+ghost use Rattle.rl_spec.specs.Image.{record_of, first, fields_at};
+ghost use Rattle.rl_spec.specs.Ranges.{optional_field};
 ghost use Rattle.rl_spec.specs.Make.{append};
-ghost use Rattle.rl_spec.specs.Found.{imageFound};
+ghost use Rattle.rl_spec.specs.Found.{image_found};
 ghost use Rattle.rl_schema.specs.Codes.{codes, table};
-ghost use Rattle.rl_encode.specs.Words.{wordFields};
+ghost use Rattle.rl_encode.specs.Words.{word_fields};
 ghost use Rattle.rl_context.specs.Does.{at, Pushes};
 ghost use Rattle.rl_context.specs.Guards.{Makes};
-ghost use Rattle.rl_transform.specs.Transforms.{listField, listPlace, flagField, rebuilt};
+ghost use Rattle.rl_transform.specs.Transforms.{list_field, list_place, flag_field, rebuilt};
 
 use rl_arena::{kind_at, statement_start};
 use rl_bytes::put_long;
@@ -20,7 +20,7 @@ use rl_spec::{Counts, Optional};
 // The fields of the record at a place, by the schema's row, as words.
 fn fields_of(image: &[u8], row: u64, start: u16) -> [u64; 8]
     ensures value { 8 ≡ length result }
-    ensures result_value { wordFields (codes row) result 0 ≡ fields_at image.now (codes row) (start + 1) }
+    ensures result_value { word_fields (codes row) result 0 ≡ fields_at image.now (codes row) (start + 1) }
 {
     let mut words = [0u64; 8];
     let mut rest = row;
@@ -49,7 +49,7 @@ pub fn rebuild(
     scratch: &mut [u8],
     ctx: Ctx,
 ) -> Made
-    ensures { (w : List ℕ) → rows.now ≡ table → s < counts.statements → j < 8 → k < 8 → Makes (imageFound image.now starts.now counts) (append Statements (rebuilt (recordOf (imageFound image.now starts.now counts) Statements s) j word k other ∷ [])) (at ctx scratch.old w) result.index (at result.ctx scratch.new w) }
+    ensures { (w : List ℕ) → rows.now ≡ table → s < counts.statements → j < 8 → k < 8 → Makes (image_found image.now starts.now counts) (append Statements (rebuilt (record_of (image_found image.now starts.now counts) Statements s) j word k other ∷ [])) (at ctx scratch.old w) result.index (at result.ctx scratch.new w) }
 {
     let start = statement_start(starts, counts, s);
     let kind = kind_at(image, start);
@@ -61,7 +61,7 @@ pub fn rebuild(
 }
 
 pub fn list_field(kind: u8) -> u8
-    ensures { result ≡ listField kind }
+    ensures { result ≡ list_field kind }
 {
     match kind {
         69 => 2,
@@ -76,7 +76,7 @@ pub fn list_field(kind: u8) -> u8
 }
 
 pub fn list_place(kind: u8) -> usize
-    ensures { result ≡ listPlace kind }
+    ensures { result ≡ list_place kind }
 {
     match kind {
         69 => 7,
@@ -91,7 +91,7 @@ pub fn list_place(kind: u8) -> usize
 }
 
 pub fn flag_field(kind: u8) -> u8
-    ensures { result ≡ flagField kind }
+    ensures { result ≡ flag_field kind }
 {
     if kind == 69 {
         return 3;
@@ -111,7 +111,7 @@ pub fn rebuild_conditional(
     scratch: &mut [u8],
     ctx: Ctx,
 ) -> Made
-    ensures { (w : List ℕ) → rows.now ≡ table → s < counts.statements → Makes (imageFound image.now starts.now counts) (append Statements (rebuilt (recordOf (imageFound image.now starts.now counts) Statements s) 1 branch 2 (first (optionalField other)) ∷ [])) (at ctx scratch.old w) result.index (at result.ctx scratch.new w) }
+    ensures { (w : List ℕ) → rows.now ≡ table → s < counts.statements → Makes (image_found image.now starts.now counts) (append Statements (rebuilt (record_of (image_found image.now starts.now counts) Statements s) 1 branch 2 (first (optional_field other)) ∷ [])) (at ctx scratch.old w) result.index (at result.ctx scratch.new w) }
 {
     let word = optional_word(other) as u64;
     rebuild(

@@ -36,8 +36,8 @@ scaled m e a p h =
 over : (m e d a : ℕ) → m * 1 ≡ a * e → m * d ≡ a * (e * d)
 over m e d a h = ap (λ (z : ℕ). z * d) (sym (mul-one m) ∙ h) ∙ mul_assoc a e d
 
-over-left : (n d e b : ℕ) → n * 1 ≡ b * d → n * e ≡ b * (e * d)
-over-left n d e b h = over n d e b h ∙ ap (λ (z : ℕ). b * z) (mul_comm d e)
+over_left : (n d e b : ℕ) → n * 1 ≡ b * d → n * e ≡ b * (e * d)
+over_left n d e b h = over n d e b h ∙ ap (λ (z : ℕ). b * z) (mul_comm d e)
 
 less : (a b c : ℕ) → (a * c - b * c) * 1 ≡ (a - b) * c
 less a b c = rw (mul-one, mul_comm a c, mul_comm b c, ← mul-sub, mul_comm c (a - b))
@@ -64,7 +64,7 @@ module _ (f : Format) where
   add_at (fin false m e) (fin true n d) a b h k = absurd (true≢false k.0)
   add_at (fin false m e) (fin false n d) a b h k =
       let c = down e * down d in
-      rw (over (m * up e) (down e) (down d) a h.1, over-left (n * up d) (down d) (down e) b k.1)
+      rw (over (m * up e) (down e) (down d) a h.1, over_left (n * up d) (down d) (down e) b k.1)
       (round_same f false (a * c + b * c) c (a + b) 1 (mul-pos (down_pos e) (down_pos d)) (lit< tt) (mul-one (a * c + b * c) ∙ sym (add-mul a b c)))
 
   subtract : (a b c : ℕ) → b < a → 0 < c → sum f true (a * c) false (b * c) c ≡ round f true (a - b) 1
@@ -74,16 +74,16 @@ module _ (f : Format) where
       rw (le-ltb (a * c) (b * c) (le_of_lt l), lt-ltb (b * c) (a * c) l)
       (round_same f true (a * c - b * c) c (a - b) 1 C (lit< tt) (less a b c))
 
-  add-below : (x y : Float) (a b : ℕ) → HasValue x true a 1 → HasValue y false b 1 → b < a → add f x y ≡ round f true (a - b) 1
+  add_below : (x y : Float) (a b : ℕ) → HasValue x true a 1 → HasValue y false b 1 → b < a → add f x y ≡ round f true (a - b) 1
   unfolding add
-  add-below nan y a b h k l = absurd h
-  add-below (inf s) y a b h k l = absurd h
-  add-below (fin s m e) nan a b h k l = absurd k
-  add-below (fin s m e) (inf t) a b h k l = absurd k
-  add-below (fin false m e) (fin t n d) a b h k l = absurd (false≢true h.0)
-  add-below (fin true m e) (fin true n d) a b h k l = absurd (true≢false k.0)
-  add-below (fin true m e) (fin false n d) a b h k l =
-      rw (over (m * up e) (down e) (down d) a h.1, over-left (n * up d) (down d) (down e) b k.1)
+  add_below nan y a b h k l = absurd h
+  add_below (inf s) y a b h k l = absurd h
+  add_below (fin s m e) nan a b h k l = absurd k
+  add_below (fin s m e) (inf t) a b h k l = absurd k
+  add_below (fin false m e) (fin t n d) a b h k l = absurd (false≢true h.0)
+  add_below (fin true m e) (fin true n d) a b h k l = absurd (true≢false k.0)
+  add_below (fin true m e) (fin false n d) a b h k l =
+      rw (over (m * up e) (down e) (down d) a h.1, over_left (n * up d) (down d) (down e) b k.1)
       (subtract a b (down e * down d) l (mul-pos (down_pos e) (down_pos d)))
 
   -- a * 2 ^ k is a float exactly, for an a below 2 ^ k
@@ -100,17 +100,17 @@ two_to_32 : of_bits binary64 0x41f0_0000_0000_0000 ≡ fin false 1 (pos 32)
 unfolding of_bits
 two_to_32 = refl
 
-upper-exact : (a : ℕ) → a < 2 ^ 32 → HasValue (mul binary64 (of_int binary64 (pos a)) (fin false 1 (pos 32))) false (a * 2 ^ 32) 1
+upper_exact : (a : ℕ) → a < 2 ^ 32 → HasValue (mul binary64 (of_int binary64 (pos a)) (fin false 1 (pos 32))) false (a * 2 ^ 32) 1
 unfolding of_int
-upper-exact a h = scaled_exact binary64 false (round binary64 false a 1) a 32 (lit≤ tt) (lit≤ tt) h (round_whole binary64 false a (le_trans (le_of_lt h) (lit≤ tt)))
+upper_exact a h = scaled_exact binary64 false (round binary64 false a 1) a 32 (lit≤ tt) (lit≤ tt) h (round_whole binary64 false a (le_trans (le_of_lt h) (lit≤ tt)))
 
-upper-exact-below : (a : ℕ) → suc a < 2 ^ 32 → HasValue (mul binary64 (of_int binary64 (negsuc a)) (fin false 1 (pos 32))) true (suc a * 2 ^ 32) 1
+upper_exact_below : (a : ℕ) → suc a < 2 ^ 32 → HasValue (mul binary64 (of_int binary64 (negsuc a)) (fin false 1 (pos 32))) true (suc a * 2 ^ 32) 1
 unfolding of_int
-upper-exact-below a h = scaled_exact binary64 true (round binary64 true (suc a) 1) (suc a) 32 (lit≤ tt) (lit≤ tt) h (round_whole binary64 true (suc a) (le_trans (le_of_lt h) (lit≤ tt)))
+upper_exact_below a h = scaled_exact binary64 true (round binary64 true (suc a) 1) (suc a) 32 (lit≤ tt) (lit≤ tt) h (round_whole binary64 true (suc a) (le_trans (le_of_lt h) (lit≤ tt)))
 
-lower-exact : (b : ℕ) → b < 2 ^ 32 → HasValue (of_int binary64 (pos b)) false b 1
+lower_exact : (b : ℕ) → b < 2 ^ 32 → HasValue (of_int binary64 (pos b)) false b 1
 unfolding of_int
-lower-exact b h = round_whole binary64 false b (le_trans (le_of_lt h) (lit≤ tt))
+lower_exact b h = round_whole binary64 false b (le_trans (le_of_lt h) (lit≤ tt))
 
 below_half : (x : ℤ) → SFits w64 x → SFits w64 (shr_z x (2 ^ 32))
 below_half x h = let p = mag_shr x (2 ^ 32) in let q = h.sfits in record { sfits = omega arith }
@@ -122,7 +122,7 @@ join (pos n) h =
     let q : n / 2 ^ 32 < 2 ^ 32 = omega arith in
     let r : n % 2 ^ 32 < 2 ^ 32 = omega arith in
     let e : n / 2 ^ 32 * 2 ^ 32 + n % 2 ^ 32 ≡ n = omega arith in
-    add_at binary64 _ _ (n / 2 ^ 32 * 2 ^ 32) (n % 2 ^ 32) (upper-exact (n / 2 ^ 32) q) (lower-exact (n % 2 ^ 32) r)
+    add_at binary64 _ _ (n / 2 ^ 32 * 2 ^ 32) (n % 2 ^ 32) (upper_exact (n / 2 ^ 32) q) (lower_exact (n % 2 ^ 32) r)
     ∙ ap (λ (z : ℕ). round binary64 false z 1) e
 join (negsuc n) h =
     let p = h.sfits in
@@ -132,7 +132,7 @@ join (negsuc n) h =
     let r : b < 2 ^ 32 = omega arith in
     let e : u * 2 ^ 32 - b ≡ suc n = omega arith in
     let l : b < u * 2 ^ 32 = omega arith in
-    add-below binary64 _ _ (u * 2 ^ 32) b (upper-exact-below (n / 2 ^ 32) q) (lower-exact b r) l
+    add_below binary64 _ _ (u * 2 ^ 32) b (upper_exact_below (n / 2 ^ 32) q) (lower_exact b r) l
     ∙ ap (λ (z : ℕ). round binary64 true z 1) e
 
 -- as the code has them
@@ -140,8 +140,8 @@ module _ (x : ℤ) (h : SFits w64 x) where
   upper_is : read (shr_z (read x) 4294967296) ≡ shr_z x (2 ^ 32)
   upper_is = ap (λ (z : ℤ). read (shr_z z (2 ^ 32))) (to_z-of_z h) ∙ to_z-of_z (below_half x h)
 
-  lower-is : to_z w64 (bit_and (of_z w64 x) 4294967295) ≡ pos (of_z w64 x % 2 ^ 32)
-  lower-is =
+  lower_is : to_z w64 (bit_and (of_z w64 x) 4294967295) ≡ pos (of_z w64 x % 2 ^ 32)
+  lower_is =
       let m : bit_and (of_z w64 x) 4294967295 ≡ of_z w64 x % 2 ^ 32 = and_mask (of_z w64 x) 32 in
       ap (to_z w64) m ∙ to_z_pos w64 (omega arith)
 
@@ -155,11 +155,11 @@ module _ (x : ℤ) (h : SFits w64 x) where
 
   pub lower_in : T (in_float binary64 (to_z w64 (bit_and (of_z w64 x) 4294967295)))
   unfolding in_float
-  lower_in = subst (λ (z : ℤ). T (in_float binary64 z)) (sym lower-is) (le→leb (of_z w64 x % 2 ^ 32) (2 ^ 53) (omega arith))
+  lower_in = subst (λ (z : ℤ). T (in_float binary64 z)) (sym lower_is) (le→leb (of_z w64 x % 2 ^ 32) (2 ^ 53) (omega arith))
 
-  pub halves-joined : add binary64 (mul binary64 (of_int binary64 (read (shr_z (read x) 4294967296))) (of_bits binary64 0x41f0_0000_0000_0000)) (of_int binary64 (to_z w64 (bit_and (of_z w64 x) 4294967295))) ≡ of_int binary64 x
-  halves-joined =
+  pub halves_joined : add binary64 (mul binary64 (of_int binary64 (read (shr_z (read x) 4294967296))) (of_bits binary64 0x41f0_0000_0000_0000)) (of_int binary64 (to_z w64 (bit_and (of_z w64 x) 4294967295))) ≡ of_int binary64 x
+  halves_joined =
       ap (λ (z : ℤ). add binary64 (mul binary64 (of_int binary64 z) (of_bits binary64 0x41f0_0000_0000_0000)) (of_int binary64 (to_z w64 (bit_and (of_z w64 x) 4294967295)))) upper_is
       ∙ ap (λ (c : Float). add binary64 (mul binary64 (of_int binary64 (shr_z x (2 ^ 32))) c) (of_int binary64 (to_z w64 (bit_and (of_z w64 x) 4294967295)))) two_to_32
-      ∙ ap (λ (z : ℤ). add binary64 (mul binary64 (of_int binary64 (shr_z x (2 ^ 32))) (fin false 1 (pos 32))) (of_int binary64 z)) lower-is
+      ∙ ap (λ (z : ℤ). add binary64 (mul binary64 (of_int binary64 (shr_z x (2 ^ 32))) (fin false 1 (pos 32))) (of_int binary64 z)) lower_is
       ∙ join x h

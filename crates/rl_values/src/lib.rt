@@ -5,15 +5,15 @@ ghost use Rattle.std.proofs.Math.Option.{some};
 ghost use Rattle.std.specs.Int.Signed.{lt_z};
 ghost use Rattle.std.specs.Float.Ieee as F;
 ghost use Rattle.std.specs.Float.{binary64};
-ghost use Rattle.rl_spec.specs.Values.{compareBy, sameInt, sameText, lessText, compare_floats, compareBools, asF64, compareValues, bang, negate, checked, arithFloats, arithInts, arithValues, slash};
-ghost use Rattle.rl_spec.specs.Folded.{const_of, op_of, foldedOf, verdictOf, withText, arith_of};
+ghost use Rattle.rl_spec.specs.Values.{compare_by, same_int, same_text, less_text, compare_floats, compare_bools, as_f64, compare_values, bang, negate, checked, arith_floats, arith_ints, arith_values, slash};
+ghost use Rattle.rl_spec.specs.Folded.{const_of, op_of, folded_of, verdict_of, with_text, arith_of};
 
 use rl_spec::{ArithOp, ConstVal, Folded, RefineOp, Verdict};
 use rl_text_order::{less_text, same_text};
 
 // One pass for each: at most is not above.
 fn compare_texts(op: RefineOp, a: &[u8], b: &[u8]) -> bool
-    ensures { result ≡ compareBy lessText sameText (op_of op) a.now b.now }
+    ensures { result ≡ compare_by less_text same_text (op_of op) a.now b.now }
 {
     match op {
         RefineOp::Gt => less_text(b, a),
@@ -26,7 +26,7 @@ fn compare_texts(op: RefineOp, a: &[u8], b: &[u8]) -> bool
 }
 
 pub fn cmp_i64(op: RefineOp, x: i64, y: i64) -> bool
-    ensures { result ≡ compareBy lt_z sameInt (op_of op) x y }
+    ensures { result ≡ compare_by lt_z same_int (op_of op) x y }
 {
     match op {
         RefineOp::Gt => y < x,
@@ -40,7 +40,7 @@ pub fn cmp_i64(op: RefineOp, x: i64, y: i64) -> bool
 
 // Beside a NaN only Ne holds.
 fn test_floats(op: RefineOp, x: f64, y: f64) -> bool
-    ensures { result ≡ compareBy F.lt F.eq (op_of op) x y }
+    ensures { result ≡ compare_by F.lt F.eq (op_of op) x y }
 {
     match op {
         RefineOp::Gt => y < x,
@@ -53,13 +53,13 @@ fn test_floats(op: RefineOp, x: f64, y: f64) -> bool
 }
 
 fn verdict(b: bool) -> Verdict
-    ensures { verdictOf result ≡ some b }
+    ensures { verdict_of result ≡ some b }
 {
     if b { Verdict::Yes } else { Verdict::No }
 }
 
 pub fn compare_floats(op: RefineOp, x: f64, y: f64) -> Verdict
-    ensures { verdictOf result ≡ compare_floats (op_of op) x y }
+    ensures { verdict_of result ≡ compare_floats (op_of op) x y }
 {
     if x != x {
         return Verdict::Unknown;
@@ -71,7 +71,7 @@ pub fn compare_floats(op: RefineOp, x: f64, y: f64) -> Verdict
 }
 
 pub fn compare_bools(op: RefineOp, x: bool, y: bool) -> Verdict
-    ensures { verdictOf result ≡ compareBools (op_of op) x y }
+    ensures { verdict_of result ≡ compare_bools (op_of op) x y }
 {
     match op {
         RefineOp::Gt => Verdict::Unknown,
@@ -93,7 +93,7 @@ pub fn nearest_f64(x: i64) -> f64
 }
 
 pub fn as_f64(v: ConstVal) -> f64
-    ensures { result ≡ asF64 (const_of v) }
+    ensures { result ≡ as_f64 (const_of v) }
 {
     match v {
         ConstVal::Int(x) => nearest_f64(x),
@@ -105,7 +105,7 @@ pub fn as_f64(v: ConstVal) -> f64
 
 // left and right are the bytes of a and of b where they are texts.
 pub fn compare_values(op: RefineOp, a: ConstVal, b: ConstVal, left: &[u8], right: &[u8]) -> Verdict
-    ensures { verdictOf result ≡ compareValues (λ t. t) (op_of op) (withText a left.now) (withText b right.now) }
+    ensures { verdict_of result ≡ compare_values (λ t. t) (op_of op) (with_text a left.now) (with_text b right.now) }
 {
     match a {
         ConstVal::Int(x) => match b {
@@ -131,7 +131,7 @@ pub fn compare_values(op: RefineOp, a: ConstVal, b: ConstVal, left: &[u8], right
 }
 
 pub fn bang(v: ConstVal) -> Folded
-    ensures { foldedOf result ≡ bang (const_of v) }
+    ensures { folded_of result ≡ bang (const_of v) }
 {
     match v {
         ConstVal::Int(_) => Folded::Nothing,
@@ -142,7 +142,7 @@ pub fn bang(v: ConstVal) -> Folded
 }
 
 fn negate_int(x: i64) -> Folded
-    ensures { foldedOf result ≡ checked (neg_ℤ x) }
+    ensures { folded_of result ≡ checked (neg_ℤ x) }
 {
     if x == -9223372036854775808 {
         return Folded::Nothing;
@@ -151,7 +151,7 @@ fn negate_int(x: i64) -> Folded
 }
 
 pub fn negate(v: ConstVal) -> Folded
-    ensures { foldedOf result ≡ negate (const_of v) }
+    ensures { folded_of result ≡ negate (const_of v) }
 {
     match v {
         ConstVal::Int(x) => negate_int(x),
@@ -162,7 +162,7 @@ pub fn negate(v: ConstVal) -> Folded
 }
 
 pub fn arith_floats(op: ArithOp, x: f64, y: f64) -> Folded
-    ensures { foldedOf result ≡ arithFloats (arith_of op) x y }
+    ensures { folded_of result ≡ arith_floats (arith_of op) x y }
 {
     if x != x {
         return Folded::Nothing;
@@ -184,7 +184,7 @@ pub fn arith_floats(op: ArithOp, x: f64, y: f64) -> Folded
 }
 
 fn add_ints(x: i64, y: i64) -> Folded
-    ensures { foldedOf result ≡ checked (x +ℤ y) }
+    ensures { folded_of result ≡ checked (x +ℤ y) }
 {
     if y >= 0 {
         if x <= 9223372036854775807 - y {
@@ -201,7 +201,7 @@ fn add_ints(x: i64, y: i64) -> Folded
 
 // The lowest number has no negative that could be added.
 fn subtract_ints(x: i64, y: i64) -> Folded
-    ensures { foldedOf result ≡ checked (x -ℤ y) }
+    ensures { folded_of result ≡ checked (x -ℤ y) }
 {
     if y == -9223372036854775808 {
         if x < 0 {
@@ -213,7 +213,7 @@ fn subtract_ints(x: i64, y: i64) -> Folded
 }
 
 fn divide_ints(x: i64, y: i64) -> Folded
-    ensures { foldedOf result ≡ arithInts slash x y }
+    ensures { folded_of result ≡ arith_ints slash x y }
 {
     if y == 0 {
         return Folded::Nothing;
@@ -253,7 +253,7 @@ fn is_product_within(a: u64, b: u64, most: u64) -> bool
 }
 
 fn multiply_ints(x: i64, y: i64) -> Folded
-    ensures { foldedOf result ≡ checked (x *ℤ y) }
+    ensures { folded_of result ≡ checked (x *ℤ y) }
 {
     if is_product_within(magnitude(x), magnitude(y), product_most(x, y)) {
         return Folded::Value(ConstVal::Int(x * y));
@@ -262,7 +262,7 @@ fn multiply_ints(x: i64, y: i64) -> Folded
 }
 
 pub fn arith_ints(op: ArithOp, x: i64, y: i64) -> Folded
-    ensures { foldedOf result ≡ arithInts (arith_of op) x y }
+    ensures { folded_of result ≡ arith_ints (arith_of op) x y }
 {
     match op {
         ArithOp::Plus => add_ints(x, y),
@@ -273,7 +273,7 @@ pub fn arith_ints(op: ArithOp, x: i64, y: i64) -> Folded
 }
 
 pub fn arith_values(op: ArithOp, a: ConstVal, b: ConstVal) -> Folded
-    ensures { foldedOf result ≡ arithValues (arith_of op) (const_of a) (const_of b) }
+    ensures { folded_of result ≡ arith_values (arith_of op) (const_of a) (const_of b) }
 {
     match a {
         ConstVal::Int(x) => match b {

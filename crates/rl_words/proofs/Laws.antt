@@ -20,8 +20,8 @@ use Rattle.rl_spec.specs.declared.ConstVal.TheVariants as kind
 use Rattle.rl_spec.specs.declared.Folded.{Folded}
 use Rattle.rl_spec.specs.declared.Folded.TheVariants.{Value, Nothing}
 use Rattle.rl_spec.specs.Tree.{signed}
-use Rattle.rl_spec.specs.Words.{bits64, payloadWordOf, sortWordOf, wordsValue}
-use Rattle.rl_values.proofs.Laws.{never, nan-no}
+use Rattle.rl_spec.specs.Words.{bits64, payload_word_of, sort_word_of, words_value}
+use Rattle.rl_values.proofs.Laws.{never, nan_no}
 use Rattle.rl_values.proofs.Sums.{read}
 
 -- ---- a whole number's bits
@@ -29,17 +29,17 @@ use Rattle.rl_values.proofs.Sums.{read}
 abbrev Bits : ℤ → ℕ → Type 0
 Bits x r = (r ≡ bits64 x) × (signed 64 r ≡ x)
 
-below-zero : (x : ℤ) (m : ℕ) → nat_abs x ≤ 2 ^ 63 → m ≡ nat_abs x → lt_z x (pos 0) ≡ true → (0 < m) × Bits x (18446744073709551615 - m + 1)
-below-zero (pos a) m h e t = absurd (omega (arith, ltb-true a 0 t))
-below-zero (negsuc a) m h e t =
+below_zero : (x : ℤ) (m : ℕ) → nat_abs x ≤ 2 ^ 63 → m ≡ nat_abs x → lt_z x (pos 0) ≡ true → (0 < m) × Bits x (18446744073709551615 - m + 1)
+below_zero (pos a) m h e t = absurd (omega (arith, ltb-true a 0 t))
+below_zero (negsuc a) m h e t =
     let r : 18446744073709551615 - m + 1 ≡ 18446744073709551616 - suc a = omega arith in
     let no : ltb (18446744073709551616 - suc a) 9223372036854775808 ≡ false = le-ltb (18446744073709551616 - suc a) 9223372036854775808 (omega arith) in
     let back : 18446744073709551616 - suc (18446744073709551616 - suc a) ≡ a = omega arith in
     (omega arith, (r, rw (r, no) (ap negsuc back)))
 
-not-below : (x : ℤ) (m : ℕ) → mag x < 2 ^ 63 → m ≡ nat_abs x → lt_z x (pos 0) ≡ false → Bits x m
-not-below (pos a) m h e t = (e, rw (e, lt-ltb a 9223372036854775808 h) refl)
-not-below (negsuc a) m h e t = never t
+not_below : (x : ℤ) (m : ℕ) → mag x < 2 ^ 63 → m ≡ nat_abs x → lt_z x (pos 0) ≡ false → Bits x m
+not_below (pos a) m h e t = (e, rw (e, lt-ltb a 9223372036854775808 h) refl)
+not_below (negsuc a) m h e t = never t
 
 module _ (x : ℤ) (h : SFits w64 x) (m : ℕ) (e : m ≡ nat_abs (read x)) where
   own : m ≡ nat_abs x
@@ -47,7 +47,7 @@ module _ (x : ℤ) (h : SFits w64 x) (m : ℕ) (e : m ≡ nat_abs (read x)) wher
 
   module _ (t : lt_z (read x) (pos 0) ≡ true) where
     negative : (0 < m) × Bits x (18446744073709551615 - m + 1)
-    negative = below-zero x m (nat_abs-le x h.sfits) own (rw (to_z-of_z h) at t)
+    negative = below_zero x m (nat_abs-le x h.sfits) own (rw (to_z-of_z h) at t)
 
     pub bits_fit : Fits w64 (18446744073709551615 - m + 1)
     bits_fit = let p = negative.0 in record { fits = omega arith }
@@ -55,8 +55,8 @@ module _ (x : ℤ) (h : SFits w64 x) (m : ℕ) (e : m ≡ nat_abs (read x)) wher
     pub bits_below : Bits x (18446744073709551615 - m + 1)
     bits_below = negative.1
 
-  pub bits-plain : lt_z (read x) (pos 0) ≡ false → Bits x m
-  bits-plain t = not-below x m h.sfits own (rw (to_z-of_z h) at t)
+  pub bits_plain : lt_z (read x) (pos 0) ≡ false → Bits x m
+  bits_plain t = not_below x m h.sfits own (rw (to_z-of_z h) at t)
 
 -- ---- a float's bits
 
@@ -68,85 +68,85 @@ module _ (x : Float) where
   abbrev Pattern : ℕ → Type 0
   Pattern r = (r ≡ to_bits binary64 x) × (of_bits binary64 r ≡ x)
 
-  pub pattern-nan : F.ne x x ≡ true → Pattern 9221120237041090560
+  pub pattern_nan : F.ne x x ≡ true → Pattern 9221120237041090560
   unfolding to_bits
-  pattern-nan p =
+  pattern_nan p =
       let e : x ≡ nan = differs_from_itself x (subst T (sym p) tt) in
       rw e (refl, nan_pattern)
 
-  pub pattern-defined : F.ne x x ≡ false → T (not (is_nan x))
-  pattern-defined p = subst (λ (b : Bool). T (not b)) (sym (nan-no x p)) tt
+  pub pattern_defined : F.ne x x ≡ false → T (not (is_nan x))
+  pattern_defined p = subst (λ (b : Bool). T (not b)) (sym (nan_no x p)) tt
 
-  pub pattern-is : T (fits binary64 x) → Pattern (to_bits binary64 x)
-  pattern-is h = (refl, of_bits-to_bits binary64 x h)
+  pub pattern_is : T (fits binary64 x) → Pattern (to_bits binary64 x)
+  pattern_is h = (refl, of_bits-to_bits binary64 x h)
 
 -- ---- a value's words
 
 module _ (v : Folded) where
-  pub none-payload : v ≡ Nothing → 0 ≡ payloadWordOf v
-  none-payload e = rw e refl
+  pub none_payload : v ≡ Nothing → 0 ≡ payload_word_of v
+  none_payload e = rw e refl
 
-  pub none-back : v ≡ Nothing → wordsValue (sortWordOf v) 0 ≡ v
-  unfolding wordsValue
-  none-back e = rw e refl
+  pub none_back : v ≡ Nothing → words_value (sort_word_of v) 0 ≡ v
+  unfolding words_value
+  none_back e = rw e refl
 
   module _ (w : ConstVal) (e : v ≡ Value w) where
     module _ (x : ℤ) (f : w ≡ kind.Int x) (g : SFits w64 x) (r : ℕ) where
-      pub int-payload : r ≡ bits64 (read x) → r ≡ payloadWordOf v
-      int-payload h = rw (e, f) (h ∙ ap bits64 (to_z-of_z g))
+      pub int_payload : r ≡ bits64 (read x) → r ≡ payload_word_of v
+      int_payload h = rw (e, f) (h ∙ ap bits64 (to_z-of_z g))
 
-      pub int-back : signed 64 r ≡ read x → wordsValue (sortWordOf v) r ≡ v
-      unfolding wordsValue
-      int-back h = rw (e, f) (ap (λ (z : ℤ). Value (kind.Int z)) (h ∙ to_z-of_z g))
+      pub int_back : signed 64 r ≡ read x → words_value (sort_word_of v) r ≡ v
+      unfolding words_value
+      int_back h = rw (e, f) (ap (λ (z : ℤ). Value (kind.Int z)) (h ∙ to_z-of_z g))
 
     module _ (x : Float) (f : w ≡ kind.Float x) (r : ℕ) where
-      pub float-payload : r ≡ to_bits binary64 x → r ≡ payloadWordOf v
-      float-payload h = rw (e, f) h
+      pub float_payload : r ≡ to_bits binary64 x → r ≡ payload_word_of v
+      float_payload h = rw (e, f) h
 
-      pub float_back : of_bits binary64 r ≡ x → wordsValue (sortWordOf v) r ≡ v
-      unfolding wordsValue
+      pub float_back : of_bits binary64 r ≡ x → words_value (sort_word_of v) r ≡ v
+      unfolding words_value
       float_back h = rw (e, f) (ap (λ (z : Float). Value (kind.Float z)) h)
 
     module _ (t : ℕ) (f : w ≡ kind.Str t) where
-      pub str-payload : t ≡ payloadWordOf v
-      str-payload = rw (e, f) refl
+      pub str_payload : t ≡ payload_word_of v
+      str_payload = rw (e, f) refl
 
-      pub str-back : Fits w16 t → wordsValue (sortWordOf v) t ≡ v
-      unfolding wordsValue
-      str-back h = let p : min t 65535 ≡ t = omega (arith, h.fits) in rw (e, f) (ap (λ n. Value (kind.Str n)) p)
+      pub str_back : Fits w16 t → words_value (sort_word_of v) t ≡ v
+      unfolding words_value
+      str_back h = let p : min t 65535 ≡ t = omega (arith, h.fits) in rw (e, f) (ap (λ n. Value (kind.Str n)) p)
 
     module _ (b : Bool) (f : w ≡ kind.Bool b) where
-      pub true-payload : b ≡ true → 1 ≡ payloadWordOf v
-      true-payload g = rw (e, f, g) refl
+      pub true_payload : b ≡ true → 1 ≡ payload_word_of v
+      true_payload g = rw (e, f, g) refl
 
-      pub true-back : b ≡ true → wordsValue (sortWordOf v) 1 ≡ v
-      unfolding wordsValue
-      true-back g = rw (e, f, g) refl
+      pub true_back : b ≡ true → words_value (sort_word_of v) 1 ≡ v
+      unfolding words_value
+      true_back g = rw (e, f, g) refl
 
-      pub false-payload : b ≡ false → 0 ≡ payloadWordOf v
-      false-payload g = rw (e, f, g) refl
+      pub false_payload : b ≡ false → 0 ≡ payload_word_of v
+      false_payload g = rw (e, f, g) refl
 
-      pub false-back : b ≡ false → wordsValue (sortWordOf v) 0 ≡ v
-      unfolding wordsValue
-      false-back g = rw (e, f, g) refl
+      pub false_back : b ≡ false → words_value (sort_word_of v) 0 ≡ v
+      unfolding words_value
+      false_back g = rw (e, f, g) refl
 
 module _ (sort payload : ℕ) where
-  pub value-int : sort ≡ 1 → (x : ℤ) → x ≡ signed 64 payload → Value (kind.Int x) ≡ wordsValue sort payload
-  unfolding wordsValue
-  value-int e x f = rw (e, f) refl
+  pub value_int : sort ≡ 1 → (x : ℤ) → x ≡ signed 64 payload → Value (kind.Int x) ≡ words_value sort payload
+  unfolding words_value
+  value_int e x f = rw (e, f) refl
 
-  pub value-float : sort ≡ 2 → (x : Float) → x ≡ of_bits binary64 payload → Value (kind.Float x) ≡ wordsValue sort payload
-  unfolding wordsValue
-  value-float e x f = rw (e, f) refl
+  pub value_float : sort ≡ 2 → (x : Float) → x ≡ of_bits binary64 payload → Value (kind.Float x) ≡ words_value sort payload
+  unfolding words_value
+  value_float e x f = rw (e, f) refl
 
-  pub value-str : sort ≡ 3 → (t : ℕ) → t ≡ min payload 65535 → Value (kind.Str t) ≡ wordsValue sort payload
-  unfolding wordsValue
-  value-str e t f = rw (e, f) refl
+  pub value_str : sort ≡ 3 → (t : ℕ) → t ≡ min payload 65535 → Value (kind.Str t) ≡ words_value sort payload
+  unfolding words_value
+  value_str e t f = rw (e, f) refl
 
-  pub value-bool : sort ≡ 4 → Value (kind.Bool (eqb payload 1)) ≡ wordsValue sort payload
-  unfolding wordsValue
-  value-bool e = rw e refl
+  pub value_bool : sort ≡ 4 → Value (kind.Bool (eqb payload 1)) ≡ words_value sort payload
+  unfolding words_value
+  value_bool e = rw e refl
 
-  pub value_none : (sort ≡ 1 → ⊥) → (sort ≡ 2 → ⊥) → (sort ≡ 3 → ⊥) → (sort ≡ 4 → ⊥) → Nothing ≡ wordsValue sort payload
-  unfolding wordsValue
+  pub value_none : (sort ≡ 1 → ⊥) → (sort ≡ 2 → ⊥) → (sort ≡ 3 → ⊥) → (sort ≡ 4 → ⊥) → Nothing ≡ words_value sort payload
+  unfolding words_value
   value_none a b c d = rw (ne_eqb sort 1 a, ne_eqb sort 2 b, ne_eqb sort 3 c, ne_eqb sort 4 d) refl

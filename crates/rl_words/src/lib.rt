@@ -6,7 +6,7 @@ ghost use Rattle.std.specs.Prelude.{◌≡◌, min};
 ghost use Rattle.std.specs.Float.Ieee.{to_bits, of_bits};
 ghost use Rattle.std.specs.Float.{binary64};
 ghost use Rattle.rl_spec.specs.Tree.{signed};
-ghost use Rattle.rl_spec.specs.Words.{bits64, sortWordOf, payloadWordOf, wordsValue};
+ghost use Rattle.rl_spec.specs.Words.{bits64, sort_word_of, payload_word_of, words_value};
 
 pub use literals::{float32, float64, signed8, signed16, signed32, signed64, unsigned64};
 use rl_spec::{ConstVal, Folded};
@@ -35,7 +35,7 @@ pub fn bits_of_float(x: f64) -> u64
 }
 
 pub fn sort_word(v: Folded) -> u64
-    ensures { result ≡ sortWordOf v }
+    ensures { result ≡ sort_word_of v }
 {
     match v {
         Folded::Nothing => 0,
@@ -50,8 +50,8 @@ pub fn sort_word(v: Folded) -> u64
 
 // The value that the words stand for is this one.
 pub fn payload_word(v: Folded) -> u64
-    ensures value { result ≡ payloadWordOf v }
-    ensures result_value { wordsValue (sortWordOf v) result ≡ v }
+    ensures value { result ≡ payload_word_of v }
+    ensures result_value { words_value (sort_word_of v) result ≡ v }
 {
     match v {
         Folded::Nothing => 0,
@@ -76,7 +76,7 @@ fn text_index(payload: u64) -> u16
 }
 
 pub fn words_value(sort: u64, payload: u64) -> Folded
-    ensures { result ≡ wordsValue sort payload }
+    ensures { result ≡ words_value sort payload }
 {
     match sort {
         1 => Folded::Value(ConstVal::Int(signed64(payload))),

@@ -1,13 +1,13 @@
 // The runner's values as two words: 8 is added to the sort of what an Ok holds, 16 to that of what an Err holds.
 ghost use Rattle.std.specs.Prelude.{◌≡◌, ◌≤◌};
-ghost use Rattle.rl_spec.specs.Runner.{foldedIn, contentOf, plainOfWords, valueSort, valuePayload, valueOfWords};
+ghost use Rattle.rl_spec.specs.Runner.{folded_in, content_of, plain_of_words, value_sort, value_payload, value_of_words};
 
 use crate::{payload_word, sort_word, words_value};
 use rl_spec::{Folded, Plain, Value};
 
 // What a value is or holds; Null folds to nothing.
 fn content(v: Value) -> Folded
-    ensures { result ≡ foldedIn (contentOf v) }
+    ensures { result ≡ folded_in (content_of v) }
 {
     let p = plain_in(v);
     match p {
@@ -17,7 +17,7 @@ fn content(v: Value) -> Folded
 }
 
 fn plain_in(v: Value) -> Plain
-    ensures { result ≡ contentOf v }
+    ensures { result ≡ content_of v }
 {
     match v {
         Value::Plain(p) => p,
@@ -27,7 +27,7 @@ fn plain_in(v: Value) -> Plain
 }
 
 pub fn value_sort(v: Value) -> u64
-    ensures value { result ≡ valueSort v }
+    ensures value { result ≡ value_sort v }
     ensures upper_bound { result ≤ 20 }
 {
     let sort = sort_word(content(v));
@@ -40,14 +40,14 @@ pub fn value_sort(v: Value) -> u64
 
 // The value that the words stand for is this one.
 pub fn value_payload(v: Value) -> u64
-    ensures value { result ≡ valuePayload v }
-    ensures result_value { valueOfWords (valueSort v) result ≡ v }
+    ensures value { result ≡ value_payload v }
+    ensures result_value { value_of_words (value_sort v) result ≡ v }
 {
     payload_word(content(v))
 }
 
 fn plain_of_words(sort: u64, payload: u64) -> Plain
-    ensures { result ≡ plainOfWords sort payload }
+    ensures { result ≡ plain_of_words sort payload }
 {
     let v = words_value(sort, payload);
     match v {
@@ -57,7 +57,7 @@ fn plain_of_words(sort: u64, payload: u64) -> Plain
 }
 
 pub fn value_of_words(sort: u64, payload: u64) -> Value
-    ensures { result ≡ valueOfWords sort payload }
+    ensures { result ≡ value_of_words sort payload }
 {
     if sort < 8 {
         return Value::Plain(plain_of_words(sort, payload));

@@ -1,9 +1,9 @@
 use borrow.Author.Rules.{rules}
 use Rattle.rl_abi.proofs.rl_fold.Statement.{statement}
 use Rattle.rl_abi.proofs.rl_fold.Tie as tie
-use Rattle.rl_abi.proofs.Laws.{fold-refused-place, fold-refused, fold-refused-value, fold-found, fold-found-value}
+use Rattle.rl_abi.proofs.Laws.{fold_refused_place, fold_refused, fold_refused_value, fold_found, fold_found_value}
 
-ruleset laws = (fold-refused-place, fold-refused, fold-refused-value, fold-found, fold-found-value)
+ruleset laws = (fold_refused_place, fold_refused, fold_refused_value, fold_found, fold_found_value)
 
 fold-requires : tie.Need-fold-requires
 fold-requires c κs = search rules

@@ -1,9 +1,9 @@
 use borrow.Author.Rules.{rules}
 use Rattle.rl_abi.proofs.rl_lower.Statement.{statement}
 use Rattle.rl_abi.proofs.rl_lower.Tie as tie
-use Rattle.rl_abi.proofs.LowerLaws.{lower-near, lower-packed}
+use Rattle.rl_abi.proofs.LowerLaws.{lower_near, lower_packed_lem}
 
-ruleset laws = (lower-near, lower-packed)
+ruleset laws = (lower_near, lower_packed_lem)
 
 lower-requires : tie.Need-lower-requires
 lower-requires c κs = search rules

@@ -1,9 +1,9 @@
 use borrow.Author.Rules.{rules}
 use Rattle.rl_abi.proofs.rl_message.Statement.{statement}
 use Rattle.rl_abi.proofs.rl_message.Tie as tie
-use Rattle.rl_abi.proofs.TextLaws.{message-near, message-packed}
+use Rattle.rl_abi.proofs.TextLaws.{message_near, message_packed_lem}
 
-ruleset laws = (message-near, message-packed)
+ruleset laws = (message_near, message_packed_lem)
 
 message-requires : tie.Need-message-requires
 message-requires c κs = search rules

@@ -1,9 +1,9 @@
 use borrow.Author.Rules.{rules}
 use Rattle.rl_abi.proofs.rl_pages.Statement.{statement}
 use Rattle.rl_abi.proofs.rl_pages.Tie as tie
-use Rattle.rl_abi.proofs.TextLaws.{pages-near, pages-packed}
+use Rattle.rl_abi.proofs.TextLaws.{pages_near, pages_packed_lem}
 
-ruleset laws = (pages-near, pages-packed)
+ruleset laws = (pages_near, pages_packed_lem)
 
 pages-requires : tie.Need-pages-requires
 pages-requires c κs = search rules

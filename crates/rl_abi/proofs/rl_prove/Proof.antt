@@ -1,9 +1,9 @@
 use borrow.Author.Rules.{rules}
 use Rattle.rl_abi.proofs.rl_prove.Statement.{statement}
 use Rattle.rl_abi.proofs.rl_prove.Tie as tie
-use Rattle.rl_abi.proofs.Laws.{prove-near, prove-packed}
+use Rattle.rl_abi.proofs.Laws.{prove_near, prove_packed_lem}
 
-ruleset laws = (prove-near, prove-packed)
+ruleset laws = (prove_near, prove_packed_lem)
 
 prove-requires : tie.Need-prove-requires
 prove-requires c κs = search rules

@@ -1,9 +1,9 @@
 use borrow.Author.Rules.{rules}
 use Rattle.rl_abi.proofs.rl_prove_all.Statement.{statement}
 use Rattle.rl_abi.proofs.rl_prove_all.Tie as tie
-use Rattle.rl_abi.proofs.Laws.{all_near, all-packed}
+use Rattle.rl_abi.proofs.Laws.{all_near, all_packed}
 
-ruleset laws = (all_near, all-packed)
+ruleset laws = (all_near, all_packed)
 
 prove-all-requires : tie.Need-prove-all-requires
 prove-all-requires c κs = search rules

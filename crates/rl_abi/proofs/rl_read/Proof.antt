@@ -1,9 +1,9 @@
 use borrow.Author.Rules.{rules}
 use Rattle.rl_abi.proofs.rl_read.Statement.{statement}
 use Rattle.rl_abi.proofs.rl_read.Tie as tie
-use Rattle.rl_abi.proofs.Laws.{read-near, read-packed}
+use Rattle.rl_abi.proofs.Laws.{read_near, read_packed}
 
-ruleset laws = (read-near, read-packed)
+ruleset laws = (read_near, read_packed)
 
 read-requires : tie.Need-read-requires
 read-requires c κs = search rules

@@ -1,9 +1,9 @@
 use borrow.Author.Rules.{rules}
 use Rattle.rl_abi.proofs.rl_run.Statement.{statement}
 use Rattle.rl_abi.proofs.rl_run.Tie as tie
-use Rattle.rl_abi.proofs.RunLaws.{run-work, run-refused-place, run-refused, run-refused-outcome, run_ran, run-ran-outcome}
+use Rattle.rl_abi.proofs.RunLaws.{run_work, run_refused_place, run_refused, run_refused_outcome, run_ran, run_ran_outcome}
 
-ruleset laws = (run-refused-place)
+ruleset laws = (run_refused_place)
 
 arguments-of-requires : tie.Need-arguments-of-requires
 arguments-of-requires c κs = search rules
@@ -35,10 +35,10 @@ returns c =
     let d = ran.before.arguments-of.ensures in
     let e = ran.run.ensures.0 in
     let y = c.before.before.before.before.answer.given.1 in (
-      run-refused _ _ _ _ _ _ d _ e _ _ y _ c.pack.ensures,
+      run_refused _ _ _ _ _ _ d _ e _ _ y _ c.pack.ensures,
       (
-        run-refused-outcome _ _ _ _ _ _ d _ e _ _ y _ c.before.put-words.ensures,
-        run-work _ _ _ _ _ _ d _ e _ ran.run.ensures.1,
+        run_refused_outcome _ _ _ _ _ _ d _ e _ _ y _ c.before.put-words.ensures,
+        run_work _ _ _ _ _ _ d _ e _ ran.run.ensures.1,
       ),
     )
 
@@ -53,8 +53,8 @@ returns-2 c =
     let y = c.before.before.before.answer2.given.1 in (
       run_ran _ _ _ _ _ _ d _ e _ _ y,
       (
-        run-ran-outcome _ _ _ _ _ _ d _ e _ _ y _ c.put-outcome.ensures,
-        run-work _ _ _ _ _ _ d _ e _ ran.run.ensures.1,
+        run_ran_outcome _ _ _ _ _ _ d _ e _ _ y _ c.put-outcome.ensures,
+        run_work _ _ _ _ _ _ d _ e _ ran.run.ensures.1,
       ),
     )
 

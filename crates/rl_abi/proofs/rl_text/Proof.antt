@@ -1,9 +1,9 @@
 use borrow.Author.Rules.{rules}
 use Rattle.rl_abi.proofs.rl_text.Statement.{statement}
 use Rattle.rl_abi.proofs.rl_text.Tie as tie
-use Rattle.rl_abi.proofs.TextLaws.{text-near, text-packed}
+use Rattle.rl_abi.proofs.TextLaws.{text_near, text_packed_lem}
 
-ruleset laws = (text-near, text-packed)
+ruleset laws = (text_near, text_packed_lem)
 
 text-requires : tie.Need-text-requires
 text-requires c κs = search rules

@@ -1,9 +1,9 @@
 use borrow.Author.Rules.{rules}
 use Rattle.rl_arena.proofs.field_first.Statement.{statement}
 use Rattle.rl_arena.proofs.field_first.Tie as tie
-use Rattle.rl_arena.proofs.Laws.{first-none, first_found}
+use Rattle.rl_arena.proofs.Laws.{first_none, first_found}
 
-ruleset laws = (first-none, first_found)
+ruleset laws = (first_none, first_found)
 
 field-spot-requires : tie.Need-field-spot-requires
 field-spot-requires c κs = search rules

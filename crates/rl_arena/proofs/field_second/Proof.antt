@@ -1,9 +1,9 @@
 use borrow.Author.Rules.{rules}
 use Rattle.rl_arena.proofs.field_second.Statement.{statement}
 use Rattle.rl_arena.proofs.field_second.Tie as tie
-use Rattle.rl_arena.proofs.Laws.{second-nothing, second-found}
+use Rattle.rl_arena.proofs.Laws.{second_nothing, second_found}
 
-ruleset laws = (second-nothing, second-found)
+ruleset laws = (second_nothing, second_found)
 
 field-spot-requires : tie.Need-field-spot-requires
 field-spot-requires c κs = search rules

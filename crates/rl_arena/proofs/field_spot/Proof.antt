@@ -5,9 +5,9 @@ use mathlib.Core.Path.{◌≡◌}
 use borrow.Author.Rules.{rules}
 use Rattle.rl_arena.proofs.field_spot.Statement.{statement}
 use Rattle.rl_arena.proofs.field_spot.Tie as tie
-use Rattle.rl_arena.proofs.Laws.{spot-end, spot-here, spot-more, spot-near, spot-fits}
+use Rattle.rl_arena.proofs.Laws.{spot_end, spot_here, spot_more, spot_near, spot_fits}
 
-ruleset laws = (spot-end, spot-here, spot-more, spot-near, spot-fits)
+ruleset laws = (spot_end, spot_here, spot_more, spot_near, spot_fits)
 
 abbrev invariant-loop : tie.invariant-loop
 invariant-loop row at j rest₀ place₀ left₀ rest place left = (rest < 2 ^ 64) × ((place + 8 * left ≤ 65536 + 8 * j) × (spot_of (codes row) (at + 1) j ≡ spot_of (codes rest) place left))

@@ -1,9 +1,9 @@
 use borrow.Author.Rules.{rules}
 use Rattle.rl_arena.proofs.first_at.Statement.{statement}
 use Rattle.rl_arena.proofs.first_at.Tie as tie
-use Rattle.rl_arena.proofs.Laws.{first-pair, first-number, width_fits}
+use Rattle.rl_arena.proofs.Laws.{first_pair, first_number, width_fits}
 
-ruleset laws = (first-pair, first-number, width_fits)
+ruleset laws = (first_pair, first_number, width_fits)
 
 sort-of-requires : tie.Need-sort-of-requires
 sort-of-requires c κs = search rules

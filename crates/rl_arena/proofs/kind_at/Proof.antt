@@ -1,9 +1,9 @@
 use borrow.Author.Rules.{rules}
 use Rattle.rl_arena.proofs.kind_at.Statement.{statement}
 use Rattle.rl_arena.proofs.kind_at.Tie as tie
-use Rattle.rl_arena.proofs.Laws.{kind-is}
+use Rattle.rl_arena.proofs.Laws.{kind_is}
 
-ruleset laws = (kind-is)
+ruleset laws = (kind_is)
 
 byte-at-requires : tie.Need-byte-at-requires
 byte-at-requires c κs = search rules

@@ -1,9 +1,9 @@
 use borrow.Author.Rules.{rules}
 use Rattle.rl_arena.proofs.node_of.Statement.{statement}
 use Rattle.rl_arena.proofs.node_of.Tie as tie
-use Rattle.rl_arena.proofs.Laws.{id-foreign, id-found, id-missing}
+use Rattle.rl_arena.proofs.Laws.{id_foreign, id_found, id_missing}
 
-ruleset laws = (id-foreign, id-found, id-missing)
+ruleset laws = (id_foreign, id_found, id_missing)
 
 returns : tie.Need-returns
 returns c = search (laws, rules)

@@ -1,9 +1,9 @@
 use borrow.Author.Rules.{rules}
 use Rattle.rl_arena.proofs.number_at.Statement.{statement}
 use Rattle.rl_arena.proofs.number_at.Tie as tie
-use Rattle.rl_arena.proofs.Laws.{number-one, number-two, number-four, number-eight, number-none}
+use Rattle.rl_arena.proofs.Laws.{number_one, number_two, number_four, number_eight, number_none}
 
-ruleset laws = (number-one, number-two, number-four, number-eight, number-none)
+ruleset laws = (number_one, number_two, number_four, number_eight, number_none)
 
 byte-at-requires : tie.Need-byte-at-requires
 byte-at-requires c κs = search rules

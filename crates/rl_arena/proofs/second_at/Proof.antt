@@ -1,9 +1,9 @@
 use borrow.Author.Rules.{rules}
 use Rattle.rl_arena.proofs.second_at.Statement.{statement}
 use Rattle.rl_arena.proofs.second_at.Tie as tie
-use Rattle.rl_arena.proofs.Laws.{second-pair, second-number}
+use Rattle.rl_arena.proofs.Laws.{second_pair, second_number}
 
-ruleset laws = (second-pair, second-number)
+ruleset laws = (second_pair, second_number)
 
 sort-of-requires : tie.Need-sort-of-requires
 sort-of-requires c κs = search rules

@@ -1,9 +1,9 @@
 use borrow.Author.Rules.{rules}
 use Rattle.rl_assemble.proofs.assemble.Statement.{statement}
-use Rattle.rl_assemble.proofs.Laws.{image-long, bytes-long, all-put}
+use Rattle.rl_assemble.proofs.Laws.{image_long, bytes_long, all_put}
 use Rattle.rl_assemble.proofs.assemble.Tie as tie
 
-ruleset laws = (image-long, bytes-long, all-put)
+ruleset laws = (image_long, bytes_long, all_put)
 
 returns : tie.Need-returns
 returns c = search (laws, rules)

@@ -1,9 +1,9 @@
 use borrow.Author.Rules.{rules}
 use Rattle.rl_assemble.proofs.new_length.Statement.{statement}
-use Rattle.rl_assemble.proofs.Puts.{length-new}
+use Rattle.rl_assemble.proofs.Puts.{length_new}
 use Rattle.rl_assemble.proofs.new_length.Tie as tie
 
-ruleset laws = (length-new)
+ruleset laws = (length_new)
 
 cast-before : tie.Need-overflow-cast-before
 cast-before c = search rules

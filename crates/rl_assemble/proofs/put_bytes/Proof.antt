@@ -1,9 +1,9 @@
 use borrow.Author.Rules.{rules}
 use Rattle.rl_assemble.proofs.put_bytes.Statement.{statement}
-use Rattle.rl_assemble.proofs.Puts.{text-put}
+use Rattle.rl_assemble.proofs.Puts.{text_put}
 use Rattle.rl_assemble.proofs.put_bytes.Tie as tie
 
-ruleset laws = (text-put)
+ruleset laws = (text_put)
 
 cast-bytes : tie.Need-overflow-cast-bytes
 cast-bytes c = search rules

@@ -1,6 +1,6 @@
 use borrow.Author.Rules.{rules}
 use Rattle.rl_assemble.proofs.put_counts.Statement.{statement}
-use Rattle.rl_assemble.proofs.Puts.{counts-put}
+use Rattle.rl_assemble.proofs.Puts.{counts_put}
 use Rattle.rl_assemble.proofs.put_counts.Tie as tie
 
 put-two-requires : tie.Need-put-two-requires
@@ -23,7 +23,7 @@ same_length c = search rules
 
 returns : tie.Need-returns
 returns c =
-    counts-put _
+    counts_put _
     c.before.before.before.before.before.before.before.before.before.before.before.before.before.before.before.before.before.before.put_two.ensures
     c.before.before.before.before.before.before.before.before.before.before.before.before.before.before.put-two2.ensures
     c.before.before.before.before.before.before.before.before.before.before.put-two3.ensures

@@ -1,9 +1,9 @@
 use borrow.Author.Rules.{rules}
 use Rattle.rl_assemble.proofs.put_header.Statement.{statement}
-use Rattle.rl_assemble.proofs.Puts.{header-put}
+use Rattle.rl_assemble.proofs.Puts.{header_put}
 use Rattle.rl_assemble.proofs.put_header.Tie as tie
 
-ruleset laws = (header-put)
+ruleset laws = (header_put)
 
 put-part-requires : tie.Need-put-part-requires
 put-part-requires c κs = search rules

@@ -1,6 +1,6 @@
 use borrow.Author.Rules.{rules}
 use Rattle.rl_assemble.proofs.put_image.Statement.{statement}
-use Rattle.rl_assemble.proofs.Puts.{image-put}
+use Rattle.rl_assemble.proofs.Puts.{image_put}
 use Rattle.rl_assemble.proofs.put_image.Tie as tie
 
 statements-at-requires : tie.Need-statements-at-requires
@@ -38,10 +38,10 @@ same_length c = search rules
 
 returns : tie.Need-returns
 returns c =
-    image-put _ _ _ _ _ _ _ _ _ _ _
+    image_put _ _ _ _ _ _ _ _ _ _ _
     c.before.before.before.before.before.before.before.before.before.before.before.before.before.before.before.before.before.before.before.before.before.before.before.before.expressions-at.ensures
     c.before.before.before.before.before.before.before.before.before.before.before.before.before.before.before.before.before.before.before.before.before.before.before.before.before.before.before.statements-at.ensures
-    c.before.before.before.before.before.before.before.before.before.before.before.before.before.before.before.before.before.before.before.before.before.before.before.before.before.before.parameters-at.ensures
+    c.before.before.before.before.before.before.before.before.before.before.before.before.before.before.before.before.before.before.before.before.before.before.before.before.before.before.parameters_at_lem.ensures
     c.before.before.before.before.before.before.before.before.before.before.before.before.before.before.before.before.before.before.before.before.before.before.before.before.before.body_at.ensures.0
     c.before.before.before.before.before.before.before.before.before.before.before.before.before.before.before.before.before.before.before.before.before.before.put-header.ensures
     c.before.before.before.before.before.before.before.before.before.before.before.before.before.before.before.before.before.before.put-bytes.ensures

@@ -1,9 +1,9 @@
 use borrow.Author.Rules.{rules}
 use Rattle.rl_assemble.proofs.put_lists.Statement.{statement}
-use Rattle.rl_assemble.proofs.Puts.{lists-put}
+use Rattle.rl_assemble.proofs.Puts.{lists_put}
 use Rattle.rl_assemble.proofs.put_lists.Tie as tie
 
-ruleset laws = (lists-put)
+ruleset laws = (lists_put)
 
 cast-from : tie.Need-overflow-cast-from
 cast-from c = search rules

@@ -1,9 +1,9 @@
 use borrow.Author.Rules.{rules}
 use Rattle.rl_assemble.proofs.put_texts.Statement.{statement}
-use Rattle.rl_assemble.proofs.Puts.{texts-put}
+use Rattle.rl_assemble.proofs.Puts.{texts_put}
 use Rattle.rl_assemble.proofs.put_texts.Tie as tie
 
-ruleset laws = (texts-put)
+ruleset laws = (texts_put)
 
 cast-from : tie.Need-overflow-cast-from
 cast-from c = search rules

@@ -1,9 +1,9 @@
 use borrow.Author.Rules.{rules}
 use Rattle.rl_assemble.proofs.put_trees.Statement.{statement}
-use Rattle.rl_assemble.proofs.Puts.{trees-put}
+use Rattle.rl_assemble.proofs.Puts.{trees_put}
 use Rattle.rl_assemble.proofs.put_trees.Tie as tie
 
-ruleset laws = (trees-put)
+ruleset laws = (trees_put)
 
 cast-expression-bytes : tie.Need-overflow-cast-expression-bytes
 cast-expression-bytes c = search rules

@@ -1,9 +1,9 @@
 use borrow.Author.Rules.{rules}
 use Rattle.rl_assemble.proofs.statements_at.Statement.{statement}
-use Rattle.rl_assemble.proofs.Puts.{statements-none, statements-some}
+use Rattle.rl_assemble.proofs.Puts.{statements_none, statements_some}
 use Rattle.rl_assemble.proofs.statements_at.Tie as tie
 
-ruleset laws = (statements-none, statements-some)
+ruleset laws = (statements_none, statements_some)
 
 cast-expressions : tie.Need-overflow-cast-expressions
 cast-expressions c = search rules

@@ -1,9 +1,9 @@
 use borrow.Author.Rules.{rules}
 use Rattle.rl_bytes.proofs.byte_at.Statement.{statement}
 use Rattle.rl_bytes.proofs.byte_at.Tie as tie
-use Rattle.rl_bytes.proofs.Laws.{get_d_past}
+use Rattle.rl_bytes.proofs.Laws.{get_or_past}
 
-ruleset laws = (get_d_past)
+ruleset laws = (get_or_past)
 
 shared-slice-read-result : tie.Need-shared-slice-read-result
 shared-slice-read-result c = search rules

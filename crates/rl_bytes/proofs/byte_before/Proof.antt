@@ -1,9 +1,9 @@
 use borrow.Author.Rules.{rules}
 use Rattle.rl_bytes.proofs.byte_before.Statement.{statement}
 use Rattle.rl_bytes.proofs.byte_before.Tie as tie
-use Rattle.rl_bytes.proofs.Laws.{before-first}
+use Rattle.rl_bytes.proofs.Laws.{before_first}
 
-ruleset laws = (before-first)
+ruleset laws = (before_first)
 
 byte-at-requires : tie.Need-byte-at-requires
 byte-at-requires c κs = search rules

@@ -1,9 +1,9 @@
 use borrow.Author.Rules.{rules}
 use Rattle.rl_bytes.proofs.is_past.Statement.{statement}
 use Rattle.rl_bytes.proofs.is_past.Tie as tie
-use Rattle.rl_bytes.proofs.Laws.{past_near, past-far}
+use Rattle.rl_bytes.proofs.Laws.{past_near, past_far}
 
-ruleset laws = (past_near, past-far)
+ruleset laws = (past_near, past_far)
 
 returns : tie.Need-returns
 returns c = search (laws, rules)

@@ -1,9 +1,9 @@
 use borrow.Author.Rules.{rules}
 use Rattle.rl_bytes.proofs.part.Statement.{statement}
 use Rattle.rl_bytes.proofs.part.Tie as tie
-use Rattle.rl_bytes.proofs.Laws.{part_none, part-short, part-whole}
+use Rattle.rl_bytes.proofs.Laws.{part_none, part_short, part_whole}
 
-ruleset laws = (part_none, part-short, part-whole)
+ruleset laws = (part_none, part_short, part_whole)
 
 sub-result : tie.Need-overflow-sub-result
 sub-result c = search rules

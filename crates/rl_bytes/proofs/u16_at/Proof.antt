@@ -1,9 +1,9 @@
 use borrow.Author.Rules.{rules}
 use Rattle.rl_bytes.proofs.u16_at.Statement.{statement}
 use Rattle.rl_bytes.proofs.u16_at.Tie as tie
-use Rattle.rl_bytes.proofs.Laws.{u16-is, u16-past}
+use Rattle.rl_bytes.proofs.Laws.{u16_is, u16_past}
 
-ruleset laws = (u16-is, u16-past)
+ruleset laws = (u16_is, u16_past)
 
 shared-slice-read-join16 : tie.Need-shared-slice-read-join16
 shared-slice-read-join16 c = search rules

@@ -1,9 +1,9 @@
 use borrow.Author.Rules.{rules}
 use Rattle.rl_bytes.proofs.u32_at.Statement.{statement}
 use Rattle.rl_bytes.proofs.u32_at.Tie as tie
-use Rattle.rl_bytes.proofs.Laws.{u32-is, u32-past, u32-short}
+use Rattle.rl_bytes.proofs.Laws.{u32_is, u32_past, u32_short}
 
-ruleset laws = (u32-is, u32-past, u32-short)
+ruleset laws = (u32_is, u32_past, u32_short)
 
 returns : tie.Need-returns
 returns c = search (laws, rules)

@@ -1,9 +1,9 @@
 use borrow.Author.Rules.{rules}
 use Rattle.rl_bytes.proofs.u64_at.Statement.{statement}
 use Rattle.rl_bytes.proofs.u64_at.Tie as tie
-use Rattle.rl_bytes.proofs.Laws.{u64-is, u64-past, u64-short}
+use Rattle.rl_bytes.proofs.Laws.{u64_is, u64_past, u64_short}
 
-ruleset laws = (u64-is, u64-past, u64-short)
+ruleset laws = (u64_is, u64_past, u64_short)
 
 returns : tie.Need-returns
 returns c = search (laws, rules)

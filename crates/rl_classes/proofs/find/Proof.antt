@@ -2,9 +2,9 @@ use Prim.Native.Nat.{◌-◌}
 use Rattle.rl_classes.proofs.find.Statement.{statement}
 use Rattle.rl_classes.proofs.find.Tie as tie
 use borrow.Author.Rules.{rules}
-use Rattle.rl_classes.proofs.Laws.{Searched, find-empty, find-start, find_past, find-same, find-more, find-end}
+use Rattle.rl_classes.proofs.Laws.{Searched, find_empty, find_start, find_past, find_same, find_more, find_end}
 
-ruleset laws = (find-empty, find-start, find_past, find-same, find-more, find-end)
+ruleset laws = (find_empty, find_start, find_past, find_same, find_more, find_end)
 
 abbrev invariant-loop : tie.invariant-loop
 invariant-loop image counts links t text link₀ u₀ link u = Searched image counts links t u link
@@ -19,7 +19,7 @@ returns : tie.Need-returns invariant-loop decreases-loop
 returns c = search (laws, rules)
 
 loop-holds : tie.Need-loop-init invariant-loop decreases-loop
-loop-holds c = find-start _ _ _ _ _ c.before.text_at.ensures c.if1.false
+loop-holds c = find_start _ _ _ _ _ c.before.text_at.ensures c.if1.false
 
 cast-long-at : tie.Need-overflow-cast-long-at invariant-loop decreases-loop
 cast-long-at c = search (laws, rules)
@@ -63,7 +63,7 @@ loop-less-2 c = search (laws, rules)
 
 loop-again-2 : tie.Need-loop-preserved-2 invariant-loop decreases-loop
 loop-again-2 c =
-    find-more _ _ _ _ _ _ c.before.before.before.before.before.before.before.before.loop.invariant c.before.before.before.before.before.before.before.loop-test.true _ _ c.before.before.before.before.before.before.before.before.before.before.text_at.ensures c.before.before.before.before.text-at2.ensures _ c.before.before.is_same.ensures c.before.if3.false _ c.before.before.before.before.before.before.long-at.ensures c.before.before.before.before.before.if2.false _ c.next-link.ensures
+    find_more _ _ _ _ _ _ c.before.before.before.before.before.before.before.before.loop.invariant c.before.before.before.before.before.before.before.loop-test.true _ _ c.before.before.before.before.before.before.before.before.before.before.text_at.ensures c.before.before.before.before.text-at2.ensures _ c.before.before.is_same.ensures c.before.if3.false _ c.before.before.before.before.before.before.long-at.ensures c.before.before.before.before.before.if2.false _ c.next-link.ensures
 
 add-t18 : tie.Need-overflow-add-t18 invariant-loop decreases-loop
 add-t18 c = search (laws, rules)

@@ -1,9 +1,9 @@
 use borrow.Author.Rules.{rules}
 use Rattle.rl_classes.proofs.is_same.Statement.{statement}
 use Rattle.rl_classes.proofs.is_same.Tie as tie
-use Rattle.rl_classes.proofs.Links.{same-early, same-late, same-prefix}
+use Rattle.rl_classes.proofs.Links.{same_early, same_late, same_prefix}
 
-ruleset laws = (same-early, same-late, same-prefix)
+ruleset laws = (same_early, same_late, same_prefix)
 
 returns : tie.Need-returns
 returns c = search (laws, rules)

@@ -3,11 +3,11 @@ use mathlib.Core.Path.{◌≡◌}
 use Prim.Native.Nat.{◌-◌, min}
 use lib.ListN.{length}
 use Rattle.rl_classes.specs.Links.{mismatch}
-use Rattle.rl_classes.proofs.Links.{mismatch-word, mismatch-past, mismatch-rest}
+use Rattle.rl_classes.proofs.Links.{mismatch_word, mismatch_past, mismatch_rest}
 use Rattle.rl_classes.proofs.mismatch.Statement.{statement}
 use Rattle.rl_classes.proofs.mismatch.Tie as tie
 
-ruleset laws = (mismatch-word, mismatch-past, mismatch-rest)
+ruleset laws = (mismatch_word, mismatch_past, mismatch_rest)
 
 abbrev invariant-loop : tie.invariant-loop
 invariant-loop a b at n i₀ i = (n ≡ min (length a) (length b)) × (mismatch a b at ≡ mismatch a b i)

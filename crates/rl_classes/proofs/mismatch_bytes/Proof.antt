@@ -3,11 +3,11 @@ use mathlib.Core.Path.{◌≡◌}
 use Prim.Native.Nat.{◌-◌}
 use lib.ListN.{length}
 use Rattle.rl_classes.specs.Links.{mismatch}
-use Rattle.rl_classes.proofs.Links.{mismatch-end, mismatch-short, mismatch-apart, mismatch-more}
+use Rattle.rl_classes.proofs.Links.{mismatch_end, mismatch_short, mismatch_apart, mismatch_more}
 use Rattle.rl_classes.proofs.mismatch_bytes.Statement.{statement}
 use Rattle.rl_classes.proofs.mismatch_bytes.Tie as tie
 
-ruleset laws = (mismatch-end, mismatch-short, mismatch-apart, mismatch-more)
+ruleset laws = (mismatch_end, mismatch_short, mismatch_apart, mismatch_more)
 
 abbrev invariant-loop : tie.invariant-loop
 invariant-loop a b at i₀ i = mismatch a b at ≡ mismatch a b i

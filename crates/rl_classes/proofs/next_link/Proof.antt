@@ -1,9 +1,9 @@
 use borrow.Author.Rules.{rules}
 use Rattle.rl_classes.proofs.next_link.Statement.{statement}
 use Rattle.rl_classes.proofs.next_link.Tie as tie
-use Rattle.rl_classes.proofs.Links.{link_stays, link-goes}
+use Rattle.rl_classes.proofs.Links.{link_stays, link_goes}
 
-ruleset laws = (link_stays, link-goes)
+ruleset laws = (link_stays, link_goes)
 
 returns : tie.Need-returns
 returns c = search (laws, rules)

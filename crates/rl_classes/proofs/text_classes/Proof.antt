@@ -2,9 +2,9 @@ use Prim.Native.Nat.{◌-◌}
 use Rattle.rl_classes.proofs.text_classes.Statement.{statement}
 use Rattle.rl_classes.proofs.text_classes.Tie as tie
 use borrow.Author.Rules.{rules}
-use Rattle.rl_classes.proofs.Laws.{Classed, classed-start, classed-more, classed-end, classed-tell}
+use Rattle.rl_classes.proofs.Laws.{Classed, classed_start, classed_more, classed_end, classed_tell}
 
-ruleset laws = (classed-start, classed-more, classed-end, classed-tell)
+ruleset laws = (classed_start, classed_more, classed_end, classed_tell)
 
 abbrev invariant-loop : tie.invariant-loop
 invariant-loop image counts links₀ classes₀ t₀ links classes t = Classed image counts links₀ classes₀ links classes t
@@ -41,7 +41,7 @@ loop-less c = search (laws, rules)
 
 loop-again : tie.Need-loop-preserved invariant-loop decreases-loop
 loop-again c =
-    classed-more _ _ _ _ _ _ _ c.before.before.before.before.before.before.before.before.before.before.before.before.loop.invariant c.before.before.before.before.before.before.before.before.before.before.if1.true _ _ c.before.before.before.before.before.before.before.before.find.ensures _ _ c.before.before.before.before.before.before.put-long.ensures c.before.before.put.ensures
+    classed_more _ _ _ _ _ _ _ c.before.before.before.before.before.before.before.before.before.before.before.before.loop.invariant c.before.before.before.before.before.before.before.before.before.before.if1.true _ _ c.before.before.before.before.before.before.before.before.find.ensures _ _ c.before.before.before.before.before.before.put-long.ensures c.before.before.put.ensures
 
 same_length : tie.Need-same-length invariant-loop decreases-loop
 same_length c = search (laws, rules)

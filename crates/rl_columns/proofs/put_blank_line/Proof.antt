@@ -1,5 +1,5 @@
 use borrow.Author.Rules.{rules}
-use Rattle.rl_columns.proofs.LineLaws.{puts-blank}
+use Rattle.rl_columns.proofs.LineLaws.{puts_blank}
 use Rattle.rl_columns.proofs.put_blank_line.Statement.{statement}
 use Rattle.rl_columns.proofs.put_blank_line.Tie as tie
 
@@ -20,7 +20,7 @@ same_length c = search rules
 
 returns : tie.Need-returns
 returns c =
-    puts-blank _ _ _ _ _
+    puts_blank _ _ _ _ _
     c.before.before.before.before.before.before.before.put-left.ensures
     c.before.before.put-text.ensures
 

@@ -1,10 +1,10 @@
 use borrow.Author.Rules.{rules}
-use Rattle.rl_text_out.proofs.Joined.{after-as, with-as}
-use Rattle.rl_columns.proofs.ColumnLaws.{column-there, space-is, question-is, octets-are}
+use Rattle.rl_text_out.proofs.Joined.{after_as, with_as}
+use Rattle.rl_columns.proofs.ColumnLaws.{column_there, space_is, question_is, octets_are}
 use Rattle.rl_columns.proofs.put_column.Statement.{statement}
 use Rattle.rl_columns.proofs.put_column.Tie as tie
 
-ruleset laws = (after-as, with-as, column-there, space-is, question-is, octets-are)
+ruleset laws = (after_as, with_as, column_there, space_is, question_is, octets_are)
 
 slice-aggregate-put-text : tie.Need-slice-aggregate-put-text
 slice-aggregate-put-text c = search rules

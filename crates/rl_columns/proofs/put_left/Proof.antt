@@ -2,11 +2,11 @@ use borrow.Author.Rules.{rules}
 use mathlib.Core.Path.{◌≡◌}
 use Prim.Native.Nat.{◌-◌, ◌≤◌}
 use lib.ListN.{length}
-use Rattle.rl_columns.proofs.ColumnLaws.{next-within, next_fits, RestAfter, RestWith, all_after, all-with, more-after, more-with, none_after, none-with, same-room}
+use Rattle.rl_columns.proofs.ColumnLaws.{next_within, next_fits, RestAfter, RestWith, all_after, all_with, more_after, more_with, none_after, none_with, same_room}
 use Rattle.rl_columns.proofs.put_left.Statement.{statement}
 use Rattle.rl_columns.proofs.put_left.Tie as tie
 
-ruleset laws = (next-within, next_fits, all_after, all-with, more-after, more-with, none_after, none-with, same-room)
+ruleset laws = (next_within, next_fits, all_after, all_with, more_after, more_with, none_after, none_with, same_room)
 
 abbrev invariant-loop : tie.invariant-loop
 invariant-loop out₀ at text columns place₀ i₀ column₀ out place i column =
@@ -42,8 +42,8 @@ loop-again c =
       search (laws, rules),
       search (laws, rules),
       search (laws, rules),
-      more-after _ _ _ _ _ _ _ _ _ _ _ (search rules) width put.0 put.1 loop.invariant.3,
-      more-with _ _ _ _ _ _ _ _ _ _ _ (search rules) width put.0 put.1 loop.invariant.4,
+      more_after _ _ _ _ _ _ _ _ _ _ _ (search rules) width put.0 put.1 loop.invariant.3,
+      more_with _ _ _ _ _ _ _ _ _ _ _ (search rules) width put.0 put.1 loop.invariant.4,
     )
 
 same_length : tie.Need-same-length invariant-loop decreases-loop

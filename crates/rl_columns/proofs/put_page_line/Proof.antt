@@ -1,5 +1,5 @@
 use borrow.Author.Rules.{rules}
-use Rattle.rl_columns.proofs.LineLaws.{puts-line}
+use Rattle.rl_columns.proofs.LineLaws.{puts_line}
 use Rattle.rl_columns.proofs.put_page_line.Statement.{statement}
 use Rattle.rl_columns.proofs.put_page_line.Tie as tie
 
@@ -32,7 +32,7 @@ returns c =
     let message = c.before.before.before.before.before.before.before in
     let space = message.before.before.before.before in
     let callee = space.before.before.before.before.before in
-    puts-line _ _ _ _ _ _ _ _ _ _ _ _ _ _ _
+    puts_line _ _ _ _ _ _ _ _ _ _ _ _ _ _ _
     callee.before.before.before.before.put-place.ensures
     callee.put-left.ensures
     space.put-text.ensures

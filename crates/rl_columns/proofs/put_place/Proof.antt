@@ -1,5 +1,5 @@
 use borrow.Author.Rules.{rules}
-use Rattle.rl_columns.proofs.LineLaws.{puts-place}
+use Rattle.rl_columns.proofs.LineLaws.{puts_place}
 use Rattle.rl_columns.proofs.put_place.Statement.{statement}
 use Rattle.rl_columns.proofs.put_place.Tie as tie
 
@@ -29,7 +29,7 @@ returns c =
     let span = c.before.before.before.before.before.before.before in
     let space = span.before.before.before.before in
     let call = space.before.before.before.before.before in
-    puts-place _ _ _ _ _ _ _ _ _ _ _
+    puts_place _ _ _ _ _ _ _ _ _ _ _
     call.put_right.ensures
     space.put-text.ensures
     span.put-right2.ensures

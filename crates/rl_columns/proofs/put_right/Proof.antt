@@ -1,7 +1,7 @@
 use borrow.Author.Rules.{rules}
 use Prim.Native.Nat.{ℕ}
 use lib.ListN.{length-replicate}
-use Rattle.rl_columns.proofs.LineLaws.{puts-right}
+use Rattle.rl_columns.proofs.LineLaws.{puts_right}
 use Rattle.rl_columns.proofs.put_right.Statement.{statement}
 use Rattle.rl_columns.proofs.put_right.Tie as tie
 
@@ -40,7 +40,7 @@ returns c =
     let digits = c.before.before.before.part.ensures in
     let spaced = c.before.before.before.before.before.before.before.before in
     let counted = spaced.before.before.before in
-    puts-right _ _ _ _ _ _ _ (length-replicate {A = ℕ} 20 0) counted.before.before.put-number.ensures counted.least.ensures digits _ _ _ _ _ _
+    puts_right _ _ _ _ _ _ _ (length-replicate {A = ℕ} 20 0) counted.before.before.put-number.ensures counted.least.ensures digits _ _ _ _ _ _
     spaced.put-left.ensures
     c.before.before.put-left2.ensures
 

@@ -1,9 +1,9 @@
 use Rattle.std.proofs.Common.{rules}
-use Rattle.rl_context.proofs.Limits.{passes-used, passes-more}
+use Rattle.rl_context.proofs.Limits.{passes_used, passes_more}
 use Rattle.rl_context.proofs.passes.Statement.{statement}
 use Rattle.rl_context.proofs.passes.Tie as tie
 
-ruleset laws = (passes-used, passes-more)
+ruleset laws = (passes_used, passes_more)
 
 returns : tie.Need-returns
 returns c = search (laws, rules)

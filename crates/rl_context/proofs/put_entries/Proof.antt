@@ -1,9 +1,9 @@
 use Rattle.std.proofs.Common.{◌-◌, rules}
-use Rattle.rl_context.proofs.Waits.{Entering, entering-none, entering-room, entering-more, entering-all}
+use Rattle.rl_context.proofs.Waits.{Entering, entering_none, entering_room, entering_more, entering_all}
 use Rattle.rl_context.proofs.put_entries.Statement.{statement}
 use Rattle.rl_context.proofs.put_entries.Tie as tie
 
-ruleset laws = (entering-none, entering-room, entering-more, entering-all)
+ruleset laws = (entering_none, entering_room, entering_more, entering_all)
 
 abbrev invariant-loop : tie.invariant-loop
 invariant-loop scratch₀ waiting at first count i₀ scratch i = Entering scratch₀ waiting at first count scratch i

@@ -1,10 +1,10 @@
 use native.Mathlib.Omega.{arith}
 use borrow.Author.Rules.{rules}
-use Rattle.rl_encode.proofs.Records.{Recording, recording-none, recording-all, recording-end, recording-room, recording-more}
+use Rattle.rl_encode.proofs.Records.{Recording, recording_none, recording_all, recording_end, recording_room, recording_more}
 use Rattle.rl_encode.proofs.put_fields.Statement.{statement}
 use Rattle.rl_encode.proofs.put_fields.Tie as tie
 
-ruleset laws = (recording-none, recording-all, recording-end, recording-room, recording-more)
+ruleset laws = (recording_none, recording_all, recording_end, recording_room, recording_more)
 
 abbrev invariant-loop : tie.invariant-loop
 invariant-loop out₀ at row words rest₀ place₀ j₀ out rest place j = Recording out₀ at row words out rest place j
@@ -28,10 +28,10 @@ long-at-requires : tie.Need-long-at-requires invariant-loop decreases-loop
 long-at-requires c κs = search (laws, rules)
 
 put-number-requires : tie.Need-put-number-requires invariant-loop decreases-loop
-put-number-requires c κs = recording-room _ _ _ _ _ _ _ _ c.before.before.before.before.before.loop.invariant (search rules) _ _ c.before.before.before.sort-of.ensures c.before.before.width_of_lem.ensures
+put-number-requires c κs = recording_room _ _ _ _ _ _ _ _ c.before.before.before.before.before.loop.invariant (search rules) _ _ c.before.before.before.sort-of.ensures c.before.before.width_of_lem.ensures
 
 add-place : tie.Need-overflow-add-place invariant-loop decreases-loop
-add-place c = omega (arith, recording-room _ _ _ _ _ _ _ _ c.before.before.before.before.before.before.before.before.loop.invariant (search rules) _ _ c.before.before.before.before.before.before.sort-of.ensures c.before.before.before.before.before.width_of_lem.ensures)
+add-place c = omega (arith, recording_room _ _ _ _ _ _ _ _ c.before.before.before.before.before.before.before.before.loop.invariant (search rules) _ _ c.before.before.before.before.before.before.sort-of.ensures c.before.before.before.before.before.width_of_lem.ensures)
 
 add-j : tie.Need-overflow-add-j invariant-loop decreases-loop
 add-j c = search (laws, rules)
@@ -41,7 +41,7 @@ loop-less c = search (laws, rules)
 
 loop-again : tie.Need-loop-preserved invariant-loop decreases-loop
 loop-again c =
-    recording-more _ _ _ _ _ _ _ _ c.before.before.before.before.before.before.before.before.loop.invariant (search rules) _ _ c.before.before.before.before.before.before.sort-of.ensures c.before.before.before.before.before.width_of_lem.ensures _ _
+    recording_more _ _ _ _ _ _ _ _ c.before.before.before.before.before.before.before.before.loop.invariant (search rules) _ _ c.before.before.before.before.before.before.sort-of.ensures c.before.before.before.before.before.width_of_lem.ensures _ _
     c.before.before.before.long-at.ensures c.before.before.put-number.ensures
 
 same_length : tie.Need-same-length invariant-loop decreases-loop

@@ -2,11 +2,11 @@ use mathlib.Core.Path.{◌≡◌}
 use Prim.Native.Nat.{◌-◌, ◌≤◌}
 use lib.ListN.{length}
 use borrow.Author.Rules.{rules}
-use Rattle.rl_encode.proofs.Laws.{Putting, putting-none, putting-more, putting-length, putting-all}
+use Rattle.rl_encode.proofs.Laws.{Putting, putting_none, putting_more, putting_length, putting_all}
 use Rattle.rl_encode.proofs.put_number.Statement.{statement}
 use Rattle.rl_encode.proofs.put_number.Tie as tie
 
-ruleset laws = (putting-none, putting-more, putting-length, putting-all)
+ruleset laws = (putting_none, putting_more, putting_length, putting_all)
 
 abbrev invariant-loop : tie.invariant-loop
 invariant-loop out₀ at n width rest₀ i₀ out rest i = (i ≤ width) × ((length out ≡ length out₀) × Putting out₀ at n width i rest out)

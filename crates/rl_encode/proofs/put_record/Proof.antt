@@ -1,9 +1,9 @@
 use borrow.Author.Rules.{rules}
-use Rattle.rl_encode.proofs.Records.{fields-room, record-put, record-ends}
+use Rattle.rl_encode.proofs.Records.{fields_room, record_put, record_ends}
 use Rattle.rl_encode.proofs.put_record.Statement.{statement}
 use Rattle.rl_encode.proofs.put_record.Tie as tie
 
-ruleset laws = (fields-room, record-put, record-ends)
+ruleset laws = (fields_room, record_put, record_ends)
 
 put-number-requires : tie.Need-put-number-requires
 put-number-requires c κs = search (laws, rules)

@@ -4,9 +4,9 @@ use Prim.Native.Nat.{◌-◌, ◌+◌, ◌≤◌}
 use borrow.Author.Rules.{rules}
 use Rattle.rl_fields.proofs.are_zeros.Statement.{statement}
 use Rattle.rl_fields.proofs.are_zeros.Tie as tie
-use Rattle.rl_fields.proofs.FieldLaws.{zeros-start, zeros-more, zeros-not, zeros-end}
+use Rattle.rl_fields.proofs.FieldLaws.{zeros_start, zeros_more, zeros_not, zeros_end}
 
-ruleset laws = (zeros-start, zeros-more, zeros-not, zeros-end)
+ruleset laws = (zeros_start, zeros_more, zeros_not, zeros_end)
 
 abbrev invariant-loop : tie.invariant-loop
 invariant-loop s at n i₀ i = (i ≤ n) × (zeros s at n ≡ zeros s (at + i) (n - i))

@@ -1,9 +1,9 @@
 use borrow.Author.Rules.{rules}
 use Rattle.rl_fields.proofs.bool_operand.Statement.{statement}
 use Rattle.rl_fields.proofs.bool_operand.Tie as tie
-use Rattle.rl_fields.proofs.FieldLaws.{bool-low, bool-high}
+use Rattle.rl_fields.proofs.FieldLaws.{bool_low, bool_high}
 
-ruleset laws = (bool-low, bool-high)
+ruleset laws = (bool_low, bool_high)
 
 shared-slice-read-if1 : tie.Need-shared-slice-read-if1
 shared-slice-read-if1 c = search rules

@@ -1,9 +1,9 @@
 use borrow.Author.Rules.{rules}
 use Rattle.rl_fields.proofs.byte_in.Statement.{statement}
 use Rattle.rl_fields.proofs.byte_in.Tie as tie
-use Rattle.rl_fields.proofs.FieldLaws.{byte_low, byte-good, byte_high}
+use Rattle.rl_fields.proofs.FieldLaws.{byte_low, byte_good, byte_high}
 
-ruleset laws = (byte_low, byte-good, byte_high)
+ruleset laws = (byte_low, byte_good, byte_high)
 
 returns : tie.Need-returns
 returns c = search (laws, rules)

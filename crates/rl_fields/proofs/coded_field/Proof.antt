@@ -1,9 +1,9 @@
 use borrow.Author.Rules.{rules}
 use Rattle.rl_fields.proofs.coded_field.Statement.{statement}
 use Rattle.rl_fields.proofs.coded_field.Tie as tie
-use Rattle.rl_fields.proofs.RecordLaws.{coded-raw4, coded-raw8, coded-node, coded-text, coded-sort}
+use Rattle.rl_fields.proofs.RecordLaws.{coded_raw4, coded_raw8, coded_node, coded_text, coded_sort}
 
-ruleset laws = (coded-raw4, coded-raw8, coded-node, coded-text, coded-sort)
+ruleset laws = (coded_raw4, coded_raw8, coded_node, coded_text, coded_sort)
 
 raw-field-requires : tie.Need-raw-field-requires
 raw-field-requires c κs = search rules

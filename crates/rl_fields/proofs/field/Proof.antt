@@ -1,9 +1,9 @@
 use borrow.Author.Rules.{rules}
 use Rattle.rl_fields.proofs.field.Statement.{statement}
 use Rattle.rl_fields.proofs.field.Tie as tie
-use Rattle.rl_fields.proofs.RecordLaws.{field_past, field-raw, field-byte, field-scalar, field-operand-sort, field-operand, operand-there, field-one, field-maybe, field-part, field-many, field-range}
+use Rattle.rl_fields.proofs.RecordLaws.{field_past, field_raw, field_byte, field_scalar, field_operand_sort, field_operand, operand_there, field_one, field_maybe, field_part, field_many, field_range}
 
-ruleset laws = (field_past, field-raw, field-byte, field-scalar, field-operand-sort, field-operand, operand-there, field-one, field-maybe, field-part, field-many, field-range)
+ruleset laws = (field_past, field_raw, field_byte, field_scalar, field_operand_sort, field_operand, operand_there, field_one, field_maybe, field_part, field_many, field_range)
 
 width-of-requires : tie.Need-width-of-requires
 width-of-requires c κs = search rules

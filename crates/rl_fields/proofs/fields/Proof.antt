@@ -1,7 +1,7 @@
 use mathlib.Core.Logic.{⊎_elim}
 use Rattle.rl_schema.specs.Codes.{codes}
 use lib.ListN.{get_or}
-use Rattle.rl_spec.specs.Fields.{fieldsFrom}
+use Rattle.rl_spec.specs.Fields.{fields_from}
 use mathlib.Core.Path.{◌≡◌}
 use Prim.Native.Nat.{◌^◌, ◌<◌}
 use borrow.Author.Rules.{rules}
@@ -14,12 +14,12 @@ use Rattle.rl_fields.proofs.coded_field.Reads as coded-field-reads
 use Rattle.rl_schema.proofs.row_of.Reads as row-of-reads
 use Rattle.rl_schema.proofs.sort_of.Reads as sort-of-reads
 use Rattle.rl_schema.proofs.width_of.Reads as width-of-reads
-use Rattle.rl_fields.proofs.RecordLaws.{past_fits, fields-as, span-past, span-next, fields-start, fields-end, fields-more, fields-bad, field_fits}
+use Rattle.rl_fields.proofs.RecordLaws.{past_fits, fields_as, span_past, span_next, fields_start, fields_end, fields_more, fields_bad, field_fits}
 
-ruleset laws = (fields-start, fields-end, fields-more, fields-bad, field_fits)
+ruleset laws = (fields_start, fields_end, fields_more, fields_bad, field_fits)
 
 abbrev invariant-loop : tie.invariant-loop
-invariant-loop s rows w p seen own kind start rest₀ at₀ tall₀ rest at tall = (rest < 2 ^ 64) × (fieldsFrom s w p seen own (codes (get_or rows kind 0)) start 0 ≡ fieldsFrom s w p seen own (codes rest) at tall)
+invariant-loop s rows w p seen own kind start rest₀ at₀ tall₀ rest at tall = (rest < 2 ^ 64) × (fields_from s w p seen own (codes (get_or rows kind 0)) start 0 ≡ fields_from s w p seen own (codes rest) at tall)
 
 abbrev decreases-loop : tie.decreases-loop
 decreases-loop s rows w p seen own kind start rest₀ at₀ tall₀ rest at tall = rest
@@ -31,7 +31,7 @@ is-past-requires : tie.Need-is-past-requires invariant-loop decreases-loop
 is-past-requires c κs = search (laws, rules)
 
 returns : tie.Need-returns invariant-loop decreases-loop
-returns c = search (span-past, rules)
+returns c = search (span_past, rules)
 
 add_at : tie.Need-overflow-add-at invariant-loop decreases-loop
 add_at c = search (past_fits, rules)
@@ -39,8 +39,8 @@ add_at c = search (past_fits, rules)
 loop-holds : tie.Need-loop-init invariant-loop decreases-loop
 loop-holds c =
     ⊎_elim
-    (λ x. (search rules, span-next _ _ _ _ _ _ _ _ c.before.row_of.ensures (search rules) x.0.taken _ x.1.ensures x.2.left _ _ x.3 x.4))
-    (λ x. (search rules, fields-as _ _ _ _ _ _ _ _ _ _ c.before.row_of.ensures x.1 x.2)) c.if1.branch
+    (λ x. (search rules, span_next _ _ _ _ _ _ _ _ c.before.row_of.ensures (search rules) x.0.taken _ x.1.ensures x.2.left _ _ x.3 x.4))
+    (λ x. (search rules, fields_as _ _ _ _ _ _ _ _ _ _ c.before.row_of.ensures x.1 x.2)) c.if1.branch
 
 cast-code : tie.Need-overflow-cast-code invariant-loop decreases-loop
 cast-code c = search (laws, rules)

@@ -1,9 +1,9 @@
 use borrow.Author.Rules.{rules}
 use Rattle.rl_fields.proofs.one_reference.Statement.{statement}
 use Rattle.rl_fields.proofs.one_reference.Tie as tie
-use Rattle.rl_fields.proofs.RecordLaws.{one-past, one-there}
+use Rattle.rl_fields.proofs.RecordLaws.{one_past, one_there}
 
-ruleset laws = (one-past, one-there)
+ruleset laws = (one_past, one_there)
 
 is-past-requires : tie.Need-is-past-requires
 is-past-requires c κs = search rules

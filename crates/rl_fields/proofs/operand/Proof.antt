@@ -1,9 +1,9 @@
 use borrow.Author.Rules.{rules}
 use Rattle.rl_fields.proofs.operand.Statement.{statement}
 use Rattle.rl_fields.proofs.operand.Tie as tie
-use Rattle.rl_fields.proofs.FieldLaws.{operand-none, operand-integer, operand-bool, operand-text, operand-left}
+use Rattle.rl_fields.proofs.FieldLaws.{operand_none, operand_integer, operand_bool, operand_text, operand_left}
 
-ruleset laws = (operand-none, operand-integer, operand-bool, operand-text, operand-left)
+ruleset laws = (operand_none, operand_integer, operand_bool, operand_text, operand_left)
 
 are-zeros-requires : tie.Need-are-zeros-requires
 are-zeros-requires c κs = search rules

@@ -1,9 +1,9 @@
 use borrow.Author.Rules.{rules}
 use Rattle.rl_fields.proofs.operand_sort.Statement.{statement}
 use Rattle.rl_fields.proofs.operand_sort.Tie as tie
-use Rattle.rl_fields.proofs.FieldLaws.{sort-none, sort-some}
+use Rattle.rl_fields.proofs.FieldLaws.{sort_none, sort_some}
 
-ruleset laws = (sort-none, sort-some)
+ruleset laws = (sort_none, sort_some)
 
 unless-value-requires : tie.Need-unless-value-requires
 unless-value-requires c κs = search rules

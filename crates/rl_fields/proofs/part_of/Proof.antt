@@ -1,9 +1,9 @@
 use borrow.Author.Rules.{rules}
 use Rattle.rl_fields.proofs.part_of.Statement.{statement}
 use Rattle.rl_fields.proofs.part_of.Tie as tie
-use Rattle.rl_fields.proofs.FieldLaws.{part-far, part-good, part-bad}
+use Rattle.rl_fields.proofs.FieldLaws.{part_far, part_good, part_bad}
 
-ruleset laws = (part-far, part-good, part-bad)
+ruleset laws = (part_far, part_good, part_bad)
 
 cast-most : tie.Need-overflow-cast-most
 cast-most c = search rules

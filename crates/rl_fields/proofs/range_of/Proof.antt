@@ -1,9 +1,9 @@
 use borrow.Author.Rules.{rules}
 use Rattle.rl_fields.proofs.range_of.Statement.{statement}
 use Rattle.rl_fields.proofs.range_of.Tie as tie
-use Rattle.rl_fields.proofs.FieldLaws.{range-in, range-out}
+use Rattle.rl_fields.proofs.FieldLaws.{range_in, range_out}
 
-ruleset laws = (range-in, range-out)
+ruleset laws = (range_in, range_out)
 
 count-in-requires : tie.Need-count-in-requires
 count-in-requires c κs = search rules

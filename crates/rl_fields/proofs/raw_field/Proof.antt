@@ -1,9 +1,9 @@
 use borrow.Author.Rules.{rules}
 use Rattle.rl_fields.proofs.raw_field.Statement.{statement}
 use Rattle.rl_fields.proofs.raw_field.Tie as tie
-use Rattle.rl_fields.proofs.RecordLaws.{raw-past, raw-there}
+use Rattle.rl_fields.proofs.RecordLaws.{raw_past, raw_there}
 
-ruleset laws = (raw-past, raw-there)
+ruleset laws = (raw_past, raw_there)
 
 is-past-requires : tie.Need-is-past-requires
 is-past-requires c κs = search rules

@@ -1,9 +1,9 @@
 use borrow.Author.Rules.{rules}
 use Rattle.rl_fields.proofs.record.Statement.{statement}
 use Rattle.rl_fields.proofs.record.Tie as tie
-use Rattle.rl_fields.proofs.RecordLaws.{record-past, record-kind, record-stop, record-next, record-tall, byte-there, past_fits}
+use Rattle.rl_fields.proofs.RecordLaws.{record_past, record_kind, record_stop, record_next, record_tall, byte_there, past_fits}
 
-ruleset laws = (record-past, record-kind, record-stop, record-next, record-tall, byte-there, past_fits)
+ruleset laws = (record_past, record_kind, record_stop, record_next, record_tall, byte_there, past_fits)
 
 is-past-requires : tie.Need-is-past-requires
 is-past-requires c κs = search rules

@@ -1,9 +1,9 @@
 use borrow.Author.Rules.{rules}
 use Rattle.rl_fields.proofs.unless_value.Statement.{statement}
 use Rattle.rl_fields.proofs.unless_value.Tie as tie
-use Rattle.rl_fields.proofs.FieldLaws.{unless-yes, unless-no}
+use Rattle.rl_fields.proofs.FieldLaws.{unless_yes, unless_no}
 
-ruleset laws = (unless-yes, unless-no)
+ruleset laws = (unless_yes, unless_no)
 
 returns : tie.Need-returns
 returns c = search (laws, rules)

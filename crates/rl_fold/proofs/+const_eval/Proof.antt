@@ -2,7 +2,7 @@ use Prim.Native.Nat.{ℕ, ◌<◌}
 use borrow.Fn.Kinds.{In}
 use borrow.Fn.PlainCycle.{Measures, is, falls, and}
 use borrow.Author.Rules.{rules}
-use Rattle.rl_fold.proofs.FoldLaws.{falls-grouping, falls-unary, falls-left, falls-right, fold-known, fold_done, fold-grouping, fold-unary, fold-binary}
+use Rattle.rl_fold.proofs.FoldLaws.{falls_grouping, falls_unary, falls_left, falls_right, fold_known, fold_done, fold_grouping, fold_unary, fold_binary}
 use Rattle.rl_fold.proofs.const_eval.Reads as const-eval
 use Rattle.rl_fold.proofs.const_eval.Kinds as const-eval-kinds
 use Rattle.rl_fold.proofs.+const_eval.Lts-const_eval as const-eval-lts
@@ -15,7 +15,7 @@ use Rattle.rl_records.proofs.form_at.Reads as form-at-reads
 use Rattle.rl_fold.proofs.+const_eval.{statement}
 use Rattle.rl_fold.proofs.+const_eval.Tie.{close}
 
-ruleset laws = (falls-grouping, falls-unary, falls-left, falls-right, fold-known, fold_done, fold-grouping, fold-unary, fold-binary)
+ruleset laws = (falls_grouping, falls_unary, falls_left, falls_right, fold_known, fold_done, fold_grouping, fold_unary, fold_binary)
 
 abbrev μ-const-eval : Measures 5 const-eval-kinds.ps ℕ
 μ-const-eval κs a = a.1.1.1.1.1.1.1.0

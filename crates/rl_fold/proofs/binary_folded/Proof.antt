@@ -1,9 +1,9 @@
 use borrow.Author.Rules.{rules}
 use Rattle.rl_fold.proofs.binary_folded.Statement.{statement}
 use Rattle.rl_fold.proofs.binary_folded.Tie as tie
-use Rattle.rl_fold.proofs.HeadLaws.{both_some, right-none, left-none}
+use Rattle.rl_fold.proofs.HeadLaws.{both_some, right_none, left_none}
 
-ruleset laws = (both_some, right-none, left-none)
+ruleset laws = (both_some, right_none, left_none)
 
 enum-known-a : tie.Need-enum-known-a
 enum-known-a c = search rules

@@ -1,9 +1,9 @@
 use Rattle.rl_fold.proofs.binary_head.Statement.{statement}
 use Rattle.rl_fold.proofs.binary_head.Tie as tie
 use borrow.Author.Rules.{rules}
-use Rattle.rl_fold.proofs.HeadLaws.{left-late, right-late, binary-early}
+use Rattle.rl_fold.proofs.HeadLaws.{left_late, right_late, binary_early}
 
-ruleset laws = (left-late, right-late, binary-early)
+ruleset laws = (left_late, right_late, binary_early)
 
 returns : tie.Need-returns
 returns c = search (laws, rules)

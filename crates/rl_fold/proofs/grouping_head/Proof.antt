@@ -1,9 +1,9 @@
 use Rattle.rl_fold.proofs.grouping_head.Statement.{statement}
 use Rattle.rl_fold.proofs.grouping_head.Tie as tie
 use borrow.Author.Rules.{rules}
-use Rattle.rl_fold.proofs.HeadLaws.{grouping-late, grouping-early}
+use Rattle.rl_fold.proofs.HeadLaws.{grouping_late, grouping_early}
 
-ruleset laws = (grouping-late, grouping-early)
+ruleset laws = (grouping_late, grouping_early)
 
 returns : tie.Need-returns
 returns c = search (laws, rules)

@@ -1,9 +1,9 @@
 use borrow.Author.Rules.{rules}
 use Rattle.rl_fold.proofs.head_of.Statement.{statement}
 use Rattle.rl_fold.proofs.head_of.Tie as tie
-use Rattle.rl_fold.proofs.HeadLaws.{head-literal, head-identifier, head-unary, head-binary, head-grouping, head-null, head-assign, head_ok, head-err, head-is-err, head-unwrap, head-other}
+use Rattle.rl_fold.proofs.HeadLaws.{head_literal, head_identifier, head_unary, head_binary, head_grouping, head_null, head_assign, head_ok, head_err, head_is_err, head_unwrap, head_other}
 
-ruleset laws = (head-literal, head-identifier, head-unary, head-binary, head-grouping, head-null, head-assign, head_ok, head-err, head-is-err, head-unwrap, head-other)
+ruleset laws = (head_literal, head_identifier, head_unary, head_binary, head_grouping, head_null, head_assign, head_ok, head_err, head_is_err, head_unwrap, head_other)
 
 enum-known-form : tie.Need-enum-known-form
 enum-known-form c = search rules

@@ -1,9 +1,9 @@
 use borrow.Author.Rules.{rules}
 use Rattle.rl_fold.proofs.unary_folded.Statement.{statement}
 use Rattle.rl_fold.proofs.unary_folded.Tie as tie
-use Rattle.rl_fold.proofs.HeadLaws.{unary-some, unary-none}
+use Rattle.rl_fold.proofs.HeadLaws.{unary_some, unary_none}
 
-ruleset laws = (unary-some, unary-none)
+ruleset laws = (unary_some, unary_none)
 
 enum-known-v : tie.Need-enum-known-v
 enum-known-v c = search rules

@@ -1,9 +1,9 @@
 use Rattle.rl_fold.proofs.unary_head.Statement.{statement}
 use Rattle.rl_fold.proofs.unary_head.Tie as tie
 use borrow.Author.Rules.{rules}
-use Rattle.rl_fold.proofs.HeadLaws.{unary-late, unary-early}
+use Rattle.rl_fold.proofs.HeadLaws.{unary_late, unary_early}
 
-ruleset laws = (unary-late, unary-early)
+ruleset laws = (unary_late, unary_early)
 
 returns : tie.Need-returns
 returns c = search (laws, rules)

@@ -1,9 +1,9 @@
 use borrow.Author.Rules.{rules}
 use Rattle.rl_fold.proofs.value_text.Statement.{statement}
 use Rattle.rl_fold.proofs.value_text.Tie as tie
-use Rattle.rl_fold.proofs.HeadLaws.{text-int, text-float, text-str, text-bool}
+use Rattle.rl_fold.proofs.HeadLaws.{text_int, text_float, text_str, text_bool}
 
-ruleset laws = (text-int, text-float, text-str, text-bool)
+ruleset laws = (text_int, text_float, text_str, text_bool)
 
 enum-known-v : tie.Need-enum-known-v
 enum-known-v c = search rules

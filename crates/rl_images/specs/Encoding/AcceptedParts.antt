@@ -8,133 +8,133 @@ use Rattle.rl_spec.specs.declared.Counts.{Counts}
 use Rattle.rl_spec.specs.declared.Answer.TheVariants.{Accepted}
 use Rattle.rl_spec.specs.declared.Section.{Section}
 use Rattle.rl_spec.specs.declared.Section.TheVariants.{Texts, Lists, Expressions, Statements, Parameters, Clauses, Functions, Calls}
-use Rattle.rl_spec.specs.Bytes.{u16At}
-use Rattle.rl_spec.specs.Schema.{limits, textBytesAt, sections, count_of, sortOf, schema, fieldsIn, fields_of}
-use Rattle.rl_spec.specs.Fields.{listsAt}
-use Rattle.rl_spec.specs.Read.{countsOf, answer_of}
-use Rattle.rl_spec.specs.Image.{Rec, Image, recordsOf, recordOf, field_of, first, entry_of, encodeRecords, fields_at, recordIn, end_at, sectionsIn, image_of, AllBytes, AllWithin}
-use Rattle.rl_images.specs.Reading.Rows.{last_at, sectionsAt}
+use Rattle.rl_spec.specs.Bytes.{u16_at}
+use Rattle.rl_spec.specs.Schema.{limits, text_bytes_at, sections, count_of, sort_of, schema, fields_in_lem, fields_of}
+use Rattle.rl_spec.specs.Fields.{lists_at}
+use Rattle.rl_spec.specs.Read.{counts_of, answer_of}
+use Rattle.rl_spec.specs.Image.{Rec, Image, records_of, record_of_lem, field_of, first, entry_of, encode_records, fields_at, record_in, end_at, sections_in, image_of, AllBytes, AllWithin}
+use Rattle.rl_images.specs.Reading.Rows.{last_at, sections_at}
 use Rattle.rl_images.specs.Reading.Whole.{CountsIn}
-use Rattle.rl_images.specs.Reading.ReadOutcome.{Reads, accepted-reads, accepted-header}
-use Rattle.rl_images.specs.Reading.Decode.{last-after, end_after, records-length, CountsAt, header-counts, records-bytes, text-bytes, text-length}
-use Rattle.rl_images.specs.Reading.Starts.{sectionAt, section-records, section-size, stands-entry}
-use Rattle.rl_images.specs.Images.SchemaSorts.{kind-range}
-use Rattle.rl_images.specs.Encoding.BytesAt.{BytesAt, u16-number, u32-number}
+use Rattle.rl_images.specs.Reading.ReadOutcome.{Reads, accepted_reads, accepted_header}
+use Rattle.rl_images.specs.Reading.Decode.{last_after, end_after, records_length, CountsAt, header_counts, records_bytes, text_bytes_lem, text_length}
+use Rattle.rl_images.specs.Reading.Starts.{section_at, section_records, section_size, stands_entry}
+use Rattle.rl_images.specs.Images.SchemaSorts.{kind_range}
+use Rattle.rl_images.specs.Encoding.BytesAt.{BytesAt, u16_number, u32_number}
 use Rattle.rl_images.specs.Encoding.ReaderKnows.{counts, Placed}
-use Rattle.rl_images.specs.Encoding.CheckedFits.{number-below}
+use Rattle.rl_images.specs.Encoding.CheckedFits.{number_below}
 
 -- ---- bytes
 
-pub take-bytes : (n : ℕ) (s : List ℕ) → AllBytes s → AllBytes (take n s)
-take-bytes zero s h = tt
-take-bytes (suc n) [] h = tt
-take-bytes (suc n) (b ∷ s) h = (h.0, take-bytes n s h.1)
+pub take_bytes : (n : ℕ) (s : List ℕ) → AllBytes s → AllBytes (take n s)
+take_bytes zero s h = tt
+take_bytes (suc n) [] h = tt
+take_bytes (suc n) (b ∷ s) h = (h.0, take_bytes n s h.1)
 
-pub drop-bytes : (n : ℕ) (s : List ℕ) → AllBytes s → AllBytes (drop n s)
-drop-bytes zero s h = h
-drop-bytes (suc n) [] h = tt
-drop-bytes (suc n) (b ∷ s) h = drop-bytes n s h.1
+pub drop_bytes : (n : ℕ) (s : List ℕ) → AllBytes s → AllBytes (drop n s)
+drop_bytes zero s h = h
+drop_bytes (suc n) [] h = tt
+drop_bytes (suc n) (b ∷ s) h = drop_bytes n s h.1
 
 -- the bytes from a place on begin with what stands there
-split-stands : (s x y : List ℕ) (at : ℕ) → at ≤ length s → x ++ y ≡ drop at s → BytesAt s at x
-split-stands s x y at l e =
+split_stands : (s x y : List ℕ) (at : ℕ) → at ≤ length s → x ++ y ≡ drop at s → BytesAt s at x
+split_stands s x y at l e =
     record { before = take at s; rest = y; whole = rw e (sym (take-append-drop at s)); place = length-take-le at s l }
 
 -- ---- counts
 
-counts-within : (s : List ℕ) (c : Counts) (os : List Section) (ms : List ℕ) (at x : ℕ) → length os ≡ length ms → CountsAt s c os x → CountsIn s ms x → AllWithin (map length (sectionsIn s c os at)) ms
-unfolding sectionsIn
-counts-within s c [] [] at x e q h = tt
-counts-within s c [] (m ∷ ms) at x e q h = absurd (omega arith)
-counts-within s c (o ∷ os) [] at x e q h = absurd (omega arith)
-counts-within s c (o ∷ os) (m ∷ ms) at x e q h =
-    (rw (records-length, q.0) h.0, counts-within s c os ms (end_at s (count_of c o) at) (x + 2) (omega arith) q.1 h.1)
+counts_within : (s : List ℕ) (c : Counts) (os : List Section) (ms : List ℕ) (at x : ℕ) → length os ≡ length ms → CountsAt s c os x → CountsIn s ms x → AllWithin (map length (sections_in s c os at)) ms
+unfolding sections_in
+counts_within s c [] [] at x e q h = tt
+counts_within s c [] (m ∷ ms) at x e q h = absurd (omega arith)
+counts_within s c (o ∷ os) [] at x e q h = absurd (omega arith)
+counts_within s c (o ∷ os) (m ∷ ms) at x e q h =
+    (rw (records_length, q.0) h.0, counts_within s c os ms (end_at s (count_of c o) at) (x + 2) (omega arith) q.1 h.1)
 
 module _ (s : List ℕ) (bytes : AllBytes s) {p : List ℕ} (r : Reads s p) where
-  pub arena-below : (image_of s).arena < 2 ^ 32
+  pub arena_below : (image_of s).arena < 2 ^ 32
   unfolding image_of
-  arena-below = rw (u32-number s 1) (number-below s bytes 4 1)
+  arena_below = rw (u32_number s 1) (number_below s bytes 4 1)
 
-  pub text-are-bytes : AllBytes (image_of s).bytes
+  pub text_are_bytes : AllBytes (image_of s).bytes
   unfolding image_of
-  text-are-bytes = take-bytes (countsOf s).bytes (drop textBytesAt s) (drop-bytes textBytesAt s bytes)
+  text_are_bytes = take_bytes (counts_of s).bytes (drop text_bytes_at s) (drop_bytes text_bytes_at s bytes)
 
-  pub image-counts : AllWithin (length (image_of s).bytes ∷ map length (image_of s).records) limits
+  pub image_counts : AllWithin (length (image_of s).bytes ∷ map length (image_of s).records) limits
   unfolding image_of limits sections
-  image-counts =
-      (rw (text-length s bytes r.text) r.header.counts.0, counts-within s (countsOf s) sections (drop 1 limits) (sectionsAt s) 7 refl (header-counts s) r.header.counts.1)
+  image_counts =
+      (rw (text_length s bytes r.text) r.header.counts.0, counts_within s (counts_of s) sections (drop 1 limits) (sections_at s) 7 refl (header_counts s) r.header.counts.1)
 
-  bytes-size : length (image_of s).bytes ≡ (countsOf s).bytes
-  unfolding image_of countsOf
-  bytes-size = text-length s bytes r.text
+  bytes_size : length (image_of s).bytes ≡ (counts_of s).bytes
+  unfolding image_of counts_of
+  bytes_size = text_length s bytes r.text
 
-  pub counts-image : counts (image_of s) ≡ countsOf s
-  counts-image =
+  pub counts_image : counts (image_of s) ≡ counts_of s
+  counts_image =
       rw (
-        bytes-size,
-        section-size s Texts,
-        section-size s Lists,
-        section-size s Expressions,
-        section-size s Statements,
-        section-size s Parameters,
-        section-size s Clauses,
-        section-size s Functions,
-        section-size s Calls,
+        bytes_size,
+        section_size s Texts,
+        section_size s Lists,
+        section_size s Expressions,
+        section_size s Statements,
+        section_size s Parameters,
+        section_size s Clauses,
+        section_size s Functions,
+        section_size s Calls,
       )
 
   -- ---- places
 
-  section-ends : (o : Section) → end_at s (count_of (countsOf s) o) (sectionAt s o) ≤ last_at s (countsOf s) sections (sectionsAt s)
-  unfolding sectionAt last_at sections
-  section-ends Texts = last-after s (countsOf s) (drop 1 sections) _
-  section-ends Lists = last-after s (countsOf s) (drop 2 sections) _
-  section-ends Expressions = last-after s (countsOf s) (drop 3 sections) _
-  section-ends Statements = last-after s (countsOf s) (drop 4 sections) _
-  section-ends Parameters = last-after s (countsOf s) (drop 5 sections) _
-  section-ends Clauses = last-after s (countsOf s) (drop 6 sections) _
-  section-ends Functions = last-after s (countsOf s) (drop 7 sections) _
-  section-ends Calls = last-after s (countsOf s) (drop 8 sections) _
+  section_ends : (o : Section) → end_at s (count_of (counts_of s) o) (section_at s o) ≤ last_at s (counts_of s) sections (sections_at s)
+  unfolding section_at last_at sections
+  section_ends Texts = last_after s (counts_of s) (drop 1 sections) _
+  section_ends Lists = last_after s (counts_of s) (drop 2 sections) _
+  section_ends Expressions = last_after s (counts_of s) (drop 3 sections) _
+  section_ends Statements = last_after s (counts_of s) (drop 4 sections) _
+  section_ends Parameters = last_after s (counts_of s) (drop 5 sections) _
+  section_ends Clauses = last_after s (counts_of s) (drop 6 sections) _
+  section_ends Functions = last_after s (counts_of s) (drop 7 sections) _
+  section_ends Calls = last_after s (counts_of s) (drop 8 sections) _
 
-  section-bytes : (o : Section) → encodeRecords (recordsOf (image_of s) o) ++ drop (end_at s (count_of (countsOf s) o) (sectionAt s o)) s ≡ drop (sectionAt s o) s
-  section-bytes o =
-      rw section-records
-      (records-bytes s bytes (count_of (countsOf s) o) (sectionAt s o) (omega (arith, section-ends o, r.ends)))
+  section_bytes : (o : Section) → encode_records (records_of (image_of s) o) ++ drop (end_at s (count_of (counts_of s) o) (section_at s o)) s ≡ drop (section_at s o) s
+  section_bytes o =
+      rw section_records
+      (records_bytes s bytes (count_of (counts_of s) o) (section_at s o) (omega (arith, section_ends o, r.ends)))
 
-  pub section-stands : (o : Section) → BytesAt s (sectionAt s o) (encodeRecords (recordsOf (image_of s) o))
-  section-stands o =
-      split-stands s _ _ (sectionAt s o)
-      (omega (arith, section-ends o, r.ends, end_after s (count_of (countsOf s) o) (sectionAt s o))) (section-bytes o)
+  pub section_stands : (o : Section) → BytesAt s (section_at s o) (encode_records (records_of (image_of s) o))
+  section_stands o =
+      split_stands s _ _ (section_at s o)
+      (omega (arith, section_ends o, r.ends, end_after s (count_of (counts_of s) o) (section_at s o))) (section_bytes o)
 
-  pub section-next : (o : Section) → sectionAt s o + length (encodeRecords (recordsOf (image_of s) o)) ≡ end_at s (count_of (countsOf s) o) (sectionAt s o)
-  section-next o =
+  pub section_next : (o : Section) → section_at s o + length (encode_records (records_of (image_of s) o)) ≡ end_at s (count_of (counts_of s) o) (section_at s o)
+  section_next o =
       omega (
         arith,
-        section-ends o,
+        section_ends o,
         r.ends,
-        end_after s (count_of (countsOf s) o) (sectionAt s o),
-        simp (length-append, length-drop) at (ap length (section-bytes o)),
+        end_after s (count_of (counts_of s) o) (section_at s o),
+        simp (length-append, length-drop) at (ap length (section_bytes o)),
       )
 
-  pub text-stands : BytesAt s textBytesAt (image_of s).bytes
+  pub text_stands : BytesAt s text_bytes_at (image_of s).bytes
   unfolding image_of
-  text-stands = split-stands s _ _ textBytesAt r.header.inside (text-bytes s bytes (countsOf s).bytes)
+  text_stands = split_stands s _ _ text_bytes_at r.header.inside (text_bytes_lem s bytes (counts_of s).bytes)
 
 -- a list entry is the number after its kind
-entry-is : (s : List ℕ) (im : Image) (k at : ℕ) → get_or s at 0 ≡ 3 → recordIn s at ≡ recordOf im Lists k → u16At s (at + 1) ≡ entry_of im k
-unfolding recordIn fields_at fields_of fieldsIn schema sortOf
-entry-is s im k at d e =
-    let f : u16At s (at + 1) ≡ first (field_of (recordIn s at) 0) = rw d (u16-number s (at + 1)) in
+entry_is : (s : List ℕ) (im : Image) (k at : ℕ) → get_or s at 0 ≡ 3 → record_in s at ≡ record_of_lem im Lists k → u16_at s (at + 1) ≡ entry_of im k
+unfolding record_in fields_at fields_of fields_in_lem schema sort_of
+entry_is s im k at d e =
+    let f : u16_at s (at + 1) ≡ first (field_of (record_in s at) 0) = rw d (u16_number s (at + 1)) in
     f ∙ ap (λ (x : Rec). first (field_of x 0)) e
 
 module _ (s : List ℕ) (k : ℕ) (a : ArenaNo) (c : Counts) (e : answer_of s k ≡ Accepted a c) where
-  entry-stands : (i : ℕ) → i < c.lists → u16At s (listsAt c + i * 3 + 1) ≡ entry_of (image_of s) i
-  entry-stands i l =
-      let at : ℕ = listsAt c + i * 3 in
-      let st = stands-entry s k a c e i l in
-      entry-is s (image_of s) i at (omega (arith, kind-range Lists (get_or s at 0) st.kind)) st.found
+  entry_stands : (i : ℕ) → i < c.lists → u16_at s (lists_at c + i * 3 + 1) ≡ entry_of (image_of s) i
+  entry_stands i l =
+      let at : ℕ = lists_at c + i * 3 in
+      let st = stands_entry s k a c e i l in
+      entry_is s (image_of s) i at (omega (arith, kind_range Lists (get_or s at 0) st.kind)) st.found
 
   pub placed : AllBytes s → Placed (image_of s) s
   placed bytes =
-      let r = accepted-reads s k a c e in
-      let n : c ≡ counts (image_of s) = (accepted-header s k a c e).1 ∙ sym (counts-image s bytes r) in
-      record { text = text-stands s bytes r; entry = rw n at entry-stands }
+      let r = accepted_reads s k a c e in
+      let n : c ≡ counts (image_of s) = (accepted_header s k a c e).1 ∙ sym (counts_image s bytes r) in
+      record { text = text_stands s bytes r; entry = rw n at entry_stands }

@@ -5,7 +5,7 @@ use Rattle.std.proofs.Common.{ap, ◌∙◌, append_assoc, pow-suc, div-lt_iff_l
 use native.Mathlib.Omega.{arith}
 use Rattle.std.proofs.lemmas.List.{get_or_at, take-append-le, drop-append-le}
 use borrow.Author.Tests.{le-ltb, eq-eqb}
-use Rattle.rl_spec.specs.Bytes.{num_at, u16At, u32_at, past}
+use Rattle.rl_spec.specs.Bytes.{num_at, u16_at, u32_at, past}
 use Rattle.rl_spec.specs.Fields.{zeros}
 use Rattle.rl_spec.specs.Image.{bytes_of}
 
@@ -58,10 +58,10 @@ module _ {s : List ℕ} {at : ℕ} where
 
 -- ---- numbers
 
-pub length-bytes : (n x : ℕ) → length (bytes_of n x) ≡ n
+pub length_bytes : (n x : ℕ) → length (bytes_of n x) ≡ n
 unfolding bytes_of
-length-bytes zero x = refl
-length-bytes (suc n) x = ap suc (length-bytes n (x / 256))
+length_bytes zero x = refl
+length_bytes (suc n) x = ap suc (length_bytes n (x / 256))
 
 -- a number is read back from its bytes
 pub number : {s : List ℕ} {at : ℕ} (n x : ℕ) → x < 256 ^ n → BytesAt s at (bytes_of n x) → num_at s at n ≡ x
@@ -73,22 +73,22 @@ number {s} {at} (suc n) x p st =
 
 -- the other ways to read a number
 module _ (s : List ℕ) (at : ℕ) where
-  pub byte-number : get_or s at 0 ≡ num_at s at 1
+  pub byte_number : get_or s at 0 ≡ num_at s at 1
   unfolding num_at
-  byte-number = omega arith
+  byte_number = omega arith
 
-  pub u16-number : u16At s at ≡ num_at s at 2
-  unfolding u16At num_at
-  u16-number = omega arith
+  pub u16_number : u16_at s at ≡ num_at s at 2
+  unfolding u16_at num_at
+  u16_number = omega arith
 
-  pub u32-number : u32_at s at ≡ num_at s at 4
-  unfolding u32_at u16At num_at
-  u32-number =
+  pub u32_number : u32_at s at ≡ num_at s at 4
+  unfolding u32_at u16_at num_at
+  u32_number =
       let a : at + 1 + 1 ≡ at + 2 = omega arith in
       rw a (omega arith)
 
 -- zero in n bytes
-pub zeros-stand : {s : List ℕ} {at : ℕ} (n : ℕ) → BytesAt s at (bytes_of n 0) → zeros s at n ≡ true
+pub zeros_stand : {s : List ℕ} {at : ℕ} (n : ℕ) → BytesAt s at (bytes_of n 0) → zeros s at n ≡ true
 unfolding zeros bytes_of
-zeros-stand zero st = refl
-zeros-stand {s} {at} (suc n) st = rw (eq-eqb (get_or s at 0) 0 (head st)) (zeros-stand n (tail st))
+zeros_stand zero st = refl
+zeros_stand {s} {at} (suc n) st = rw (eq-eqb (get_or s at 0) 0 (head st)) (zeros_stand n (tail st))

@@ -10,40 +10,40 @@ use Rattle.rl_spec.specs.declared.Counts.{Counts}
 use Rattle.rl_spec.specs.declared.Answer.TheVariants.{Accepted}
 use Rattle.rl_spec.specs.declared.Section.{Section}
 use Rattle.rl_spec.specs.declared.Section.TheVariants.{Texts, Lists, Expressions, Statements, Parameters, Clauses, Functions, Calls}
-use Rattle.rl_spec.specs.Schema.{textBytesAt, sections}
-use Rattle.rl_spec.specs.Read.{good, countsOf, end_of, body_of, mostStarts, read_of, answer_of, workOf}
-use Rattle.rl_spec.specs.Image.{Image, recordsOf, size_of, encode, image_of, sectionsIn, heights, WellFormed}
+use Rattle.rl_spec.specs.Schema.{text_bytes_at, sections}
+use Rattle.rl_spec.specs.Read.{good, counts_of, end_of, body_of, most_starts, read_of, answer_of, work_of}
+use Rattle.rl_spec.specs.Image.{Image, records_of, size_of, encode, image_of, sections_in, heights, WellFormed}
 use Rattle.rl_images.specs.Encoding.BytesAt.{there, piece}
-use Rattle.rl_images.specs.Reading.Filled.{two-filled}
-use Rattle.rl_images.specs.Encoding.SectionLoop.{length-heights}
-use Rattle.rl_images.specs.Encoding.Header.{starts_fit, text-stands, arena-is, header-good, counts-are}
-use Rattle.rl_images.specs.Encoding.Sections.{kept, startsIn, sections-good, records-back}
+use Rattle.rl_images.specs.Reading.Filled.{two_filled}
+use Rattle.rl_images.specs.Encoding.SectionLoop.{length_heights}
+use Rattle.rl_images.specs.Encoding.Header.{starts_fit, text_stands, arena_is, header_good, counts_are}
+use Rattle.rl_images.specs.Encoding.Sections.{kept, starts_in, sections_good, records_back}
 
 module _ (im : Image) (wf : WellFormed im) where
-  body-good : (w p : List ℕ) → size_of im Expressions + size_of im Statements ≤ length w → size_of im Expressions + size_of im Statements ≤ length p → body_of (encode im) (countsOf (encode im)) w p ≡ good (length (encode im)) (kept im (heights im) w) (kept im (startsIn im) p)
+  body_good : (w p : List ℕ) → size_of im Expressions + size_of im Statements ≤ length w → size_of im Expressions + size_of im Statements ≤ length p → body_of (encode im) (counts_of (encode im)) w p ≡ good (length (encode im)) (kept im (heights im) w) (kept im (starts_in im) p)
   unfolding body_of end_of
-  body-good w p room roomy =
+  body_good w p room roomy =
       rw (
-        counts-are im wf,
-        there (text-stands im wf) (length im.bytes) refl,
-        sections-good im wf w p room roomy,
+        counts_are im wf,
+        there (text_stands im wf) (length im.bytes) refl,
+        sections_good im wf w p room roomy,
         le-ltb (length (encode im)) (length (encode im)) (omega arith),
       )
 
-  read-good : (k : ℕ) → 8192 ≤ k → read_of (encode im) k ≡ good (length (encode im)) (kept im (heights im) (replicate k 0)) (kept im (startsIn im) (replicate mostStarts 0))
+  read_good : (k : ℕ) → 8192 ≤ k → read_of (encode im) k ≡ good (length (encode im)) (kept im (heights im) (replicate k 0)) (kept im (starts_in im) (replicate most_starts 0))
   unfolding read_of
-  read-good k l =
-      rw (le-ltb 65535 (length (encode im)) wf.size, le-ltb k 8192 l, header-good im wf)
-      (body-good (replicate k 0) (replicate mostStarts 0) (rw length-replicate (omega (arith, starts_fit im wf.counts))) (rw length-replicate (starts_fit im wf.counts)))
+  read_good k l =
+      rw (le-ltb 65535 (length (encode im)) wf.size, le-ltb k 8192 l, header_good im wf)
+      (body_good (replicate k 0) (replicate most_starts 0) (rw length-replicate (omega (arith, starts_fit im wf.counts))) (rw length-replicate (starts_fit im wf.counts)))
 
 -- ---- the work slice
 
-pub heights-all : (im : Image) (o : Section) → length (heights im o) ≡ size_of im o
+pub heights_all : (im : Image) (o : Section) → length (heights im o) ≡ size_of im o
 unfolding heights
-heights-all im o = length-heights im o (recordsOf im o) [] ∙ zero-add (size_of im o)
+heights_all im o = length_heights im o (records_of im o) [] ∙ zero-add (size_of im o)
 
 -- THE THEOREMS
-pub encoded-accepted : (im : Image) (k : ℕ) → WellFormed im → 8192 ≤ k → answer_of (encode im) k ≡ Accepted (record { 0 = im.arena }) (record {
+pub encoded_accepted : (im : Image) (k : ℕ) → WellFormed im → 8192 ≤ k → answer_of (encode im) k ≡ Accepted (record { 0 = im.arena }) (record {
   bytes = length im.bytes;
   texts = size_of im Texts;
   lists = size_of im Lists;
@@ -55,24 +55,24 @@ pub encoded-accepted : (im : Image) (k : ℕ) → WellFormed im → 8192 ≤ k �
   calls = size_of im Calls;
 })
 unfolding answer_of
-encoded-accepted im k wf l = rw (read-good im wf k l, arena-is im wf, counts-are im wf)
+encoded_accepted im k wf l = rw (read_good im wf k l, arena_is im wf, counts_are im wf)
 
-pub encoded-image : (im : Image) → WellFormed im → image_of (encode im) ≡ im
+pub encoded_image : (im : Image) → WellFormed im → image_of (encode im) ≡ im
 unfolding image_of
-encoded-image im wf =
+encoded_image im wf =
     let s : List ℕ = encode im in
-    let c = counts-are im wf in
-    let b : take (length im.bytes) (drop textBytesAt s) ≡ im.bytes = piece (text-stands im wf) 0 (length im.bytes) (omega arith) ∙ take-length im.bytes in
+    let c = counts_are im wf in
+    let b : take (length im.bytes) (drop text_bytes_at s) ≡ im.bytes = piece (text_stands im wf) 0 (length im.bytes) (omega arith) ∙ take-length im.bytes in
     λ i.
     record {
-      arena = arena-is im wf i;
-      bytes = (ap (λ (n : Counts). take n.bytes (drop textBytesAt s)) c ∙ b) i;
-      records = (ap (λ (n : Counts). sectionsIn s n sections (textBytesAt + n.bytes)) c ∙ records-back im wf) i;
+      arena = arena_is im wf i;
+      bytes = (ap (λ (n : Counts). take n.bytes (drop text_bytes_at s)) c ∙ b) i;
+      records = (ap (λ (n : Counts). sections_in s n sections (text_bytes_at + n.bytes)) c ∙ records_back im wf) i;
     }
 
-pub encoded-work : (im : Image) (k : ℕ) → WellFormed im → 8192 ≤ k → workOf (encode im) k ≡ heights im Expressions ++ heights im Statements ++ replicate (k - (size_of im Expressions + size_of im Statements)) 0
-unfolding workOf
-encoded-work im k wf l =
-    rw (read-good im wf k l)
-    (two-filled k (heights im Expressions) (heights im Statements) (size_of im Expressions) (size_of im Statements)
-    (heights-all im Expressions) (heights-all im Statements) (omega (arith, starts_fit im wf.counts)))
+pub encoded_work : (im : Image) (k : ℕ) → WellFormed im → 8192 ≤ k → work_of (encode im) k ≡ heights im Expressions ++ heights im Statements ++ replicate (k - (size_of im Expressions + size_of im Statements)) 0
+unfolding work_of
+encoded_work im k wf l =
+    rw (read_good im wf k l)
+    (two_filled k (heights im Expressions) (heights im Statements) (size_of im Expressions) (size_of im Statements)
+    (heights_all im Expressions) (heights_all im Statements) (omega (arith, starts_fit im wf.counts)))

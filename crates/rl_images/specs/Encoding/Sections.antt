@@ -9,32 +9,32 @@ use Rattle.std.proofs.Math.ListN.{length}
 use Rattle.std.proofs.Math.Seq.{sets, length-sets}
 use Rattle.rl_spec.specs.declared.Section.{Section}
 use Rattle.rl_spec.specs.declared.Section.TheVariants.{Texts, Lists, Expressions, Statements, Parameters, Clauses, Functions, Calls}
-use Rattle.rl_spec.specs.Bytes.{u16At}
-use Rattle.rl_spec.specs.Schema.{textBytesAt, sections, lowest, highest, sortOf, fields_of, fieldsIn, schema}
-use Rattle.rl_spec.specs.Fields.{listsAt}
-use Rattle.rl_spec.specs.Read.{good, sectionsFrom}
-use Rattle.rl_spec.specs.Image.{Field, Rec, Image, order_of, recordsOf, size_of, no_field, noRecord, recordOf, first, entry_of, encodeRecord, encodeRecords, encodeSections, encode, fields_at, widthsOf, sectionsIn, heights, WellFormed}
-use Rattle.rl_images.specs.Encoding.BytesAt.{BytesAt, left, right, moved, u16-number}
-use Rattle.rl_images.specs.Images.SchemaSorts.{kind-range}
-use Rattle.rl_images.specs.Encoding.FieldWidths.{SizedRecord, AllSizedRecords, record-sized, length-record, fields_in, fields-stand, records-in, end-at, length-records, nth-stands}
-use Rattle.rl_images.specs.Encoding.SectionLoop.{keepAll, starts, AlwaysReady, records-good}
-use Rattle.rl_images.specs.Encoding.ReaderKnows.{counts, count-is, Placed, Told, told, texts-ready, lists-ready, expressions-ready, statements-ready, parameters-ready, clauses-ready, functions-ready, calls-ready}
-use Rattle.rl_images.specs.Encoding.Header.{bounded, records-are, text-stands, sections-stand, length-encode}
+use Rattle.rl_spec.specs.Bytes.{u16_at}
+use Rattle.rl_spec.specs.Schema.{text_bytes_at, sections, lowest, highest, sort_of, fields_of, fields_in_lem, schema}
+use Rattle.rl_spec.specs.Fields.{lists_at}
+use Rattle.rl_spec.specs.Read.{good, sections_from}
+use Rattle.rl_spec.specs.Image.{Field, Rec, Image, order_of, records_of, size_of, no_field, no_record, record_of_lem, first, entry_of, encode_record, encode_records, encode_sections, encode, fields_at, widths_of, sections_in, heights, WellFormed}
+use Rattle.rl_images.specs.Encoding.BytesAt.{BytesAt, left, right, moved, u16_number}
+use Rattle.rl_images.specs.Images.SchemaSorts.{kind_range}
+use Rattle.rl_images.specs.Encoding.FieldWidths.{SizedRecord, AllSizedRecords, record_sized, length_record, fields_in_lem, fields_stand, records_in_lem, end_at_lem, length_records, nth_stands}
+use Rattle.rl_images.specs.Encoding.SectionLoop.{keep_all, starts, AlwaysReady, records_good}
+use Rattle.rl_images.specs.Encoding.ReaderKnows.{counts, count_is, Placed, Told, told, texts_ready, lists_ready, expressions_ready, statements_ready, parameters_ready, clauses_ready, functions_ready, calls_ready}
+use Rattle.rl_images.specs.Encoding.Header.{bounded, records_are, text_stands, sections_stand, length_encode}
 
-all-sized : (rs : List Rec) → ((n : ℕ) → n < length rs → SizedRecord (get_or rs n noRecord)) → AllSizedRecords rs
-all-sized [] f = tt
-all-sized (r ∷ rs) f = (f 0 (omega arith), all-sized rs (λ n l. f (suc n) (omega arith)))
+all_sized : (rs : List Rec) → ((n : ℕ) → n < length rs → SizedRecord (get_or rs n no_record)) → AllSizedRecords rs
+all_sized [] f = tt
+all_sized (r ∷ rs) f = (f 0 (omega arith), all_sized rs (λ n l. f (suc n) (omega arith)))
 
 -- where sections that start at a place end
-abbrev endFrom : Image → ℕ → List Section → ℕ
-endFrom im at [] = at
-endFrom im at (o ∷ os) = endFrom im (at + length (encodeRecords (recordsOf im o))) os
+abbrev end_from : Image → ℕ → List Section → ℕ
+end_from im at [] = at
+end_from im at (o ∷ os) = end_from im (at + length (encode_records (records_of im o))) os
 
-end_is : (im : Image) (os : List Section) (at : ℕ) → endFrom im at os ≡ at + length (encodeSections (map (recordsOf im) os))
-unfolding encodeSections
+end_is : (im : Image) (os : List Section) (at : ℕ) → end_from im at os ≡ at + length (encode_sections (map (records_of im) os))
+unfolding encode_sections
 end_is im [] at = omega arith
 end_is im (o ∷ os) at =
-    end_is im os (at + length (encodeRecords (recordsOf im o))) ∙ rw length-append (omega arith)
+    end_is im os (at + length (encode_records (records_of im o))) ∙ rw length-append (omega arith)
 
 -- a number for each expression and each statement, kept
 abbrev pub kept : Image → (Section → List ℕ) → List ℕ → List ℕ
@@ -42,84 +42,84 @@ kept im f w = sets (sets w 0 (f Expressions)) (size_of im Expressions) (f Statem
 
 -- where the sections start, and the records of each
 abbrev pub place_of : Image → Section → ℕ
-place_of im o = endFrom im (textBytesAt + length im.bytes) (take (order_of o) sections)
+place_of im o = end_from im (text_bytes_at + length im.bytes) (take (order_of o) sections)
 
-abbrev pub startsIn : Image → Section → List ℕ
-startsIn im o = starts (place_of im o) (recordsOf im o)
+abbrev pub starts_in : Image → Section → List ℕ
+starts_in im o = starts (place_of im o) (records_of im o)
 
 module _ (im : Image) (wf : WellFormed im) where
-  pub sized-at : (o : Section) (i : ℕ) → i < size_of im o → SizedRecord (recordOf im o i)
-  sized-at o i l = record-sized im (bounded im wf.counts) o i (omega (arith, (bounded im wf.counts).sizes o)) (recordOf im o i) (wf.fits o i l)
+  pub sized_at : (o : Section) (i : ℕ) → i < size_of im o → SizedRecord (record_of_lem im o i)
+  sized_at o i l = record_sized im (bounded im wf.counts) o i (omega (arith, (bounded im wf.counts).sizes o)) (record_of_lem im o i) (wf.fits o i l)
 
-  section-sized : (o : Section) → AllSizedRecords (recordsOf im o)
-  section-sized o = all-sized (recordsOf im o) (sized-at o)
+  section_sized : (o : Section) → AllSizedRecords (records_of im o)
+  section_sized o = all_sized (records_of im o) (sized_at o)
 
   -- ---- where the text bytes and the list entries stand
 
   -- the records of a section of one kind
   module _ (o : Section) (e : lowest o ≡ highest o) (i : ℕ) (l : i < size_of im o) where
-    pub kind_at : (recordOf im o i).kind ≡ lowest o
-    kind_at = omega (arith, kind-range o (recordOf im o i).kind (wf.fits o i l).kind)
+    pub kind_at : (record_of_lem im o i).kind ≡ lowest o
+    kind_at = omega (arith, kind_range o (record_of_lem im o i).kind (wf.fits o i l).kind)
 
-    pub length_at : length (encodeRecord (recordOf im o i)) ≡ suc (widthsOf (fields_of (lowest o)))
-    length_at = rw (length-record (recordOf im o i) (sized-at o i l), kind_at)
+    pub length_at : length (encode_record (record_of_lem im o i)) ≡ suc (widths_of (fields_of (lowest o)))
+    length_at = rw (length_record (record_of_lem im o i) (sized_at o i l), kind_at)
 
   -- the sections from one on
-  rest-stands : (o : Section) (os : List Section) (at : ℕ) → BytesAt (encode im) at (encodeSections (map (recordsOf im) (o ∷ os))) → BytesAt (encode im) at (encodeRecords (recordsOf im o))
-  unfolding encodeSections
-  rest-stands o os at st = left (encodeRecords (recordsOf im o)) (encodeSections (map (recordsOf im) os)) st
+  rest_stands : (o : Section) (os : List Section) (at : ℕ) → BytesAt (encode im) at (encode_sections (map (records_of im) (o ∷ os))) → BytesAt (encode im) at (encode_records (records_of im o))
+  unfolding encode_sections
+  rest_stands o os at st = left (encode_records (records_of im o)) (encode_sections (map (records_of im) os)) st
 
-  next-stands : (o : Section) (os : List Section) (at : ℕ) → BytesAt (encode im) at (encodeSections (map (recordsOf im) (o ∷ os))) → BytesAt (encode im) (at + length (encodeRecords (recordsOf im o))) (encodeSections (map (recordsOf im) os))
-  unfolding encodeSections
-  next-stands o os at st = right (encodeRecords (recordsOf im o)) (encodeSections (map (recordsOf im) os)) st
+  next_stands : (o : Section) (os : List Section) (at : ℕ) → BytesAt (encode im) at (encode_sections (map (records_of im) (o ∷ os))) → BytesAt (encode im) (at + length (encode_records (records_of im o))) (encode_sections (map (records_of im) os))
+  unfolding encode_sections
+  next_stands o os at st = right (encode_records (records_of im o)) (encode_sections (map (records_of im) os)) st
 
-  all-stand : BytesAt (encode im) (textBytesAt + length im.bytes) (encodeSections (map (recordsOf im) sections))
-  all-stand = subst (λ (rss : List (List Rec)). BytesAt (encode im) (textBytesAt + length im.bytes) (encodeSections rss)) (records-are im wf) (sections-stand im wf)
+  all_stand : BytesAt (encode im) (text_bytes_at + length im.bytes) (encode_sections (map (records_of im) sections))
+  all_stand = subst (λ (rss : List (List Rec)). BytesAt (encode im) (text_bytes_at + length im.bytes) (encode_sections rss)) (records_are im wf) (sections_stand im wf)
 
-  lists-stand : BytesAt (encode im) (listsAt (counts im)) (encodeRecords (recordsOf im Lists))
-  unfolding sections widthsOf fields_of fieldsIn schema sortOf
-  lists-stand =
+  lists_stand : BytesAt (encode im) (lists_at (counts im)) (encode_records (records_of im Lists))
+  unfolding sections widths_of fields_of fields_in_lem schema sort_of
+  lists_stand =
       let os : List Section = Expressions ∷ Statements ∷ Parameters ∷ Clauses ∷ Functions ∷ Calls ∷ [] in
-      let st = rest-stands Lists os _ (next-stands Texts (Lists ∷ os) (textBytesAt + length im.bytes) all-stand) in
-      let e : length (encodeRecords (recordsOf im Texts)) ≡ size_of im Texts * 5 = length-records 5 noRecord (recordsOf im Texts) (length_at Texts refl) in
-      moved st (listsAt (counts im)) (ap (λ (n : ℕ). textBytesAt + length im.bytes + n) e)
+      let st = rest_stands Lists os _ (next_stands Texts (Lists ∷ os) (text_bytes_at + length im.bytes) all_stand) in
+      let e : length (encode_records (records_of im Texts)) ≡ size_of im Texts * 5 = length_records 5 no_record (records_of im Texts) (length_at Texts refl) in
+      moved st (lists_at (counts im)) (ap (λ (n : ℕ). text_bytes_at + length im.bytes + n) e)
 
-  entry-stands : (k : ℕ) → k < size_of im Lists → u16At (encode im) (listsAt (counts im) + k * 3 + 1) ≡ entry_of im k
-  unfolding widthsOf fields_of fieldsIn schema sortOf fields_at
-  entry-stands k l =
-      let at : ℕ = listsAt (counts im) + k * 3 in
-      let r : Rec = recordOf im Lists k in
-      let st : BytesAt (encode im) at (encodeRecord r) = nth-stands 3 noRecord (recordsOf im Lists) (length_at Lists refl) lists-stand k l in
-      let e = fields_in (fields_of r.kind) r.fields (sized-at Lists k l) (fields-stand r st) in
+  entry_stands : (k : ℕ) → k < size_of im Lists → u16_at (encode im) (lists_at (counts im) + k * 3 + 1) ≡ entry_of im k
+  unfolding widths_of fields_of fields_in_lem schema sort_of fields_at
+  entry_stands k l =
+      let at : ℕ = lists_at (counts im) + k * 3 in
+      let r : Rec = record_of_lem im Lists k in
+      let st : BytesAt (encode im) at (encode_record r) = nth_stands 3 no_record (records_of im Lists) (length_at Lists refl) lists_stand k l in
+      let e = fields_in_lem (fields_of r.kind) r.fields (sized_at Lists k l) (fields_stand r st) in
       let d : fields_at (encode im) (fields_of 3) (at + 1) ≡ r.fields = subst (λ (j : ℕ). fields_at (encode im) (fields_of j) (at + 1) ≡ r.fields) (kind_at Lists refl k l) e in
-      u16-number (encode im) (at + 1) ∙ ap (λ (fs : List Field). first (get_or fs 0 no_field)) d
+      u16_number (encode im) (at + 1) ∙ ap (λ (fs : List Field). first (get_or fs 0 no_field)) d
 
   placed : Placed im (encode im)
-  placed = record { text = text-stands im wf; entry = entry-stands }
+  placed = record { text = text_stands im wf; entry = entry_stands }
 
   -- ---- the sections
 
   -- one section, and then the others
-  section-good : (o : Section) (os : List Section) (at : ℕ) (w p : List ℕ) → BytesAt (encode im) at (encodeSections (map (recordsOf im) (o ∷ os))) → AlwaysReady im (encode im) (counts im) o w p → sectionsFrom (encode im) (counts im) (o ∷ os) at w p ≡ sectionsFrom (encode im) (counts im) os (at + length (encodeRecords (recordsOf im o))) (keepAll (counts im) o (heights im o) w) (keepAll (counts im) o (starts at (recordsOf im o)) p)
-  unfolding sectionsFrom
-  section-good o os at w p st ready =
-      rw (count-is im o, records-good im (encode im) (counts im) o at w p (bounded im wf.counts) ready (rest-stands o os at st) (wf.fits o))
+  section_good : (o : Section) (os : List Section) (at : ℕ) (w p : List ℕ) → BytesAt (encode im) at (encode_sections (map (records_of im) (o ∷ os))) → AlwaysReady im (encode im) (counts im) o w p → sections_from (encode im) (counts im) (o ∷ os) at w p ≡ sections_from (encode im) (counts im) os (at + length (encode_records (records_of im o))) (keep_all (counts im) o (heights im o) w) (keep_all (counts im) o (starts at (records_of im o)) p)
+  unfolding sections_from
+  section_good o os at w p st ready =
+      rw (count_is im o, records_good im (encode im) (counts im) o at w p (bounded im wf.counts) ready (rest_stands o os at st) (wf.fits o))
 
-  all_end : endFrom im (textBytesAt + length im.bytes) sections ≡ length (encode im)
+  all_end : end_from im (text_bytes_at + length im.bytes) sections ≡ length (encode im)
   all_end =
-      end_is im sections (textBytesAt + length im.bytes)
-      ∙ ap (λ (rss : List (List Rec)). textBytesAt + length im.bytes + length (encodeSections rss)) (sym (records-are im wf))
-      ∙ sym (length-encode im wf)
+      end_is im sections (text_bytes_at + length im.bytes)
+      ∙ ap (λ (rss : List (List Rec)). text_bytes_at + length im.bytes + length (encode_sections rss)) (sym (records_are im wf))
+      ∙ sym (length_encode im wf)
 
   module _ (w p : List ℕ) (room : size_of im Expressions + size_of im Statements ≤ length w) (roomy : size_of im Expressions + size_of im Statements ≤ length p) where
-    pub sections-good : sectionsFrom (encode im) (counts im) sections (textBytesAt + length im.bytes) w p ≡ good (length (encode im)) (kept im (heights im) w) (kept im (startsIn im) p)
-    unfolding sections sectionsFrom
-    sections-good =
+    pub sections_good : sections_from (encode im) (counts im) sections (text_bytes_at + length im.bytes) w p ≡ good (length (encode im)) (kept im (heights im) w) (kept im (starts_in im) p)
+    unfolding sections sections_from
+    sections_good =
         let s : List ℕ = encode im in
         let w1 : List ℕ = sets w 0 (heights im Expressions) in
         let w2 : List ℕ = kept im (heights im) w in
-        let p1 : List ℕ = sets p 0 (startsIn im Expressions) in
-        let p2 : List ℕ = kept im (startsIn im) p in
+        let p1 : List ℕ = sets p 0 (starts_in im Expressions) in
+        let p2 : List ℕ = kept im (starts_in im) p in
         let room1 : size_of im Expressions + size_of im Statements ≤ length w1 = rw length-sets room in
         let roomy1 : size_of im Expressions + size_of im Statements ≤ length p1 = rw length-sets roomy in
         let os1 : List Section = Lists ∷ Expressions ∷ Statements ∷ Parameters ∷ Clauses ∷ Functions ∷ Calls ∷ [] in
@@ -129,34 +129,34 @@ module _ (im : Image) (wf : WellFormed im) where
         let os5 : List Section = Clauses ∷ Functions ∷ Calls ∷ [] in
         let os6 : List Section = Functions ∷ Calls ∷ [] in
         let os7 : List Section = Calls ∷ [] in
-        let st1 = next-stands Texts os1 _ all-stand in
-        let st2 = next-stands Lists os2 _ st1 in
-        let st3 = next-stands Expressions os3 _ st2 in
-        let st4 = next-stands Statements os4 _ st3 in
-        let st5 = next-stands Parameters os5 _ st4 in
-        let st6 = next-stands Clauses os6 _ st5 in
-        let st7 = next-stands Functions os7 _ st6 in
-        let known : Told im s p2 = told im s p1 roomy1 (place_of im Statements) (rest-stands Statements os4 (place_of im Statements) st3) in
-        section-good Texts os1 _ w p all-stand (texts-ready im s placed w p)
-        ∙ section-good Lists os2 _ w p st1 (lists-ready im s placed w p)
-        ∙ section-good Expressions os3 _ w p st2 (λ i h q l x y k. expressions-ready im s placed w p (omega arith) i h q l x)
-        ∙ section-good Statements os4 _ w1 p1 st3 (λ i h q l x y k. statements-ready im s placed w1 p1 room1 roomy1 i h q l x y k)
-        ∙ section-good Parameters os5 _ w2 p2 st4 (parameters-ready im s placed w2 p2 known)
-        ∙ section-good Clauses os6 _ w2 p2 st5 (clauses-ready im s placed w2 p2 known)
-        ∙ section-good Functions os7 _ w2 p2 st6 (functions-ready im s placed w2 p2 known)
-        ∙ section-good Calls [] _ w2 p2 st7 (calls-ready im s placed w2 p2 known)
+        let st1 = next_stands Texts os1 _ all_stand in
+        let st2 = next_stands Lists os2 _ st1 in
+        let st3 = next_stands Expressions os3 _ st2 in
+        let st4 = next_stands Statements os4 _ st3 in
+        let st5 = next_stands Parameters os5 _ st4 in
+        let st6 = next_stands Clauses os6 _ st5 in
+        let st7 = next_stands Functions os7 _ st6 in
+        let known : Told im s p2 = told im s p1 roomy1 (place_of im Statements) (rest_stands Statements os4 (place_of im Statements) st3) in
+        section_good Texts os1 _ w p all_stand (texts_ready im s placed w p)
+        ∙ section_good Lists os2 _ w p st1 (lists_ready im s placed w p)
+        ∙ section_good Expressions os3 _ w p st2 (λ i h q l x y k. expressions_ready im s placed w p (omega arith) i h q l x)
+        ∙ section_good Statements os4 _ w1 p1 st3 (λ i h q l x y k. statements_ready im s placed w1 p1 room1 roomy1 i h q l x y k)
+        ∙ section_good Parameters os5 _ w2 p2 st4 (parameters_ready im s placed w2 p2 known)
+        ∙ section_good Clauses os6 _ w2 p2 st5 (clauses_ready im s placed w2 p2 known)
+        ∙ section_good Functions os7 _ w2 p2 st6 (functions_ready im s placed w2 p2 known)
+        ∙ section_good Calls [] _ w2 p2 st7 (calls_ready im s placed w2 p2 known)
         ∙ ap (λ (n : ℕ). good n w2 p2) all_end
 
   -- ---- read back
 
-  sections-in : (os : List Section) (at : ℕ) → BytesAt (encode im) at (encodeSections (map (recordsOf im) os)) → sectionsIn (encode im) (counts im) os at ≡ map (recordsOf im) os
-  unfolding sectionsIn
-  sections-in [] at st = refl
-  sections-in (o ∷ os) at st =
-      let here = rest-stands o os at st in
-      rw (count-is im o, records-in (recordsOf im o) (section-sized o) here)
-      (ap (λ (rss : List (List Rec)). recordsOf im o ∷ rss)
-      (ap (sectionsIn (encode im) (counts im) os) (end-at (recordsOf im o) (section-sized o) here) ∙ sections-in os _ (next-stands o os at st)))
+  sections_in_lem : (os : List Section) (at : ℕ) → BytesAt (encode im) at (encode_sections (map (records_of im) os)) → sections_in (encode im) (counts im) os at ≡ map (records_of im) os
+  unfolding sections_in
+  sections_in_lem [] at st = refl
+  sections_in_lem (o ∷ os) at st =
+      let here = rest_stands o os at st in
+      rw (count_is im o, records_in_lem (records_of im o) (section_sized o) here)
+      (ap (λ (rss : List (List Rec)). records_of im o ∷ rss)
+      (ap (sections_in (encode im) (counts im) os) (end_at_lem (records_of im o) (section_sized o) here) ∙ sections_in_lem os _ (next_stands o os at st)))
 
-  pub records-back : sectionsIn (encode im) (counts im) sections (textBytesAt + length im.bytes) ≡ im.records
-  records-back = sections-in sections (textBytesAt + length im.bytes) all-stand ∙ sym (records-are im wf)
+  pub records_back : sections_in (encode im) (counts im) sections (text_bytes_at + length im.bytes) ≡ im.records
+  records_back = sections_in_lem sections (text_bytes_at + length im.bytes) all_stand ∙ sym (records_are im wf)

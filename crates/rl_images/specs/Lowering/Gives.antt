@@ -28,15 +28,15 @@ by_cond true m n c p q = p refl
 by_cond false m n c p q = q refl
 
 -- a limit is passed, or not
-pub by-limit : {A : Type 0} {Q : A → Context → Type 0} (b : Bool) (a : A) (c : Context) →
+pub by_limit : {A : Type 0} {Q : A → Context → Type 0} (b : Bool) (a : A) (c : Context) →
     (b ≡ false → Q a c) → Gives Q (cond b none (some (a, c)))
-by-limit true a c q = stops
-by-limit false a c q = gives (q refl)
+by_limit true a c q = stops
+by_limit false a c q = gives (q refl)
 
 -- what is given
-of-given : {A : Type 0} {Q : A → Context → Type 0} {a : A} {c : Context} → Gives Q (some (a, c)) → Q a c
-of-given (gives q) = q
+of_given : {A : Type 0} {Q : A → Context → Type 0} {a : A} {c : Context} → Gives Q (some (a, c)) → Q a c
+of_given (gives q) = q
 
 pub given_is : {A : Type 0} {Q : A → Context → Type 0} {o : Option (A × Context)} {a : A} {c : Context} →
     Gives Q o → o ≡ some (a, c) → Q a c
-given_is {Q = Q} g e = of-given (subst (Gives Q) e g)
+given_is {Q = Q} g e = of_given (subst (Gives Q) e g)

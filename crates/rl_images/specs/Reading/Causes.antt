@@ -25,14 +25,14 @@ use Rattle.rl_spec.specs.declared.Check.{Check}
 use Rattle.rl_spec.specs.declared.Check.TheVariants.{Holds, Fails}
 use Rattle.rl_spec.specs.declared.Step.{Step}
 use Rattle.rl_spec.specs.declared.Step.TheVariants.{Next, Stop}
-use Rattle.rl_spec.specs.Bytes.{u16At, u32_at, past}
-use Rattle.rl_spec.specs.Schema.{textBytesAt, count_of, lowest, highest, inSection, tallest, sortOf, width_of, fields_of}
+use Rattle.rl_spec.specs.Bytes.{u16_at, u32_at, past}
+use Rattle.rl_spec.specs.Schema.{text_bytes_at, count_of, lowest, highest, in_section, tallest, sort_of, width_of, fields_of}
 use Rattle.rl_spec.specs.Utf8.{utf8, is_scalar}
-use Rattle.rl_spec.specs.Fields.{takes, within, kindOfStatement, allowed, entry_at, zeros, range_of, part_of, byteIn, operandSortOf, referTo, referOrNone, entriesFrom, list_of, operandOf, value_of, field_at, checked, fieldsFrom, heightStep, recordAt}
-use Rattle.rl_spec.specs.Image.{widthsOf, next_at}
-use Rattle.rl_images.specs.Reading.Table.{Row, row, Unmet, First, first-front, By, refuses, accepts, behind, checks, checks-not}
-use Rattle.rl_images.specs.Reading.Rows.{WrongTarget, turn, WrongList, list-leaves, list-uneven, entry-wrong, WrongSort, sort-of-none, sort-outside, IsText, WrongOperand, none-not-zero, bool-outside, text-not-zero, valueRows, fieldRows, fieldsRows, fieldTall, fieldsTall, heightAt, recordRows}
-use Rattle.rl_images.specs.Reading.Tall.{field-tall}
+use Rattle.rl_spec.specs.Fields.{takes, within, kind_of_statement, allowed, entry_at, zeros, range_of, part_of, byte_in, operand_sort_of, refer_to, refer_or_none, entries_from, list_of, operand_of, value_of, field_at, checked, fields_from, height_step, record_at}
+use Rattle.rl_spec.specs.Image.{widths_of, next_at}
+use Rattle.rl_images.specs.Reading.Table.{Row, row, Unmet, First, first_front, By, refuses, accepts, behind, checks, checks_not}
+use Rattle.rl_images.specs.Reading.Rows.{WrongTarget, turn, WrongList, list_leaves, list_uneven, entry_wrong, WrongSort, sort_of_none, sort_outside, IsText, WrongOperand, none_not_zero, bool_outside, text_not_zero, value_rows, field_rows, fields_rows, field_tall, fields_tall, height_at, record_rows}
+use Rattle.rl_images.specs.Reading.Tall.{field_tall_lem}
 
 -- ---- a check is by its rows, which are all at n
 
@@ -50,51 +50,51 @@ skips : {r : Row} {t : List Row} {n : ℕ} {x : Check} → (r.holds → ⊥) →
 skips h (holds u) = holds (h, u)
 skips h (fails f) = fails (inr (h, f))
 
-by-test : {t : List Row} {n : ℕ} (b : Bool) (x y : Check) → (b ≡ true → CheckBy t n x) → (b ≡ false → CheckBy t n y) → CheckBy t n (cond b x y)
-by-test true x y f g = f refl
-by-test false x y f g = g refl
+by_test : {t : List Row} {n : ℕ} (b : Bool) (x y : Check) → (b ≡ true → CheckBy t n x) → (b ≡ false → CheckBy t n y) → CheckBy t n (cond b x y)
+by_test true x y f g = f refl
+by_test false x y f g = g refl
 
 -- a test that is true is not false
-not-false : {b : Bool} → b ≡ true → b ≡ false → ⊥
-not-false e f = false≢true (sym f ∙ e)
+not_false : {b : Bool} → b ≡ true → b ≡ false → ⊥
+not_false e f = false≢true (sym f ∙ e)
 
-byte-to : {P : Type 0} (n low high b tall : ℕ) → ((b < low) ⊎ (high < b) → P) → (P → (b < low) ⊎ (high < b)) → CheckBy (row BadValue n P ∷ []) n (byteIn low high b tall)
-unfolding byteIn
-byte-to n low high b tall f g =
-    by-test (ltb b low) _ _ (λ e. wrong (f (inl (ltb-true b low e)))) λ e.
-    by-test (leb b high) _ _
+byte_to : {P : Type 0} (n low high b tall : ℕ) → ((b < low) ⊎ (high < b) → P) → (P → (b < low) ⊎ (high < b)) → CheckBy (row BadValue n P ∷ []) n (byte_in low high b tall)
+unfolding byte_in
+byte_to n low high b tall f g =
+    by_test (ltb b low) _ _ (λ e. wrong (f (inl (ltb-true b low e)))) λ e.
+    by_test (leb b high) _ _
     (λ d.
     right (λ x.
     ⊎_elim (λ (h : b < low). omega (arith, ltb-false b low e, h)) (λ (h : high < b). omega (arith, leb-true b high d, h)) (g x)))
     (λ d. wrong (f (inr (leb-false b high d))))
 
-bool-wrong : (x : ℕ) (z : Bool) → cond (leb x 1) z false ≡ false → (1 < x) ⊎ (z ≡ false)
-bool-wrong x z e = go (leb x 1) refl e
+bool_wrong : (x : ℕ) (z : Bool) → cond (leb x 1) z false ≡ false → (1 < x) ⊎ (z ≡ false)
+bool_wrong x z e = go (leb x 1) refl e
   where
     go : (b : Bool) → leb x 1 ≡ b → cond b z false ≡ false → (1 < x) ⊎ (z ≡ false)
     go true f g = inr g
     go false f g = inl (leb-false x 1 f)
 
-bool-right : (x : ℕ) (z : Bool) → cond (leb x 1) z false ≡ true → (1 < x) ⊎ (z ≡ false) → ⊥
-bool-right x z e = go (leb x 1) refl e
+bool_right : (x : ℕ) (z : Bool) → cond (leb x 1) z false ≡ true → (1 < x) ⊎ (z ≡ false) → ⊥
+bool_right x z e = go (leb x 1) refl e
   where
     go : (b : Bool) → leb x 1 ≡ b → cond b z false ≡ true → (1 < x) ⊎ (z ≡ false) → ⊥
-    go true f g = ⊎_elim (λ (h : 1 < x). omega (arith, leb-true x 1 f, h)) (not-false g)
+    go true f g = ⊎_elim (λ (h : 1 < x). omega (arith, leb-true x 1 f, h)) (not_false g)
     go false f g = absurd (false≢true g)
 
 -- ---- kinds
 
-pub kind-outside : (o : Section) (k : ℕ) → inSection o k ≡ false → (k < lowest o) ⊎ (highest o < k)
-unfolding inSection
-kind-outside o k e = go (ltb k (lowest o)) refl e
+pub kind_outside : (o : Section) (k : ℕ) → in_section o k ≡ false → (k < lowest o) ⊎ (highest o < k)
+unfolding in_section
+kind_outside o k e = go (ltb k (lowest o)) refl e
   where
     go : (b : Bool) → ltb k (lowest o) ≡ b → cond b false (leb k (highest o)) ≡ false → (k < lowest o) ⊎ (highest o < k)
     go true f g = inl (ltb-true k (lowest o) f)
     go false f g = inr (leb-false k (highest o) g)
 
-kind-inside : (o : Section) (k : ℕ) → inSection o k ≡ true → (k < lowest o) ⊎ (highest o < k) → ⊥
-unfolding inSection
-kind-inside o k e = go (ltb k (lowest o)) refl e
+kind_inside : (o : Section) (k : ℕ) → in_section o k ≡ true → (k < lowest o) ⊎ (highest o < k) → ⊥
+unfolding in_section
+kind_inside o k e = go (ltb k (lowest o)) refl e
   where
     go : (b : Bool) → ltb k (lowest o) ≡ b → cond b false (leb k (highest o)) ≡ true → (k < lowest o) ⊎ (highest o < k) → ⊥
     go true f g = absurd (false≢true g)
@@ -104,190 +104,190 @@ kind-inside o k e = go (ltb k (lowest o)) refl e
 -- ---- one record
 
 module _ (s w p : List ℕ) (seen : Counts) (own : Section) where
-  not-allowed : (t : Target) (n : ℕ) → allowed s p seen t n ≡ false → WrongTarget s p seen t n
+  not_allowed : (t : Target) (n : ℕ) → allowed s p seen t n ≡ false → WrongTarget s p seen t n
   unfolding allowed
-  not-allowed t n e = go (ltb n (within seen t)) refl e
+  not_allowed t n e = go (ltb n (within seen t)) refl e
     where
-      go : (b : Bool) → ltb n (within seen t) ≡ b → cond b (takes t (kindOfStatement s p seen n)) false ≡ false → WrongTarget s p seen t n
+      go : (b : Bool) → ltb n (within seen t) ≡ b → cond b (takes t (kind_of_statement s p seen n)) false ≡ false → WrongTarget s p seen t n
       go true f g = inr g
       go false f g = inl (ltb-false n (within seen t) f)
 
-  is-allowed : (t : Target) (n : ℕ) → allowed s p seen t n ≡ true → WrongTarget s p seen t n → ⊥
+  is_allowed : (t : Target) (n : ℕ) → allowed s p seen t n ≡ true → WrongTarget s p seen t n → ⊥
   unfolding allowed
-  is-allowed t n e = go (ltb n (within seen t)) refl e
+  is_allowed t n e = go (ltb n (within seen t)) refl e
     where
-      go : (b : Bool) → ltb n (within seen t) ≡ b → cond b (takes t (kindOfStatement s p seen n)) false ≡ true → WrongTarget s p seen t n → ⊥
-      go true f g = ⊎_elim (λ (h : within seen t ≤ n). omega (arith, ltb-true n (within seen t) f, h)) (not-false g)
+      go : (b : Bool) → ltb n (within seen t) ≡ b → cond b (takes t (kind_of_statement s p seen n)) false ≡ true → WrongTarget s p seen t n → ⊥
+      go true f g = ⊎_elim (λ (h : within seen t ≤ n). omega (arith, ltb-true n (within seen t) f, h)) (not_false g)
       go false f g = absurd (false≢true g)
 
-  refer-to : {P : Type 0} (at : ℕ) (t : Target) (n tall : ℕ) → (WrongTarget s p seen t n → P) → (P → WrongTarget s p seen t n) → CheckBy (row BadReference at P ∷ []) at (referTo s w p seen own t n tall)
-  unfolding referTo
-  refer-to at t n tall f g =
-      by-test (allowed s p seen t n) _ _ (λ e. right (λ x. is-allowed t n e (g x))) (λ e. wrong (f (not-allowed t n e)))
+  refer_to_lem : {P : Type 0} (at : ℕ) (t : Target) (n tall : ℕ) → (WrongTarget s p seen t n → P) → (P → WrongTarget s p seen t n) → CheckBy (row BadReference at P ∷ []) at (refer_to s w p seen own t n tall)
+  unfolding refer_to
+  refer_to_lem at t n tall f g =
+      by_test (allowed s p seen t n) _ _ (λ e. right (λ x. is_allowed t n e (g x))) (λ e. wrong (f (not_allowed t n e)))
 
   -- of n entries from the k-th on, the i-th is wrong
   abbrev EntryWrong : ℕ → ℕ → Target → Target → Type 0
   EntryWrong n k l r = (i : ℕ) × (i < n) × WrongTarget s p seen (turn i l r) (entry_at s seen (k + i))
 
-  entry-later : (n k : ℕ) (l r : Target) → EntryWrong n (k + 1) r l → EntryWrong (suc n) k l r
-  entry-later n k l r x = let q : k + 1 + x.0 ≡ k + suc x.0 = omega arith in (suc x.0, omega (arith, x.1), rw q at x.2)
+  entry_later : (n k : ℕ) (l r : Target) → EntryWrong n (k + 1) r l → EntryWrong (suc n) k l r
+  entry_later n k l r x = let q : k + 1 + x.0 ≡ k + suc x.0 = omega arith in (suc x.0, omega (arith, x.1), rw q at x.2)
 
-  entry-rest : (n k : ℕ) (l r : Target) → (WrongTarget s p seen l (entry_at s seen k) → ⊥) → EntryWrong (suc n) k l r → EntryWrong n (k + 1) r l
-  entry-rest n k l r h x = go x.0 x.1 x.2
+  entry_rest : (n k : ℕ) (l r : Target) → (WrongTarget s p seen l (entry_at s seen k) → ⊥) → EntryWrong (suc n) k l r → EntryWrong n (k + 1) r l
+  entry_rest n k l r h x = go x.0 x.1 x.2
     where
       go : (i : ℕ) → i < suc n → WrongTarget s p seen (turn i l r) (entry_at s seen (k + i)) → EntryWrong n (k + 1) r l
       go zero a b = absurd (h (rw (add-zero k) at b))
       go (suc i) a b = let q : k + suc i ≡ k + 1 + i = omega arith in (i, omega arith, rw q at b)
 
-  entries-to : {P : Type 0} (at n k : ℕ) (l r : Target) (tall : ℕ) → (EntryWrong n k l r → P) → (P → EntryWrong n k l r) → CheckBy (row BadReference at P ∷ []) at (entriesFrom s w p seen own n k l r tall)
-  unfolding entriesFrom
-  entries-to at zero k l r tall f g = right (λ x. omega (arith, (g x).1))
-  entries-to at (suc n) k l r tall f g =
-      by-test (allowed s p seen l (entry_at s seen k)) _ _
+  entries_to : {P : Type 0} (at n k : ℕ) (l r : Target) (tall : ℕ) → (EntryWrong n k l r → P) → (P → EntryWrong n k l r) → CheckBy (row BadReference at P ∷ []) at (entries_from s w p seen own n k l r tall)
+  unfolding entries_from
+  entries_to at zero k l r tall f g = right (λ x. omega (arith, (g x).1))
+  entries_to at (suc n) k l r tall f g =
+      by_test (allowed s p seen l (entry_at s seen k)) _ _
       (λ e.
-      entries-to at n (k + 1) r l _ (λ x. f (entry-later n k l r x))
-      (λ x. entry-rest n k l r (is-allowed l (entry_at s seen k) e) (g x)))
-      (λ e. wrong (f (0, omega arith, rw add-zero (not-allowed l (entry_at s seen k) e))))
+      entries_to at n (k + 1) r l _ (λ x. f (entry_later n k l r x))
+      (λ x. entry_rest n k l r (is_allowed l (entry_at s seen k) e) (g x)))
+      (λ e. wrong (f (0, omega arith, rw add-zero (not_allowed l (entry_at s seen k) e))))
 
   -- the value, once its bytes are there
-  value-to : (o : Sort) (at tall : ℕ) → CheckBy (valueRows s p seen o at) at (value_of s w p seen own o at tall)
-  unfolding value_of part_of range_of operandSortOf referOrNone list_of operandOf
-  value-to (Raw n) at tall = holds tt
-  value-to (Byte low high) at tall = byte-to at low high (get_or s at 0) tall (λ x. x) (λ x. x)
-  value-to Scalar at tall = by-test (is_scalar (u32_at s at)) _ _ (λ e. right (not-false e)) (λ e. wrong e)
-  value-to Part at tall =
-      by-test (ltb seen.bytes (u16At s at + u16At s (at + 2))) _ _ (λ e. wrong (inl (ltb-true _ _ e))) λ e.
-      by-test (utf8 (take (u16At s (at + 2)) (drop (textBytesAt + u16At s at) s))) _ _
+  value_to : (o : Sort) (at tall : ℕ) → CheckBy (value_rows s p seen o at) at (value_of s w p seen own o at tall)
+  unfolding value_of part_of range_of operand_sort_of refer_or_none list_of operand_of
+  value_to (Raw n) at tall = holds tt
+  value_to (Byte low high) at tall = byte_to at low high (get_or s at 0) tall (λ x. x) (λ x. x)
+  value_to Scalar at tall = by_test (is_scalar (u32_at s at)) _ _ (λ e. right (not_false e)) (λ e. wrong e)
+  value_to Part at tall =
+      by_test (ltb seen.bytes (u16_at s at + u16_at s (at + 2))) _ _ (λ e. wrong (inl (ltb-true _ _ e))) λ e.
+      by_test (utf8 (take (u16_at s (at + 2)) (drop (text_bytes_at + u16_at s at) s))) _ _
       (λ f.
       right
       (⊎_elim
-      (λ (h : seen.bytes < u16At s at + u16At s (at + 2)). omega (arith, ltb-false seen.bytes (u16At s at + u16At s (at + 2)) e, h))
-      (not-false f)))
+      (λ (h : seen.bytes < u16_at s at + u16_at s (at + 2)). omega (arith, ltb-false seen.bytes (u16_at s at + u16_at s (at + 2)) e, h))
+      (not_false f)))
       (λ f. wrong (inr f))
-  value-to (One t) at tall = refer-to at t (u16At s at) tall (λ x. x) (λ x. x)
-  value-to (Maybe t) at tall =
-      by-test (eqb (u16At s at) 65535) _ _ (λ e. right (λ x. x.0 (eqb-true _ _ e)))
-      (λ e. refer-to at t (u16At s at) tall (λ x. (eqb-false _ _ e, x)) (λ x. x.1))
-  value-to (Many l r n) at tall =
-      by-test (ltb seen.lists (u16At s at + u16At s (at + 2))) _ _ (λ e. wrong (list-leaves (ltb-true _ _ e))) λ e.
-      by-test (eqb (u16At s (at + 2) % n) 0) _ _
+  value_to (One t) at tall = refer_to_lem at t (u16_at s at) tall (λ x. x) (λ x. x)
+  value_to (Maybe t) at tall =
+      by_test (eqb (u16_at s at) 65535) _ _ (λ e. right (λ x. x.0 (eqb-true _ _ e)))
+      (λ e. refer_to_lem at t (u16_at s at) tall (λ x. (eqb-false _ _ e, x)) (λ x. x.1))
+  value_to (Many l r n) at tall =
+      by_test (ltb seen.lists (u16_at s at + u16_at s (at + 2))) _ _ (λ e. wrong (list_leaves (ltb-true _ _ e))) λ e.
+      by_test (eqb (u16_at s (at + 2) % n) 0) _ _
       (λ f.
-      entries-to at (u16At s (at + 2)) (u16At s at) l r tall (λ x. entry-wrong x.0 x.1 x.2)
+      entries_to at (u16_at s (at + 2)) (u16_at s at) l r tall (λ x. entry_wrong x.0 x.1 x.2)
       (entry (ltb-false _ _ e) (eqb-true _ _ f)))
-      (λ f. wrong (list-uneven (eqb-false _ _ f)))
+      (λ f. wrong (list_uneven (eqb-false _ _ f)))
     where
-      entry : u16At s at + u16At s (at + 2) ≤ seen.lists → u16At s (at + 2) % n ≡ 0 → WrongList s p seen l r n at → EntryWrong (u16At s (at + 2)) (u16At s at) l r
-      entry h e (list-leaves x) = absurd (omega arith)
-      entry h e (list-uneven x) = absurd (x e)
-      entry h e (entry-wrong i x y) = (i, x, y)
-  value-to (Range o) at tall =
-      by-test (leb (u16At s at + u16At s (at + 2)) (count_of seen o)) _ _
-      (λ e. right (λ (h : count_of seen o < u16At s at + u16At s (at + 2)). omega (arith, leb-true (u16At s at + u16At s (at + 2)) (count_of seen o) e, h)))
+      entry : u16_at s at + u16_at s (at + 2) ≤ seen.lists → u16_at s (at + 2) % n ≡ 0 → WrongList s p seen l r n at → EntryWrong (u16_at s (at + 2)) (u16_at s at) l r
+      entry h e (list_leaves x) = absurd (omega arith)
+      entry h e (list_uneven x) = absurd (x e)
+      entry h e (entry_wrong i x y) = (i, x, y)
+  value_to (Range o) at tall =
+      by_test (leb (u16_at s at + u16_at s (at + 2)) (count_of seen o)) _ _
+      (λ e. right (λ (h : count_of seen o < u16_at s at + u16_at s (at + 2)). omega (arith, leb-true (u16_at s at + u16_at s (at + 2)) (count_of seen o) e, h)))
       (λ e. wrong (leb-false _ _ e))
-  value-to OperandSort at tall =
-      by-test (eqb (get_or s (at - 1) 0) 0) _ _
+  value_to OperandSort at tall =
+      by_test (eqb (get_or s (at - 1) 0) 0) _ _
       (λ e.
-      by-test (eqb (get_or s at 0) 0) _ _ (λ f. right (none (eqb-true _ _ e) (eqb-true _ _ f)))
-      (λ f. wrong (sort-of-none (eqb-true _ _ e) (eqb-false _ _ f))))
-      (λ e. byte-to at 1 4 (get_or s at 0) tall (sort-outside (eqb-false _ _ e)) (some (eqb-false _ _ e)))
+      by_test (eqb (get_or s at 0) 0) _ _ (λ f. right (none (eqb-true _ _ e) (eqb-true _ _ f)))
+      (λ f. wrong (sort_of_none (eqb-true _ _ e) (eqb-false _ _ f))))
+      (λ e. byte_to at 1 4 (get_or s at 0) tall (sort_outside (eqb-false _ _ e)) (some (eqb-false _ _ e)))
     where
       none : get_or s (at - 1) 0 ≡ 0 → get_or s at 0 ≡ 0 → WrongSort (get_or s (at - 1) 0) (get_or s at 0) → ⊥
-      none e f (sort-of-none x y) = y f
-      none e f (sort-outside x y) = x e
+      none e f (sort_of_none x y) = y f
+      none e f (sort_outside x y) = x e
 
       some : get_or s (at - 1) 0 ≢ 0 → WrongSort (get_or s (at - 1) 0) (get_or s at 0) → (get_or s at 0 < 1) ⊎ (4 < get_or s at 0)
-      some e (sort-of-none x y) = absurd (e x)
-      some e (sort-outside x y) = y
-  value-to Operand at tall =
-      by-test (eqb b 0) _ _
+      some e (sort_of_none x y) = absurd (e x)
+      some e (sort_outside x y) = y
+  value_to Operand at tall =
+      by_test (eqb b 0) _ _
       (λ e.
-      by-test (zeros s at 8) _ _ (λ f. holds (none (eqb-true _ _ e) f, (λ x. x.0.some (eqb-true _ _ e), tt)))
-      (λ f. wrong (none-not-zero (eqb-true _ _ e) f))) λ e.
-      by-test (eqb b 1) _ _ (λ f. holds (integer (eqb-true _ _ f), (λ x. x.0.not-integer (eqb-true _ _ f), tt))) λ f.
-      by-test (eqb b 3) _ _
+      by_test (zeros s at 8) _ _ (λ f. holds (none (eqb-true _ _ e) f, (λ x. x.0.some (eqb-true _ _ e), tt)))
+      (λ f. wrong (none_not_zero (eqb-true _ _ e) f))) λ e.
+      by_test (eqb b 1) _ _ (λ f. holds (integer (eqb-true _ _ f), (λ x. x.0.not_integer (eqb-true _ _ f), tt))) λ f.
+      by_test (eqb b 3) _ _
       (λ g.
-      by-test (cond (leb (get_or s at 0) 1) (zeros s (at + 1) 7) false) _ _
+      by_test (cond (leb (get_or s at 0) 1) (zeros s (at + 1) 7) false) _ _
       (λ h.
-      holds (bool (eqb-true _ _ g) (bool-right (get_or s at 0) (zeros s (at + 1) 7) h), (λ x. x.0.not_bool (eqb-true _ _ g), tt)))
-      (λ h. wrong (bool-outside (eqb-true _ _ g) (bool-wrong (get_or s at 0) (zeros s (at + 1) 7) h)))) λ g.
-      let t : IsText b = record { some = eqb-false _ _ e; not-integer = eqb-false _ _ f; not_bool = eqb-false _ _ g } in
-      by-test (zeros s (at + 2) 6) _ _ (λ h. skips (text t h) (refer-to at Text (u16At s at) tall (λ x. (t, x)) (λ x. x.1)))
-      (λ h. wrong (text-not-zero t h))
+      holds (bool (eqb-true _ _ g) (bool_right (get_or s at 0) (zeros s (at + 1) 7) h), (λ x. x.0.not_bool (eqb-true _ _ g), tt)))
+      (λ h. wrong (bool_outside (eqb-true _ _ g) (bool_wrong (get_or s at 0) (zeros s (at + 1) 7) h)))) λ g.
+      let t : IsText b = record { some = eqb-false _ _ e; not_integer = eqb-false _ _ f; not_bool = eqb-false _ _ g } in
+      by_test (zeros s (at + 2) 6) _ _ (λ h. skips (text t h) (refer_to_lem at Text (u16_at s at) tall (λ x. (t, x)) (λ x. x.1)))
+      (λ h. wrong (text_not_zero t h))
     where
       b : ℕ
       b = get_or s (at - 1) 0
 
       none : b ≡ 0 → zeros s at 8 ≡ true → WrongOperand s b at → ⊥
-      none e f (none-not-zero x y) = not-false f y
-      none e f (bool-outside x y) = omega arith
-      none e f (text-not-zero x y) = x.some e
+      none e f (none_not_zero x y) = not_false f y
+      none e f (bool_outside x y) = omega arith
+      none e f (text_not_zero x y) = x.some e
 
       integer : b ≡ 1 → WrongOperand s b at → ⊥
-      integer e (none-not-zero x y) = omega arith
-      integer e (bool-outside x y) = omega arith
-      integer e (text-not-zero x y) = x.not-integer e
+      integer e (none_not_zero x y) = omega arith
+      integer e (bool_outside x y) = omega arith
+      integer e (text_not_zero x y) = x.not_integer e
 
       bool : b ≡ 3 → ((1 < get_or s at 0) ⊎ (zeros s (at + 1) 7 ≡ false) → ⊥) → WrongOperand s b at → ⊥
-      bool e f (none-not-zero x y) = omega arith
-      bool e f (bool-outside x y) = f y
-      bool e f (text-not-zero x y) = x.not_bool e
+      bool e f (none_not_zero x y) = omega arith
+      bool e f (bool_outside x y) = f y
+      bool e f (text_not_zero x y) = x.not_bool e
 
       text : IsText b → zeros s (at + 2) 6 ≡ true → WrongOperand s b at → ⊥
-      text t f (none-not-zero x y) = t.some x
-      text t f (bool-outside x y) = t.not_bool x
-      text t f (text-not-zero x y) = not-false f y
+      text t f (none_not_zero x y) = t.some x
+      text t f (bool_outside x y) = t.not_bool x
+      text t f (text_not_zero x y) = not_false f y
 
-  field-to : (o : Sort) (at tall : ℕ) → CheckBy (fieldRows s p seen o at) at (field_at s w p seen own o at tall)
+  field_to : (o : Sort) (at tall : ℕ) → CheckBy (field_rows s p seen o at) at (field_at s w p seen own o at tall)
   unfolding field_at past
-  field-to o at tall =
-      by-test (ltb (length s) (at + width_of o)) _ _ (λ e. wrong (ltb-true _ _ e))
-      (λ e. skips (λ (h : length s < at + width_of o). omega (arith, ltb-false (length s) (at + width_of o) e, h)) (value-to o at tall))
+  field_to o at tall =
+      by_test (ltb (length s) (at + width_of o)) _ _ (λ e. wrong (ltb-true _ _ e))
+      (λ e. skips (λ (h : length s < at + width_of o). omega (arith, ltb-false (length s) (at + width_of o) e, h)) (value_to o at tall))
 
   -- the fields
-  fields-by : (os : List ℕ) (at tall : ℕ) → By Stop (fieldsRows s p seen os at) (Next (at + widthsOf os) (max tall (fieldsTall s w seen own os at))) (fieldsFrom s w p seen own os at tall)
-  unfolding fieldsFrom fieldsRows widthsOf fieldsTall
-  fields-by [] at tall =
+  fields_by : (os : List ℕ) (at tall : ℕ) → By Stop (fields_rows s p seen os at) (Next (at + widths_of os) (max tall (fields_tall s w seen own os at))) (fields_from s w p seen own os at tall)
+  unfolding fields_from fields_rows widths_of fields_tall
+  fields_by [] at tall =
       let e : tall ≡ max tall 0 = omega arith in
       subst (λ i. By Stop [] (Next i (max tall 0)) (Next at tall)) (sym (add-zero at)) (subst (λ t. By Stop [] (Next at t) (Next at tall)) e (accepts tt))
-  fields-by (o ∷ os) at tall = go (field_at s w p seen own (sortOf o) at tall) refl (field-to (sortOf o) at tall) (fields-by os next)
+  fields_by (o ∷ os) at tall = go (field_at s w p seen own (sort_of o) at tall) refl (field_to (sort_of o) at tall) (fields_by os next)
     where
       next : ℕ
-      next = at + width_of (sortOf o)
+      next = at + width_of (sort_of o)
 
       rest : ℕ → Step
-      rest t = fieldsFrom s w p seen own os next t
+      rest t = fields_from s w p seen own os next t
 
       most : ℕ
-      most = max (fieldTall s w seen own (sortOf o) at) (fieldsTall s w seen own os next)
+      most = max (field_tall s w seen own (sort_of o) at) (fields_tall s w seen own os next)
 
-      go : (r : Check) → field_at s w p seen own (sortOf o) at tall ≡ r → CheckBy (fieldRows s p seen (sortOf o) at) at r → ((t : ℕ) → By Stop (fieldsRows s p seen os next) (Next (next + widthsOf os) (max t (fieldsTall s w seen own os next))) (rest t)) → By Stop (fieldRows s p seen (sortOf o) at ++ fieldsRows s p seen os next) (Next (at + (width_of (sortOf o) + widthsOf os)) (max tall most)) (checked r at rest)
+      go : (r : Check) → field_at s w p seen own (sort_of o) at tall ≡ r → CheckBy (field_rows s p seen (sort_of o) at) at r → ((t : ℕ) → By Stop (fields_rows s p seen os next) (Next (next + widths_of os) (max t (fields_tall s w seen own os next))) (rest t)) → By Stop (field_rows s p seen (sort_of o) at ++ fields_rows s p seen os next) (Next (at + (width_of (sort_of o) + widths_of os)) (max tall most)) (checked r at rest)
       go (Holds t) d (holds u) f =
-          let e : next + widthsOf os ≡ at + (width_of (sortOf o) + widthsOf os) = omega arith in
-          let g : max t (fieldsTall s w seen own os next) ≡ max tall most = omega (arith, field-tall s w p seen own (sortOf o) at tall t d) in
-          behind (fieldRows s p seen (sortOf o) at) (fieldsRows s p seen os next) u
-          (subst (λ m. By Stop (fieldsRows s p seen os next) (Next (at + (width_of (sortOf o) + widthsOf os)) m) (rest t)) g
-          (subst (λ i. By Stop (fieldsRows s p seen os next) (Next i (max t (fieldsTall s w seen own os next))) (rest t)) e (f t)))
-      go (Fails c) d (fails x) f = refuses (first-front (fieldRows s p seen (sortOf o) at) (fieldsRows s p seen os next) c at x)
+          let e : next + widths_of os ≡ at + (width_of (sort_of o) + widths_of os) = omega arith in
+          let g : max t (fields_tall s w seen own os next) ≡ max tall most = omega (arith, field_tall_lem s w p seen own (sort_of o) at tall t d) in
+          behind (field_rows s p seen (sort_of o) at) (fields_rows s p seen os next) u
+          (subst (λ m. By Stop (fields_rows s p seen os next) (Next (at + (width_of (sort_of o) + widths_of os)) m) (rest t)) g
+          (subst (λ i. By Stop (fields_rows s p seen os next) (Next i (max t (fields_tall s w seen own os next))) (rest t)) e (f t)))
+      go (Fails c) d (fails x) f = refuses (first_front (field_rows s p seen (sort_of o) at) (fields_rows s p seen os next) c at x)
 
-  height-by : (rows : List Row) (at a tall : ℕ) {x : Step} → By Stop rows (Next a tall) x → By Stop (rows ++ row TooHigh at (tallest own < tall + 1) ∷ []) (Next a (tall + 1)) (heightStep own at x)
-  height-by rows at a tall (refuses {q = c} {p = n} f) = refuses (first-front rows _ c n f)
-  height-by rows at a tall (accepts u) =
+  height_by : (rows : List Row) (at a tall : ℕ) {x : Step} → By Stop rows (Next a tall) x → By Stop (rows ++ row TooHigh at (tallest own < tall + 1) ∷ []) (Next a (tall + 1)) (height_step own at x)
+  height_by rows at a tall (refuses {q = c} {p = n} f) = refuses (first_front rows _ c n f)
+  height_by rows at a tall (accepts u) =
       behind rows (row TooHigh at (tallest own < tall + 1) ∷ []) u
-      (checks-not (ltb tall (tallest own)) (λ e. omega (arith, ltb-false tall (tallest own) e))
+      (checks_not (ltb tall (tallest own)) (λ e. omega (arith, ltb-false tall (tallest own) e))
       (λ e h. omega (arith, ltb-true tall (tallest own) e)) (accepts tt))
 
   -- THEOREM: a record is read, or refused for the first of its rows that holds
-  pub record-by : (at : ℕ) → By Stop (recordRows s w p seen own at) (Next (next_at s at) (heightAt s w seen own at)) (recordAt s w p seen own at)
-  unfolding recordAt next_at heightAt past
-  record-by at =
+  pub record_by_lem : (at : ℕ) → By Stop (record_rows s w p seen own at) (Next (next_at s at) (height_at s w seen own at)) (record_at s w p seen own at)
+  unfolding record_at next_at height_at past
+  record_by_lem at =
       checks (ltb (length s) (at + 1)) (λ e. omega (arith, ltb-true (length s) (at + 1) e))
       (λ e h. omega (arith, ltb-false (length s) (at + 1) e))
-      (checks-not (inSection own (get_or s at 0)) (kind-outside own (get_or s at 0)) (kind-inside own (get_or s at 0))
-      (height-by (fieldsRows s p seen fields (at + 1)) at (at + 1 + widthsOf fields) (fieldsTall s w seen own fields (at + 1))
-      (subst (λ t. By Stop (fieldsRows s p seen fields (at + 1)) (Next (at + 1 + widthsOf fields) t) (fieldsFrom s w p seen own fields (at + 1) 0)) none (fields-by fields (at + 1) 0))))
+      (checks_not (in_section own (get_or s at 0)) (kind_outside own (get_or s at 0)) (kind_inside own (get_or s at 0))
+      (height_by (fields_rows s p seen fields (at + 1)) at (at + 1 + widths_of fields) (fields_tall s w seen own fields (at + 1))
+      (subst (λ t. By Stop (fields_rows s p seen fields (at + 1)) (Next (at + 1 + widths_of fields) t) (fields_from s w p seen own fields (at + 1) 0)) none (fields_by fields (at + 1) 0))))
     where
       fields : List ℕ
       fields = fields_of (get_or s at 0)
 
-      none : max 0 (fieldsTall s w seen own fields (at + 1)) ≡ fieldsTall s w seen own fields (at + 1)
+      none : max 0 (fields_tall s w seen own fields (at + 1)) ≡ fields_tall s w seen own fields (at + 1)
       none = omega arith

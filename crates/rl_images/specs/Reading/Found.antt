@@ -9,70 +9,70 @@ use Rattle.rl_spec.specs.declared.Counts.{Counts}
 use Rattle.rl_spec.specs.declared.Answer.TheVariants.{Accepted}
 use Rattle.rl_spec.specs.declared.Section.{Section}
 use Rattle.rl_spec.specs.declared.Section.TheVariants.{Texts, Lists, Expressions, Statements, Parameters, Clauses, Functions, Calls}
-use Rattle.rl_spec.specs.Schema.{sections, count_of, lowest, highest, inSection, sortOf, schema, fieldsIn, fields_of}
-use Rattle.rl_spec.specs.Read.{countsOf, answer_of, startsOf}
-use Rattle.rl_spec.specs.Image.{recordsOf, size_of, noRecord, recordOf, widthsOf, recordIn, sectionsIn, image_of}
-use Rattle.rl_spec.specs.Found.{place_of, calls_at, functionsAt, clausesAt, parametersAt, recordAs, kindFound, recordFound, imageFound}
-use Rattle.rl_laws.specs.Found.{size-found, record-found}
-use Rattle.rl_images.specs.Images.SchemaSorts.{kind-range}
-use Rattle.rl_images.specs.Reading.ReadOutcome.{accepted-header}
-use Rattle.rl_images.specs.Reading.Starts.{sectionAt, width_in, StandsAt, starts-expression, starts-statement, stands-by-width, section-places, stands-text, stands-entry, sizes-are-counts}
+use Rattle.rl_spec.specs.Schema.{sections, count_of, lowest, highest, in_section, sort_of, schema, fields_in_lem, fields_of}
+use Rattle.rl_spec.specs.Read.{counts_of, answer_of, starts_of}
+use Rattle.rl_spec.specs.Image.{records_of, size_of, no_record, record_of_lem, widths_of, record_in, sections_in, image_of}
+use Rattle.rl_spec.specs.Found.{place_of, calls_at, functions_at, clauses_at, parameters_at, record_as, kind_found, record_found, image_found}
+use Rattle.rl_laws.specs.Found.{size_found, record_found_lem}
+use Rattle.rl_images.specs.Images.SchemaSorts.{kind_range}
+use Rattle.rl_images.specs.Reading.ReadOutcome.{accepted_header}
+use Rattle.rl_images.specs.Reading.Starts.{section_at, width_in, StandsAt, starts_expression, starts_statement, stands_by_width, section_places, stands_text, stands_entry, sizes_are_counts}
 
 -- the kind of a record that stands in a section
-kind-found : (o : Section) (k : ℕ) → inSection o k ≡ true → cond (eqb (lowest o) (highest o)) (lowest o) k ≡ k
-kind-found Texts k h = omega (arith, kind-range Texts k h)
-kind-found Lists k h = omega (arith, kind-range Lists k h)
-kind-found Expressions k h = refl
-kind-found Statements k h = refl
-kind-found Parameters k h = omega (arith, kind-range Parameters k h)
-kind-found Clauses k h = omega (arith, kind-range Clauses k h)
-kind-found Functions k h = omega (arith, kind-range Functions k h)
-kind-found Calls k h = omega (arith, kind-range Calls k h)
+kind_found_lem : (o : Section) (k : ℕ) → in_section o k ≡ true → cond (eqb (lowest o) (highest o)) (lowest o) k ≡ k
+kind_found_lem Texts k h = omega (arith, kind_range Texts k h)
+kind_found_lem Lists k h = omega (arith, kind_range Lists k h)
+kind_found_lem Expressions k h = refl
+kind_found_lem Statements k h = refl
+kind_found_lem Parameters k h = omega (arith, kind_range Parameters k h)
+kind_found_lem Clauses k h = omega (arith, kind_range Clauses k h)
+kind_found_lem Functions k h = omega (arith, kind_range Functions k h)
+kind_found_lem Calls k h = omega (arith, kind_range Calls k h)
 
-found-stands : (s : List ℕ) (o : Section) (i at : ℕ) → StandsAt s o i at → recordAs s (kindFound s o at) at ≡ recordOf (image_of s) o i
-unfolding recordAs recordIn
-found-stands s o i at h = rw (kind-found o (get_or s at 0) h.kind) h.found
+found_stands : (s : List ℕ) (o : Section) (i at : ℕ) → StandsAt s o i at → record_as s (kind_found s o at) at ≡ record_of_lem (image_of s) o i
+unfolding record_as record_in
+found_stands s o i at h = rw (kind_found_lem o (get_or s at 0) h.kind) h.found
 
 module _ (s : List ℕ) (k : ℕ) (a : ArenaNo) (c : Counts) (e : answer_of s k ≡ Accepted a c) where
   -- the sections at the end, from the end back
-  calls-at : sectionAt s Calls ≡ calls_at s c
-  calls-at = let q = (section-places s k a c e).calls in omega arith
+  calls_at_lem : section_at s Calls ≡ calls_at s c
+  calls_at_lem = let q = (section_places s k a c e).calls in omega arith
 
-  functions-at : sectionAt s Functions ≡ functionsAt s c
-  functions-at = let q = (section-places s k a c e).functions in rw (← calls-at) (omega arith)
+  functions_at_lem : section_at s Functions ≡ functions_at s c
+  functions_at_lem = let q = (section_places s k a c e).functions in rw (← calls_at_lem) (omega arith)
 
-  clauses-at : sectionAt s Clauses ≡ clausesAt s c
-  clauses-at = let q = (section-places s k a c e).clauses in rw (← functions-at) (omega arith)
+  clauses_at_lem : section_at s Clauses ≡ clauses_at s c
+  clauses_at_lem = let q = (section_places s k a c e).clauses in rw (← functions_at_lem) (omega arith)
 
-  parameters-at : sectionAt s Parameters ≡ parametersAt s c
-  parameters-at = let q = (section-places s k a c e).parameters in rw (← clauses-at) (omega arith)
+  parameters_at_lem : section_at s Parameters ≡ parameters_at s c
+  parameters_at_lem = let q = (section_places s k a c e).parameters in rw (← clauses_at_lem) (omega arith)
 
   -- each record stands where it is looked for
-  stands-found : (o : Section) (i : ℕ) → i < count_of c o → StandsAt s o i (place_of s (startsOf s k) c o i)
-  unfolding width_in widthsOf fields_of fieldsIn schema sortOf
-  stands-found Texts i h = stands-text s k a c e i h
-  stands-found Lists i h = stands-entry s k a c e i h
-  stands-found Expressions i h = starts-expression s k a c e i h
-  stands-found Statements i h = starts-statement s k a c e i h
-  stands-found Parameters i h = rw (← parameters-at) (stands-by-width s k a c e Parameters refl i h)
-  stands-found Clauses i h = rw (← clauses-at) (stands-by-width s k a c e Clauses refl i h)
-  stands-found Functions i h = rw (← functions-at) (stands-by-width s k a c e Functions refl i h)
-  stands-found Calls i h = rw (← calls-at) (stands-by-width s k a c e Calls refl i h)
+  stands_found : (o : Section) (i : ℕ) → i < count_of c o → StandsAt s o i (place_of s (starts_of s k) c o i)
+  unfolding width_in widths_of fields_of fields_in_lem schema sort_of
+  stands_found Texts i h = stands_text s k a c e i h
+  stands_found Lists i h = stands_entry s k a c e i h
+  stands_found Expressions i h = starts_expression s k a c e i h
+  stands_found Statements i h = starts_statement s k a c e i h
+  stands_found Parameters i h = rw (← parameters_at_lem) (stands_by_width s k a c e Parameters refl i h)
+  stands_found Clauses i h = rw (← clauses_at_lem) (stands_by_width s k a c e Clauses refl i h)
+  stands_found Functions i h = rw (← functions_at_lem) (stands_by_width s k a c e Functions refl i h)
+  stands_found Calls i h = rw (← calls_at_lem) (stands_by_width s k a c e Calls refl i h)
 
-  records-same : (o : Section) → recordsOf (imageFound s (startsOf s k) c) o ≡ recordsOf (image_of s) o
-  unfolding recordFound
-  records-same o =
-      let n : size_of (imageFound s (startsOf s k) c) o ≡ count_of c o = size-found s (startsOf s k) c o in
-      ext_get_or noRecord (recordsOf (imageFound s (startsOf s k) c) o) (recordsOf (image_of s) o)
-      (n ∙ sym (sizes-are-counts s k a c e o))
+  records_same : (o : Section) → records_of (image_found s (starts_of s k) c) o ≡ records_of (image_of s) o
+  unfolding record_found
+  records_same o =
+      let n : size_of (image_found s (starts_of s k) c) o ≡ count_of c o = size_found s (starts_of s k) c o in
+      ext_get_or no_record (records_of (image_found s (starts_of s k) c) o) (records_of (image_of s) o)
+      (n ∙ sym (sizes_are_counts s k a c e o))
       (λ i h. go i (rw n at h))
     where
-      go : (i : ℕ) → i < count_of c o → recordOf (imageFound s (startsOf s k) c) o i ≡ recordOf (image_of s) o i
-      go i h = record-found s (startsOf s k) c o i h ∙ found-stands s o i (place_of s (startsOf s k) c o i) (stands-found o i h)
+      go : (i : ℕ) → i < count_of c o → record_of_lem (image_found s (starts_of s k) c) o i ≡ record_of_lem (image_of s) o i
+      go i h = record_found_lem s (starts_of s k) c o i h ∙ found_stands s o i (place_of s (starts_of s k) c o i) (stands_found o i h)
 
   -- THEOREM
-  pub found-is-image : imageFound s (startsOf s k) c ≡ image_of s
-  unfolding imageFound image_of sections sectionsIn
-  found-is-image =
-      let q : c.bytes ≡ (countsOf s).bytes = ap (λ (x : Counts). x.bytes) (accepted-header s k a c e).1 in
-      cc (records-same Texts, records-same Lists, records-same Expressions, records-same Statements, records-same Parameters, records-same Clauses, records-same Functions, records-same Calls)
+  pub found_is_image : image_found s (starts_of s k) c ≡ image_of s
+  unfolding image_found image_of sections sections_in
+  found_is_image =
+      let q : c.bytes ≡ (counts_of s).bytes = ap (λ (x : Counts). x.bytes) (accepted_header s k a c e).1 in
+      cc (records_same Texts, records_same Lists, records_same Expressions, records_same Statements, records_same Parameters, records_same Clauses, records_same Functions, records_same Calls)

@@ -1,6 +1,6 @@
 use borrow.Author.Rules.{rules}
 use Rattle.rl_spec.specs.Tree.{ascii}
-use Rattle.rl_line.proofs.LineLaws.{puts-line}
+use Rattle.rl_line.proofs.LineLaws.{puts_line}
 use Rattle.rl_line.proofs.put_line.Statement.{statement}
 use Rattle.rl_line.proofs.put_line.Tie as tie
 
@@ -42,7 +42,7 @@ returns c =
     let span = second-space.before.before.before.before.before in
     let space = span.before.before.before.before in
     let call = space.before.before.before.before.before in
-    puts-line _ _ _ _ _ _ _ _ _ _ _ _ _ _ _ _
+    puts_line _ _ _ _ _ _ _ _ _ _ _ _ _ _ _ _
     call.put-number.ensures
     space.put-text.ensures
     span.put-number2.ensures

@@ -1,7 +1,7 @@
 use borrow.Author.Rules.{rules}
 use Rattle.rl_spec.specs.Tree.{ascii}
 use Rattle.rl_spec.specs.Message.{opening}
-use Rattle.rl_line.proofs.LineLaws.{puts-message}
+use Rattle.rl_line.proofs.LineLaws.{puts_message}
 use Rattle.rl_line.proofs.put_message.Statement.{statement}
 use Rattle.rl_line.proofs.put_message.Tie as tie
 
@@ -21,7 +21,7 @@ returns : tie.Need-returns
 unfolding opening ascii
 returns c =
     let text = c.before.before in
-    puts-message _ _ _ _ _ _ _ text.before.before.before.before.put-text.ensures text.put-text2.ensures
+    puts_message _ _ _ _ _ _ _ text.before.before.before.before.put-text.ensures text.put-text2.ensures
 
 pub put-message-spec : {M : Type 1} → statement M
 put-message-spec =

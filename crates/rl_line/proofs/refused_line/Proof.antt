@@ -1,6 +1,6 @@
 use borrow.Author.Rules.{rules}
 use Rattle.rl_spec.specs.Tree.{ascii}
-use Rattle.rl_line.proofs.LineLaws.{puts-refused}
+use Rattle.rl_line.proofs.LineLaws.{puts_refused}
 use Rattle.rl_line.proofs.refused_line.Statement.{statement}
 use Rattle.rl_line.proofs.refused_line.Tie as tie
 
@@ -41,7 +41,7 @@ returns c =
     let middle = number.before.before.before.before in
     let cause = middle.before.before.before.before.before in
     let start = cause.before.before.before.before.before in
-    puts-refused _ _ _ _ _ _ _ _ _ _ _ _ _ _
+    puts_refused _ _ _ _ _ _ _ _ _ _ _ _ _ _
     cause.before.number_of_lem.ensures
     start.put-text.ensures
     cause.put-number.ensures

@@ -1,5 +1,5 @@
 use borrow.Author.Rules.{rules}
-use Rattle.rl_line.proofs.LineLaws.{puts-report}
+use Rattle.rl_line.proofs.LineLaws.{puts_report}
 use Rattle.rl_line.proofs.report_line.Statement.{statement}
 use Rattle.rl_line.proofs.report_line.Tie as tie
 
@@ -26,7 +26,7 @@ returns c =
     let put = c.before.before in
     let text = put.before.before in
     let default = text.before.before.before.before.before in
-    puts-report _ _ _ _ _ _ _ _ _ _ _ _ _
+    puts_report _ _ _ _ _ _ _ _ _ _ _ _ _
     default.default-text.ensures
     text.before.part.ensures
     text.message.ensures

@@ -1,5 +1,5 @@
 use borrow.Author.Rules.{rules}
-use Rattle.rl_line.proofs.LineLaws.{puts-told}
+use Rattle.rl_line.proofs.LineLaws.{puts_told}
 use Rattle.rl_line.proofs.report_message.Statement.{statement}
 use Rattle.rl_line.proofs.report_message.Tie as tie
 
@@ -26,7 +26,7 @@ returns c =
     let put = c.before.before in
     let text = put.before.before in
     let default = text.before.before.before.before.before in
-    puts-told _ _ _ _ _ _ _ _ _ _ _ _ _
+    puts_told _ _ _ _ _ _ _ _ _ _ _ _ _
     default.default-text.ensures
     text.before.part.ensures
     text.message.ensures

@@ -1,9 +1,9 @@
 use borrow.Author.Rules.{rules}
 use Rattle.rl_memory.proofs.recall.Statement.{statement}
 use Rattle.rl_memory.proofs.recall.Tie as tie
-use Rattle.rl_memory.proofs.Laws.{recall-is}
+use Rattle.rl_memory.proofs.Laws.{recall_is}
 
-ruleset laws = (recall-is)
+ruleset laws = (recall_is)
 
 mul_at : tie.Need-overflow-mul-at
 mul_at c = search rules

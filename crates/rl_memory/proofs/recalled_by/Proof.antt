@@ -1,9 +1,9 @@
 use borrow.Author.Rules.{rules}
 use Rattle.rl_memory.proofs.recalled_by.Statement.{statement}
 use Rattle.rl_memory.proofs.recalled_by.Tie as tie
-use Rattle.rl_memory.proofs.Laws.{recalled-unknown, recalled-none, recalled-stale, recalled-value}
+use Rattle.rl_memory.proofs.Laws.{recalled_unknown, recalled_none, recalled_stale, recalled_value}
 
-ruleset laws = (recalled-unknown, recalled-none, recalled-stale, recalled-value)
+ruleset laws = (recalled_unknown, recalled_none, recalled_stale, recalled_value)
 
 returns : tie.Need-returns
 returns c = search (laws, rules)

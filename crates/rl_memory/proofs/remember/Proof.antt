@@ -1,9 +1,9 @@
 use borrow.Author.Rules.{rules}
 use Rattle.rl_memory.proofs.remember.Statement.{statement}
 use Rattle.rl_memory.proofs.remember.Tie as tie
-use Rattle.rl_memory.proofs.Laws.{remember-is, remember-keeps, remember-not, keeps_same}
+use Rattle.rl_memory.proofs.Laws.{remember_is, remember_keeps, remember_not, keeps_same}
 
-ruleset laws = (remember-is, remember-keeps, remember-not, keeps_same)
+ruleset laws = (remember_is, remember_keeps, remember_not, keeps_same)
 
 mul_at : tie.Need-overflow-mul-at
 mul_at c = search rules

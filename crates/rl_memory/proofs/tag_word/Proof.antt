@@ -1,9 +1,9 @@
 use borrow.Author.Rules.{rules}
 use Rattle.rl_memory.proofs.tag_word.Statement.{statement}
 use Rattle.rl_memory.proofs.tag_word.Tie as tie
-use Rattle.rl_memory.proofs.Laws.{tag-none, tag-some}
+use Rattle.rl_memory.proofs.Laws.{tag_none, tag_some}
 
-ruleset laws = (tag-none, tag-some)
+ruleset laws = (tag_none, tag_some)
 
 sort-word-requires : tie.Need-sort-word-requires
 sort-word-requires c κs = search rules

@@ -1,15 +1,15 @@
 use mathlib.Core.Path.{◌≡◌}
 use Prim.Native.Nat.{◌≤◌}
-use Rattle.rl_names.specs.Names.{lookupIn}
+use Rattle.rl_names.specs.Names.{lookup_in}
 use Rattle.rl_names.proofs.lookup.Statement.{statement}
 use Rattle.rl_names.proofs.lookup.Tie as tie
 use borrow.Author.Rules.{rules}
-use Rattle.rl_names.proofs.Laws.{walk_end, walk-found, walk-on}
+use Rattle.rl_names.proofs.Laws.{walk_end, walk_found, walk_on}
 
-ruleset laws = (walk_end, walk-found, walk-on)
+ruleset laws = (walk_end, walk_found, walk_on)
 
 abbrev invariant-loop : tie.invariant-loop
-invariant-loop classes names count t class k₀ k = (k ≤ count) × (lookupIn classes names t count ≡ lookupIn classes names t k)
+invariant-loop classes names count t class k₀ k = (k ≤ count) × (lookup_in classes names t count ≡ lookup_in classes names t k)
 
 abbrev decreases-loop : tie.decreases-loop
 decreases-loop classes names count t class k₀ k = k
@@ -55,7 +55,7 @@ words-value-requires c κs = search (laws, rules)
 
 returns : tie.Need-returns invariant-loop decreases-loop
 returns c =
-    walk-found _ _ _ _ _ _ c.before.before.before.before.before.before.before.loop.invariant.1 c.before.before.before.before.before.before.before.before.word_at.ensures c.before.before.before.before.before.before.loop-test.true _ _ c.before.before.before.before.before.long-at.ensures c.before.before.before.before.word-at2.ensures c.before.before.before.if1.true _ _ _
+    walk_found _ _ _ _ _ _ c.before.before.before.before.before.before.before.loop.invariant.1 c.before.before.before.before.before.before.before.before.word_at.ensures c.before.before.before.before.before.before.loop-test.true _ _ c.before.before.before.before.before.long-at.ensures c.before.before.before.before.word-at2.ensures c.before.before.before.if1.true _ _ _
     c.before.before.long-at2.ensures c.before.long-at3.ensures c.words-value.ensures
 
 loop-less : tie.Need-loop-smaller invariant-loop decreases-loop

@@ -1,9 +1,9 @@
 use borrow.Author.Rules.{rules}
 use Rattle.rl_operators.proofs.binary_value.Statement.{statement}
 use Rattle.rl_operators.proofs.binary_value.Tie as tie
-use Rattle.rl_operators.proofs.Laws.{binary-eq, binary-ne, binary-lt, binary-le, binary-gt, binary-ge, binary-plus, binary-minus, binary-star, binary-slash, binary-other}
+use Rattle.rl_operators.proofs.Laws.{binary_eq, binary_ne, binary_lt, binary_le, binary_gt, binary_ge, binary_plus, binary_minus, binary_star, binary_slash, binary_other}
 
-ruleset laws = (binary-eq, binary-ne, binary-lt, binary-le, binary-gt, binary-ge, binary-plus, binary-minus, binary-star, binary-slash, binary-other)
+ruleset laws = (binary_eq, binary_ne, binary_lt, binary_le, binary_gt, binary_ge, binary_plus, binary_minus, binary_star, binary_slash, binary_other)
 
 comparison-requires : tie.Need-comparison-requires
 comparison-requires c κs = search rules

@@ -1,9 +1,9 @@
 use borrow.Author.Rules.{rules}
 use Rattle.rl_operators.proofs.comparison.Statement.{statement}
 use Rattle.rl_operators.proofs.comparison.Tie as tie
-use Rattle.rl_operators.proofs.Laws.{compare-yes, compare-no, compare-unknown}
+use Rattle.rl_operators.proofs.Laws.{compare_yes, compare_no, compare_unknown}
 
-ruleset laws = (compare-yes, compare-no, compare-unknown)
+ruleset laws = (compare_yes, compare_no, compare_unknown)
 
 compare-values-requires : tie.Need-compare-values-requires
 compare-values-requires c κs = search rules

@@ -1,9 +1,9 @@
 use borrow.Author.Rules.{rules}
 use Rattle.rl_operators.proofs.unary_value.Statement.{statement}
 use Rattle.rl_operators.proofs.unary_value.Tie as tie
-use Rattle.rl_operators.proofs.Laws.{unary-bang, unary-minus, unary-other}
+use Rattle.rl_operators.proofs.Laws.{unary_bang, unary_minus, unary_other}
 
-ruleset laws = (unary-bang, unary-minus, unary-other)
+ruleset laws = (unary_bang, unary_minus, unary_other)
 
 bang-requires : tie.Need-bang-requires
 bang-requires c κs = search rules

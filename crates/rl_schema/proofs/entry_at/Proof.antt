@@ -1,9 +1,9 @@
 use borrow.Author.Rules.{rules}
 use Rattle.rl_schema.proofs.entry_at.Statement.{statement}
 use Rattle.rl_schema.proofs.entry_at.Tie as tie
-use Rattle.rl_schema.proofs.Rows.{entry-is}
+use Rattle.rl_schema.proofs.Rows.{entry_is}
 
-ruleset laws = (entry-is)
+ruleset laws = (entry_is)
 
 cast-from : tie.Need-overflow-cast-from
 cast-from c = search rules

@@ -1,9 +1,9 @@
 use borrow.Author.Rules.{rules}
 use Rattle.rl_schema.proofs.in_section.Statement.{statement}
 use Rattle.rl_schema.proofs.in_section.Tie as tie
-use Rattle.rl_schema.proofs.Rows.{section-below, section-from}
+use Rattle.rl_schema.proofs.Rows.{section_below, section_from}
 
-ruleset laws = (section-below, section-from)
+ruleset laws = (section_below, section_from)
 
 lowest-in-requires : tie.Need-lowest-in-requires
 lowest-in-requires c κs = search rules

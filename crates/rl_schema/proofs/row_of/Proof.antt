@@ -3,9 +3,9 @@ use Rattle.rl_schema.proofs.row_of.Statement.{statement}
 use Rattle.rl_schema.proofs.row_of.Tie as tie
 use Rattle.rl_schema.proofs.row_of.Reads as reads
 use Rattle.rl_schema.proofs.row_of.Lts as lts
-use Rattle.rl_bytes.proofs.Laws.{get_d_past}
+use Rattle.rl_bytes.proofs.Laws.{get_or_past}
 
-ruleset laws = (get_d_past)
+ruleset laws = (get_or_past)
 
 mul-result : tie.Need-overflow-mul-result
 mul-result c = search rules

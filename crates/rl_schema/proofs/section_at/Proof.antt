@@ -1,5 +1,5 @@
 use Rattle.rl_spec.specs.Schema.{sections}
-use Rattle.rl_schema.proofs.Rows.{section-last}
+use Rattle.rl_schema.proofs.Rows.{section_last}
 use Rattle.rl_schema.proofs.section_at.Statement.{statement}
 use Rattle.rl_schema.proofs.section_at.Tie as tie
 
@@ -32,7 +32,7 @@ unfolding sections
 returns-7 c = rw c.match.keys7
 
 returns-8 : tie.Need-returns-8
-returns-8 c = section-last _ c.match.rest.0.0.0.0.0.0.1 c.match.rest.0.0.0.0.0.1 c.match.rest.0.0.0.0.1 c.match.rest.0.0.0.1 c.match.rest.0.0.1 c.match.rest.0.1 c.match.rest.1
+returns-8 c = section_last _ c.match.rest.0.0.0.0.0.0.1 c.match.rest.0.0.0.0.0.1 c.match.rest.0.0.0.0.1 c.match.rest.0.0.0.1 c.match.rest.0.0.1 c.match.rest.0.1 c.match.rest.1
 
 pub section-at-spec : {M : Type 1} → statement M
 section-at-spec = tie.close (tie.spec returns returns-2 returns-3 returns-4 returns-5 returns-6 returns-7 returns-8)

@@ -1,106 +1,106 @@
 use borrow.Author.Tests.{ne_eqb}
-use Rattle.rl_spec.specs.Schema.{sortOf}
+use Rattle.rl_spec.specs.Schema.{sort_of}
 use Rattle.rl_schema.proofs.sort_of.Statement.{statement}
 use Rattle.rl_schema.proofs.sort_of.Tie as tie
 
 returns : tie.Need-returns
-unfolding sortOf
+unfolding sort_of
 returns c = rw c.match.keys1
 
 returns-2 : tie.Need-returns-2
-unfolding sortOf
+unfolding sort_of
 returns-2 c = rw c.match.keys2
 
 returns-3 : tie.Need-returns-3
-unfolding sortOf
+unfolding sort_of
 returns-3 c = rw c.match.keys3
 
 returns-4 : tie.Need-returns-4
-unfolding sortOf
+unfolding sort_of
 returns-4 c = rw c.match.keys4
 
 returns-5 : tie.Need-returns-5
-unfolding sortOf
+unfolding sort_of
 returns-5 c = rw c.match.keys5
 
 returns-6 : tie.Need-returns-6
-unfolding sortOf
+unfolding sort_of
 returns-6 c = rw c.match.keys6
 
 returns-7 : tie.Need-returns-7
-unfolding sortOf
+unfolding sort_of
 returns-7 c = rw c.match.keys7
 
 returns-8 : tie.Need-returns-8
-unfolding sortOf
+unfolding sort_of
 returns-8 c = rw c.match.keys8
 
 returns-9 : tie.Need-returns-9
-unfolding sortOf
+unfolding sort_of
 returns-9 c = rw c.match.keys9
 
 returns-10 : tie.Need-returns-10
-unfolding sortOf
+unfolding sort_of
 returns-10 c = rw c.match.keys10
 
 returns-11 : tie.Need-returns-11
-unfolding sortOf
+unfolding sort_of
 returns-11 c = rw c.match.keys11
 
 returns-12 : tie.Need-returns-12
-unfolding sortOf
+unfolding sort_of
 returns-12 c = rw c.match.keys12
 
 returns-13 : tie.Need-returns-13
-unfolding sortOf
+unfolding sort_of
 returns-13 c = rw c.match.keys13
 
 returns-14 : tie.Need-returns-14
-unfolding sortOf
+unfolding sort_of
 returns-14 c = rw c.match.keys14
 
 returns-15 : tie.Need-returns-15
-unfolding sortOf
+unfolding sort_of
 returns-15 c = rw c.match.keys15
 
 returns-16 : tie.Need-returns-16
-unfolding sortOf
+unfolding sort_of
 returns-16 c = rw c.match.keys16
 
 returns-17 : tie.Need-returns-17
-unfolding sortOf
+unfolding sort_of
 returns-17 c = rw c.match.keys17
 
 returns-18 : tie.Need-returns-18
-unfolding sortOf
+unfolding sort_of
 returns-18 c = rw c.match.keys18
 
 returns-19 : tie.Need-returns-19
-unfolding sortOf
+unfolding sort_of
 returns-19 c = rw c.match.keys19
 
 returns-20 : tie.Need-returns-20
-unfolding sortOf
+unfolding sort_of
 returns-20 c = rw c.match.keys20
 
 returns-21 : tie.Need-returns-21
-unfolding sortOf
+unfolding sort_of
 returns-21 c = rw c.match.keys21
 
 returns-22 : tie.Need-returns-22
-unfolding sortOf
+unfolding sort_of
 returns-22 c = rw c.match.keys22
 
 returns-23 : tie.Need-returns-23
-unfolding sortOf
+unfolding sort_of
 returns-23 c = rw c.match.keys23
 
 returns-24 : tie.Need-returns-24
-unfolding sortOf
+unfolding sort_of
 returns-24 c = rw c.match.keys24
 
 returns-25 : tie.Need-returns-25
-unfolding sortOf
+unfolding sort_of
 returns-25 c = simp (ne_eqb _ _ c.match.rest.0.0.0.0.0.0.0.0.0.0.0.0.0.0.0.0.0.0.0.0.0.0.0.1, ne_eqb _ _ c.match.rest.0.0.0.0.0.0.0.0.0.0.0.0.0.0.0.0.0.0.0.0.0.0.1, ne_eqb _ _ c.match.rest.0.0.0.0.0.0.0.0.0.0.0.0.0.0.0.0.0.0.0.0.0.1, ne_eqb _ _ c.match.rest.0.0.0.0.0.0.0.0.0.0.0.0.0.0.0.0.0.0.0.0.1, ne_eqb _ _ c.match.rest.0.0.0.0.0.0.0.0.0.0.0.0.0.0.0.0.0.0.0.1, ne_eqb _ _ c.match.rest.0.0.0.0.0.0.0.0.0.0.0.0.0.0.0.0.0.0.1, ne_eqb _ _ c.match.rest.0.0.0.0.0.0.0.0.0.0.0.0.0.0.0.0.0.1, ne_eqb _ _ c.match.rest.0.0.0.0.0.0.0.0.0.0.0.0.0.0.0.0.1, ne_eqb _ _ c.match.rest.0.0.0.0.0.0.0.0.0.0.0.0.0.0.0.1, ne_eqb _ _ c.match.rest.0.0.0.0.0.0.0.0.0.0.0.0.0.0.1, ne_eqb _ _ c.match.rest.0.0.0.0.0.0.0.0.0.0.0.0.0.1, ne_eqb _ _ c.match.rest.0.0.0.0.0.0.0.0.0.0.0.0.1, ne_eqb _ _ c.match.rest.0.0.0.0.0.0.0.0.0.0.0.1, ne_eqb _ _ c.match.rest.0.0.0.0.0.0.0.0.0.0.1, ne_eqb _ _ c.match.rest.0.0.0.0.0.0.0.0.0.1, ne_eqb _ _ c.match.rest.0.0.0.0.0.0.0.0.1, ne_eqb _ _ c.match.rest.0.0.0.0.0.0.0.1, ne_eqb _ _ c.match.rest.0.0.0.0.0.0.1, ne_eqb _ _ c.match.rest.0.0.0.0.0.1, ne_eqb _ _ c.match.rest.0.0.0.0.1, ne_eqb _ _ c.match.rest.0.0.0.1, ne_eqb _ _ c.match.rest.0.0.1, ne_eqb _ _ c.match.rest.0.1, ne_eqb _ _ c.match.rest.1)
 
 pub sort-of-spec : {M : Type 1} → statement M

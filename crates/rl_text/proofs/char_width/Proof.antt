@@ -1,9 +1,9 @@
 use borrow.Author.Rules.{rules}
-use Rattle.rl_text.proofs.Laws.{width-past, width_one, width-gap, width_two, width-e0, width-ed, width_three, width-f0, width_four, width-f4, width-far}
+use Rattle.rl_text.proofs.Laws.{width_past, width_one, width_gap, width_two, width_e0, width_ed, width_three, width_f0, width_four, width_f4, width_far}
 use Rattle.rl_text.proofs.char_width.Statement.{statement}
 use Rattle.rl_text.proofs.char_width.Tie as tie
 
-ruleset laws = (width-past, width_one, width-gap, width_two, width-e0, width-ed, width_three, width-f0, width_four, width-f4, width-far)
+ruleset laws = (width_past, width_one, width_gap, width_two, width_e0, width_ed, width_three, width_f0, width_four, width_f4, width_far)
 
 returns : tie.Need-returns
 returns c = search (laws, rules)

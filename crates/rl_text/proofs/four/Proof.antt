@@ -1,9 +1,9 @@
 use borrow.Author.Rules.{rules}
-use Rattle.rl_text.proofs.Laws.{four-second, four-third, four-fourth, four-yes}
+use Rattle.rl_text.proofs.Laws.{four_second, four_third, four_fourth, four_yes}
 use Rattle.rl_text.proofs.four.Statement.{statement}
 use Rattle.rl_text.proofs.four.Tie as tie
 
-ruleset laws = (four-second, four-third, four-fourth, four-yes)
+ruleset laws = (four_second, four_third, four_fourth, four_yes)
 
 add-octet : tie.Need-overflow-add-octet
 add-octet c = search rules

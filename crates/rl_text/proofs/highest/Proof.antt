@@ -2,15 +2,15 @@ use borrow.Author.Rules.{rules}
 use mathlib.Core.Path.{◌≡◌}
 use Prim.Native.Nat.{◌-◌, ◌≤◌}
 use lib.ListN.{length}
-use Rattle.rl_text.specs.Highest.{highestOf}
-use Rattle.rl_text.proofs.Laws.{highest-start, highest-more, highest-end}
+use Rattle.rl_text.specs.Highest.{highest_of}
+use Rattle.rl_text.proofs.Laws.{highest_start, highest_more, highest_end}
 use Rattle.rl_text.proofs.highest.Statement.{statement}
 use Rattle.rl_text.proofs.highest.Tie as tie
 
-ruleset laws = (highest-start, highest-more, highest-end)
+ruleset laws = (highest_start, highest_more, highest_end)
 
 abbrev invariant-loop : tie.invariant-loop
-invariant-loop s m₀ i₀ m i = (i ≤ length s) × (m ≡ highestOf s i)
+invariant-loop s m₀ i₀ m i = (i ≤ length s) × (m ≡ highest_of s i)
 
 abbrev decreases-loop : tie.decreases-loop
 decreases-loop s m₀ i₀ m i = length s - i

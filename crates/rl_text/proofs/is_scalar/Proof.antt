@@ -1,9 +1,9 @@
 use borrow.Author.Rules.{rules}
-use Rattle.rl_text.proofs.Laws.{scalar-low, scalar-gap, scalar-high}
+use Rattle.rl_text.proofs.Laws.{scalar_low, scalar_gap, scalar_high}
 use Rattle.rl_text.proofs.is_scalar.Statement.{statement}
 use Rattle.rl_text.proofs.is_scalar.Tie as tie
 
-ruleset laws = (scalar-low, scalar-gap, scalar-high)
+ruleset laws = (scalar_low, scalar_gap, scalar_high)
 
 returns : tie.Need-returns
 returns c = search (laws, rules)

@@ -3,11 +3,11 @@ use mathlib.Core.Path.{◌≡◌}
 use Prim.Native.Nat.{◌-◌, ◌≤◌}
 use lib.ListN.{length, drop}
 use Rattle.rl_spec.specs.Utf8.{utf8}
-use Rattle.rl_text.proofs.Laws.{text-all-ascii, text-end, text-bad, text-more, text-ascii, text-within, text-fits}
+use Rattle.rl_text.proofs.Laws.{text_all_ascii, text_end, text_bad, text_more, text_ascii, text_within, text_fits}
 use Rattle.rl_text.proofs.is_utf8.Statement.{statement}
 use Rattle.rl_text.proofs.is_utf8.Tie as tie
 
-ruleset laws = (text-all-ascii, text-end, text-bad, text-more, text-ascii, text-within, text-fits)
+ruleset laws = (text_all_ascii, text_end, text_bad, text_more, text_ascii, text_within, text_fits)
 
 abbrev invariant-loop : tie.invariant-loop
 invariant-loop s i₀ i = (i ≤ length s) × (utf8 s ≡ utf8 (drop i s))

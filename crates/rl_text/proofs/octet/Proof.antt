@@ -1,9 +1,9 @@
 use borrow.Author.Rules.{rules}
-use Rattle.rl_text.proofs.Laws.{octet-past, octet-low, octet-high}
+use Rattle.rl_text.proofs.Laws.{octet_past, octet_low, octet_high}
 use Rattle.rl_text.proofs.octet.Statement.{statement}
 use Rattle.rl_text.proofs.octet.Tie as tie
 
-ruleset laws = (octet-past, octet-low, octet-high)
+ruleset laws = (octet_past, octet_low, octet_high)
 
 returns : tie.Need-returns
 returns c = search (laws, rules)

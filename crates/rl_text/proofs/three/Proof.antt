@@ -1,9 +1,9 @@
 use borrow.Author.Rules.{rules}
-use Rattle.rl_text.proofs.Laws.{three-second, three_third, three-yes}
+use Rattle.rl_text.proofs.Laws.{three_second, three_third, three_yes}
 use Rattle.rl_text.proofs.three.Statement.{statement}
 use Rattle.rl_text.proofs.three.Tie as tie
 
-ruleset laws = (three-second, three_third, three-yes)
+ruleset laws = (three_second, three_third, three_yes)
 
 add-octet : tie.Need-overflow-add-octet
 add-octet c = search rules

@@ -1,9 +1,9 @@
 use borrow.Author.Rules.{rules}
-use Rattle.rl_text.proofs.Laws.{two-yes, two-no}
+use Rattle.rl_text.proofs.Laws.{two_yes, two_no}
 use Rattle.rl_text.proofs.two.Statement.{statement}
 use Rattle.rl_text.proofs.two.Tie as tie
 
-ruleset laws = (two-yes, two-no)
+ruleset laws = (two_yes, two_no)
 
 add-octet : tie.Need-overflow-add-octet
 add-octet c = search rules

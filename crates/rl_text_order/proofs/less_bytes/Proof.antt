@@ -1,16 +1,16 @@
 use borrow.Author.Rules.{rules}
-use Rattle.rl_spec.specs.Values.{lessText}
+use Rattle.rl_spec.specs.Values.{less_text}
 use lib.ListN.{length, drop}
 use mathlib.Core.Path.{◌≡◌}
 use Prim.Native.Nat.{◌-◌, ◌≤◌}
 use Rattle.rl_text_order.proofs.less_bytes.Statement.{statement}
 use Rattle.rl_text_order.proofs.less_bytes.Tie as tie
-use Rattle.rl_text_order.proofs.Laws.{less-short, less-end, less-apart, less-more}
+use Rattle.rl_text_order.proofs.Laws.{less_short, less_end, less_apart, less_more}
 
-ruleset laws = (less-short, less-end, less-apart, less-more)
+ruleset laws = (less_short, less_end, less_apart, less_more)
 
 abbrev invariant-loop : tie.invariant-loop
-invariant-loop a b i₀ i = (i ≤ length a) × (lessText a b ≡ lessText (drop i a) (drop i b))
+invariant-loop a b i₀ i = (i ≤ length a) × (less_text a b ≡ less_text (drop i a) (drop i b))
 
 abbrev decreases-loop : tie.decreases-loop
 decreases-loop a b i₀ i = length a - i

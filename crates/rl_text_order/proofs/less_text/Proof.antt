@@ -2,17 +2,17 @@ use borrow.Author.Rules.{rules}
 use mathlib.Core.Path.{◌≡◌}
 use Prim.Native.Nat.{◌-◌, ◌≤◌}
 use lib.ListN.{length, drop}
-use Rattle.rl_spec.specs.Values.{lessText}
-use Rattle.rl_text_order.proofs.Laws.{less-first-end, less-first-short, less-first-apart, within, less-word-apart, less-word-more, less-rest}
+use Rattle.rl_spec.specs.Values.{less_text}
+use Rattle.rl_text_order.proofs.Laws.{less_first_end, less_first_short, less_first_apart, within, less_word_apart, less_word_more, less_rest}
 use Rattle.rl_text_order.proofs.less_text.Statement.{statement}
 use Rattle.rl_text_order.proofs.less_text.Tie as tie
 
-ruleset laws = (less-first-end, less-first-short, less-first-apart, within, less-word-apart, less-word-more, less-rest)
+ruleset laws = (less_first_end, less_first_short, less_first_apart, within, less_word_apart, less_word_more, less_rest)
 
-ruleset words = (within, less-word-more)
+ruleset words = (within, less_word_more)
 
 abbrev invariant-loop : tie.invariant-loop
-invariant-loop a b n i₀ i = (i ≤ n) × (n ≤ length a) × (n ≤ length b) × (lessText a b ≡ lessText (drop i a) (drop i b))
+invariant-loop a b n i₀ i = (i ≤ n) × (n ≤ length a) × (n ≤ length b) × (less_text a b ≡ less_text (drop i a) (drop i b))
 
 abbrev decreases-loop : tie.decreases-loop
 decreases-loop a b n i₀ i = n - i

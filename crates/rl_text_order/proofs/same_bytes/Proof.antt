@@ -1,16 +1,16 @@
 use borrow.Author.Rules.{rules}
-use Rattle.rl_spec.specs.Values.{sameText}
+use Rattle.rl_spec.specs.Values.{same_text}
 use lib.ListN.{length, drop}
 use mathlib.Core.Path.{◌≡◌}
 use Prim.Native.Nat.{◌-◌, ◌≤◌}
 use Rattle.rl_text_order.proofs.same_bytes.Statement.{statement}
 use Rattle.rl_text_order.proofs.same_bytes.Tie as tie
-use Rattle.rl_text_order.proofs.Laws.{same-short, same_end, same-apart, same_more}
+use Rattle.rl_text_order.proofs.Laws.{same_short, same_end, same_apart, same_more}
 
-ruleset laws = (same-short, same_end, same-apart, same_more)
+ruleset laws = (same_short, same_end, same_apart, same_more)
 
 abbrev invariant-loop : tie.invariant-loop
-invariant-loop a b i₀ i = (i ≤ length a) × (sameText a b ≡ sameText (drop i a) (drop i b))
+invariant-loop a b i₀ i = (i ≤ length a) × (same_text a b ≡ same_text (drop i a) (drop i b))
 
 abbrev decreases-loop : tie.decreases-loop
 decreases-loop a b i₀ i = length a - i

@@ -2,15 +2,15 @@ use borrow.Author.Rules.{rules}
 use mathlib.Core.Path.{◌≡◌}
 use Prim.Native.Nat.{◌-◌, ◌≤◌}
 use lib.ListN.{length, drop}
-use Rattle.rl_spec.specs.Values.{sameText}
-use Rattle.rl_text_order.proofs.Laws.{same-lengths, within, same-word-apart, same-word-more, same_rest}
+use Rattle.rl_spec.specs.Values.{same_text}
+use Rattle.rl_text_order.proofs.Laws.{same_lengths, within, same_word_apart, same_word_more, same_rest}
 use Rattle.rl_text_order.proofs.same_text.Statement.{statement}
 use Rattle.rl_text_order.proofs.same_text.Tie as tie
 
-ruleset laws = (same-lengths, within, same-word-apart, same-word-more, same_rest)
+ruleset laws = (same_lengths, within, same_word_apart, same_word_more, same_rest)
 
 abbrev invariant-loop : tie.invariant-loop
-invariant-loop a b n i₀ i = (i ≤ n) × (n ≡ length a) × (length b ≡ n) × (sameText a b ≡ sameText (drop i a) (drop i b))
+invariant-loop a b n i₀ i = (i ≤ n) × (n ≡ length a) × (length b ≡ n) × (same_text a b ≡ same_text (drop i a) (drop i b))
 
 abbrev decreases-loop : tie.decreases-loop
 decreases-loop a b n i₀ i = n - i

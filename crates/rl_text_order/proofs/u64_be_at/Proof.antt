@@ -1,6 +1,6 @@
 use borrow.Author.Rules.{rules}
 use native.Mathlib.Omega.{arith}
-use Rattle.rl_text_order.proofs.Laws.{word-is}
+use Rattle.rl_text_order.proofs.Laws.{word_is}
 use Rattle.rl_text_order.proofs.u64_be_at.Statement.{statement}
 use Rattle.rl_text_order.proofs.u64_be_at.Tie as tie
 
@@ -61,7 +61,7 @@ u64-be-requires c κs = search rules
 returns : tie.Need-returns
 returns c =
     let start = c.before.before.before.before.before.before.before.before.before.before.before.before.args in
-    word-is
+    word_is
     start.s.now
     start.at
     _

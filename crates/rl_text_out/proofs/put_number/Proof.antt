@@ -1,9 +1,9 @@
 use borrow.Author.Rules.{rules}
 use Rattle.rl_text_out.proofs.put_number.Statement.{statement}
 use Rattle.rl_text_out.proofs.put_number.Tie as tie
-use Rattle.rl_text_out.proofs.Laws.{after-number, with_number}
+use Rattle.rl_text_out.proofs.Laws.{after_number, with_number}
 
-ruleset laws = (after-number, with_number)
+ruleset laws = (after_number, with_number)
 
 decimal-requires : tie.Need-decimal-requires
 decimal-requires c κs = search rules

@@ -1,9 +1,9 @@
 use borrow.Author.Rules.{rules}
 use Rattle.rl_text_out.proofs.put_text.Statement.{statement}
 use Rattle.rl_text_out.proofs.put_text.Tie as tie
-use Rattle.rl_text_out.proofs.Laws.{after_none, with_none, after-some, with-some}
+use Rattle.rl_text_out.proofs.Laws.{after_none, with_none, after_some, with_some}
 
-ruleset laws = (after_none, with_none, after-some, with-some)
+ruleset laws = (after_none, with_none, after_some, with_some)
 
 returns : tie.Need-returns
 returns c = search (laws, rules)

@@ -15,38 +15,38 @@ use Rattle.rl_spec.specs.declared.Plain.TheVariants.{Const}
 use Rattle.rl_spec.specs.declared.RunAnswer.TheVariants.{Refused}
 use Rattle.rl_spec.specs.declared.Section.TheVariants.{Texts, Functions}
 use Rattle.rl_spec.specs.Schema.{limits}
-use Rattle.rl_spec.specs.Read.{countsOf, answer_of}
+use Rattle.rl_spec.specs.Read.{counts_of, answer_of}
 use Rattle.rl_spec.specs.Image.{image_of}
-use Rattle.rl_spec.specs.Words.{wordsValue}
-use Rattle.rl_spec.specs.Records.{functionAt}
+use Rattle.rl_spec.specs.Words.{words_value}
+use Rattle.rl_spec.specs.Records.{function_at}
 use Rattle.rl_spec.specs.Ranges.{up_from}
-use Rattle.rl_spec.specs.Runner.{given, contentOf, valueOfWords, run_of}
-use Rattle.rl_spec.specs.Boundary.{areValues, argumentAt, countOfWords, argumentsOf}
-use Rattle.rl_images.specs.Reading.ReadOutcome.{read-accepts, accepted-header, accepted-reads}
-use Rattle.rl_images.specs.Reading.Table.{first-behind}
-use Rattle.rl_images.specs.Reading.Rows.{readRows}
-use Rattle.rl_images.specs.Reading.Starts.{sizes-are-counts}
-use Rattle.rl_theorems.specs.Answers.Tables.{noValue, TextMissing}
-use Rattle.rl_theorems.specs.Answers.OfRunning.{run-refuses}
+use Rattle.rl_spec.specs.Runner.{given, content_of, value_of_words, run_of}
+use Rattle.rl_spec.specs.Boundary.{are_values, argument_at, count_of_words, arguments_of}
+use Rattle.rl_images.specs.Reading.ReadOutcome.{read_accepts, accepted_header, accepted_reads}
+use Rattle.rl_images.specs.Reading.Table.{first_behind}
+use Rattle.rl_images.specs.Reading.Rows.{read_rows}
+use Rattle.rl_images.specs.Reading.Starts.{sizes_are_counts}
+use Rattle.rl_theorems.specs.Answers.Tables.{no_value, TextMissing}
+use Rattle.rl_theorems.specs.Answers.OfRunning.{run_refuses}
 
 -- ---- how many
 
 module _ (words : List ℕ) where
-  count_none : areValues words ≡ false → (argumentsOf words).count ≡ 17
-  unfolding argumentsOf countOfWords
+  count_none : are_values words ≡ false → (arguments_of words).count ≡ 17
+  unfolding arguments_of count_of_words
   count_none e = rw e refl
 
-  count-many : 17 ≤ length words / 2 → (argumentsOf words).count ≡ 17
-  unfolding argumentsOf countOfWords
-  count-many l = go (areValues words)
+  count_many : 17 ≤ length words / 2 → (arguments_of words).count ≡ 17
+  unfolding arguments_of count_of_words
+  count_many l = go (are_values words)
     where
       go : (b : Bool) → cond b (min (length words / 2) 17) 17 ≡ 17
       go true = omega arith
       go false = refl
 
-  count-few : areValues words ≡ true → length words / 2 ≤ 16 → (argumentsOf words).count ≡ length words / 2
-  unfolding argumentsOf countOfWords
-  count-few e l = rw e (omega arith)
+  count_few : are_values words ≡ true → length words / 2 ≤ 16 → (arguments_of words).count ≡ length words / 2
+  unfolding arguments_of count_of_words
+  count_few e l = rw e (omega arith)
 
 -- ---- the i-th value
 
@@ -60,57 +60,57 @@ up_at f d (suc n) k (suc i) l = let e : k + suc i ≡ k + 1 + i = omega arith in
 abbrev pub IsStr : ℕ → Type 0
 IsStr sort = (sort ≡ 3) ⊎ ((sort ≡ 11) ⊎ (sort ≡ 19))
 
-str-content : (sort payload : ℕ) → IsStr sort → contentOf (valueOfWords sort payload) ≡ Const (Str (min payload 65535))
-unfolding valueOfWords wordsValue
-str-content sort payload =
+str_content : (sort payload : ℕ) → IsStr sort → content_of (value_of_words sort payload) ≡ Const (Str (min payload 65535))
+unfolding value_of_words words_value
+str_content sort payload =
     ⊎_elim (λ (e : sort ≡ 3). rw e refl) (⊎_elim (λ (e : sort ≡ 11). rw e refl) (λ (e : sort ≡ 19). rw e refl))
 
-module _ (words : List ℕ) (values : areValues words ≡ true) (few : length words / 2 ≤ 16) (i : ℕ) (l : i < length words / 2) where
-  given-at : get_or (given (argumentsOf words)) i noValue ≡ argumentAt words i
-  unfolding argumentsOf
-  given-at =
-      let e : countOfWords words ≡ length words / 2 = count-few words values few in
+module _ (words : List ℕ) (values : are_values words ≡ true) (few : length words / 2 ≤ 16) (i : ℕ) (l : i < length words / 2) where
+  given_at : get_or (given (arguments_of words)) i no_value ≡ argument_at words i
+  unfolding arguments_of
+  given_at =
+      let e : count_of_words words ≡ length words / 2 = count_few words values few in
       let z : 0 + i ≡ i = omega arith in
-      get_or-take (countOfWords words) (map (argumentAt words) (up_from 0 16)) i noValue (omega (arith, e))
-      ∙ up_at (argumentAt words) noValue 16 0 i (omega arith)
-      ∙ ap (argumentAt words) z
+      get_or-take (count_of_words words) (map (argument_at words) (up_from 0 16)) i no_value (omega (arith, e))
+      ∙ up_at (argument_at words) no_value 16 0 i (omega arith)
+      ∙ ap (argument_at words) z
 
 -- ---- the answer
 
 module _ (s : List ℕ) (k f : ℕ) (words : List ℕ) (budget : ℕ) (a : ArenaNo) (c : Counts) (read : answer_of s k ≡ Accepted a c) (there : f < c.functions) where
   -- behind the reader's table, and behind 11
-  wrong : (argumentsOf words).count ≡ 17 → run_of s k f (argumentsOf words) budget ≡ Refused WrongValues 0
+  wrong : (arguments_of words).count ≡ 17 → run_of s k f (arguments_of words) budget ≡ Refused WrongValues 0
   wrong e =
-      let functions = sizes-are-counts s k a c read Functions in
-      (run-refuses s k f (argumentsOf words) budget WrongValues 0).1
-      (first-behind (readRows s k) _ _ _ ((read-accepts s k).0 (a, c, read))
+      let functions = sizes_are_counts s k a c read Functions in
+      (run_refuses s k f (arguments_of words) budget WrongValues 0).1
+      (first_behind (read_rows s k) _ _ _ ((read_accepts s k).0 (a, c, read))
       (inr (λ h. omega (arith, functions, h), inl (inr (omega (arith, e)), refl, refl))))
 
   -- THEOREMS: words that are no values are 19, and so are more than sixteen values
-  pub no-values : areValues words ≡ false → run_of s k f (argumentsOf words) budget ≡ Refused WrongValues 0
-  no-values e = wrong (count_none words e)
+  pub no_values_lem : are_values words ≡ false → run_of s k f (arguments_of words) budget ≡ Refused WrongValues 0
+  no_values_lem e = wrong (count_none words e)
 
-  pub many-values : 17 ≤ length words / 2 → run_of s k f (argumentsOf words) budget ≡ Refused WrongValues 0
-  many-values l = wrong (count-many words l)
+  pub many_values : 17 ≤ length words / 2 → run_of s k f (arguments_of words) budget ≡ Refused WrongValues 0
+  many_values l = wrong (count_many words l)
 
-  few-texts : c.texts ≤ 2048
-  unfolding countsOf limits
-  few-texts = rw (accepted-header s k a c read).1 (accepted-reads s k a c read).header.counts.1.0
+  few_texts : c.texts ≤ 2048
+  unfolding counts_of limits
+  few_texts = rw (accepted_header s k a c read).1 (accepted_reads s k a c read).header.counts.1.0
 
-  module _ (values : areValues words ≡ true) (few : length words / 2 ≤ 16) (all : length words / 2 ≡ (functionAt (image_of s) f).params.count) where
+  module _ (values : are_values words ≡ true) (few : length words / 2 ≤ 16) (all : length words / 2 ≡ (function_at (image_of s) f).params.count) where
     -- THEOREM: as many values as parameters, of which the i-th is a Str with a payload that is no text's number, are 20
-    pub str-missing : (i : ℕ) → i < length words / 2 → IsStr (slice_index words (i * 2)) → c.texts ≤ slice_index words (i * 2 + 1) → run_of s k f (argumentsOf words) budget ≡ Refused NoSuchText 0
-    str-missing i l str past =
-        let functions = sizes-are-counts s k a c read Functions in
-        let texts = sizes-are-counts s k a c read Texts in
-        let count = count-few words values few in
+    pub str_missing : (i : ℕ) → i < length words / 2 → IsStr (slice_index words (i * 2)) → c.texts ≤ slice_index words (i * 2 + 1) → run_of s k f (arguments_of words) budget ≡ Refused NoSuchText 0
+    str_missing i l str past =
+        let functions = sizes_are_counts s k a c read Functions in
+        let texts = sizes_are_counts s k a c read Texts in
+        let count = count_few words values few in
         let payload : ℕ = get_or words (i * 2 + 1) 0 in
-        let missing : TextMissing (image_of s) (argumentsOf words) = (
+        let missing : TextMissing (image_of s) (arguments_of words) = (
           i,
           min payload 65535,
-          rw (given-at words values few i l) (str-content (slice_index words (i * 2)) payload str),
-          omega (arith, texts, few-texts),
+          rw (given_at words values few i l) (str_content (slice_index words (i * 2)) payload str),
+          omega (arith, texts, few_texts),
         ) in
-        (run-refuses s k f (argumentsOf words) budget NoSuchText 0).1
-        (first-behind (readRows s k) _ _ _ ((read-accepts s k).0 (a, c, read))
+        (run_refuses s k f (arguments_of words) budget NoSuchText 0).1
+        (first_behind (read_rows s k) _ _ _ ((read_accepts s k).0 (a, c, read))
         (inr (λ h. omega (arith, functions, h), inr (⊎_elim (λ h. h (count ∙ all)) (λ h. omega (arith, count, h)), inl (missing, refl, refl)))))

@@ -18,137 +18,137 @@ use Rattle.rl_spec.specs.declared.Outcome.{Outcome}
 use Rattle.rl_spec.specs.declared.RunAnswer.TheVariants as run
 use Rattle.rl_spec.specs.declared.TextAnswer.TheVariants as text
 use Rattle.rl_spec.specs.declared.TextPart.{TextPart}
-use Rattle.rl_spec.specs.Read.{countsOf, workOf, packed}
+use Rattle.rl_spec.specs.Read.{counts_of, work_of, packed}
 use Rattle.rl_spec.specs.Image.{Image, encode, image_of}
-use Rattle.rl_spec.specs.Fold.{fold_of, foldNumber, workUnless}
-use Rattle.rl_spec.specs.Prove.{callEntries, allEntries, proveOf, reportsOf, proveAllOf, allReportsOf, proveNumber}
-use Rattle.rl_spec.specs.Texts.{textFor, textNumber, messageAt, messageAnswer, messageBytes, messageOut, messageNumber}
-use Rattle.rl_spec.specs.Pages.{pagesOf, pagesAnswer, pagesSlice, pagesOut, pagesNumber}
-use Rattle.rl_spec.specs.Lowerer.{made, refused, lowerOf, lowerNumber, lowerOut}
-use Rattle.rl_spec.specs.Runner.{run_of, runNumber}
-use Rattle.rl_spec.specs.Words.{sortWordOf, payloadWordOf}
-use Rattle.rl_spec.specs.Boundary.{provePacked, lowerPacked, foldPacked, fold_words, outcomeWords, runPacked, runWords, textPacked, messagePacked, pagesPacked}
-use Rattle.rl_images.specs.Reading.Refusals.{zeros-unless}
-use Rattle.rl_images.specs.Reading.Starts.{section-size}
-use Rattle.rl_theorems.specs.Answers.OfTexts.{message-accepts}
-use Rattle.rl_theorems.specs.Answers.OfPages.{pages-accepts}
+use Rattle.rl_spec.specs.Fold.{fold_of, fold_number, work_unless}
+use Rattle.rl_spec.specs.Prove.{call_entries, all_entries, prove_of, reports_of, prove_all_of, all_reports_of, prove_number}
+use Rattle.rl_spec.specs.Texts.{text_for, text_number, message_at, message_answer, message_bytes, message_out, message_number}
+use Rattle.rl_spec.specs.Pages.{pages_of, pages_answer, pages_slice, pages_out, pages_number}
+use Rattle.rl_spec.specs.Lowerer.{made, refused, lower_of, lower_number, lower_out}
+use Rattle.rl_spec.specs.Runner.{run_of, run_number}
+use Rattle.rl_spec.specs.Words.{sort_word_of, payload_word_of}
+use Rattle.rl_spec.specs.Boundary.{prove_packed, lower_packed, fold_packed, fold_words, outcome_words, run_packed, run_words, text_packed, message_packed, pages_packed}
+use Rattle.rl_images.specs.Reading.Refusals.{zeros_unless}
+use Rattle.rl_images.specs.Reading.Starts.{section_size}
+use Rattle.rl_theorems.specs.Answers.OfTexts.{message_accepts}
+use Rattle.rl_theorems.specs.Answers.OfPages.{pages_accepts}
 
 module _ (s : List ℕ) (k : ℕ) where
   -- folding: the work slice and the value's two words
-  pub fold-zero : (id : Id) (q : Cause) (p : ℕ) → fold_of s k id ≡ fold.Refused q p →
-      (workUnless (foldNumber (fold_of s k id)) s k ≡ replicate k 0) × (fold_words (fold_of s k id) ≡ replicate 2 0)
-  fold-zero id q p e = rw e (sym (zeros-unless q s k), refl)
+  pub fold_zero : (id : Id) (q : Cause) (p : ℕ) → fold_of s k id ≡ fold.Refused q p →
+      (work_unless (fold_number (fold_of s k id)) s k ≡ replicate k 0) × (fold_words (fold_of s k id) ≡ replicate 2 0)
+  fold_zero id q p e = rw e (sym (zeros_unless q s k), refl)
 
-  pub fold-leaves : (id : Id) (v : Folded) → fold_of s k id ≡ fold.Found v →
-      (workUnless (foldNumber (fold_of s k id)) s k ≡ workOf s k) × (fold_words (fold_of s k id) ≡ sortWordOf v ∷ payloadWordOf v ∷ [])
-  fold-leaves id v e = rw e (refl, refl)
+  pub fold_leaves : (id : Id) (v : Folded) → fold_of s k id ≡ fold.Found v →
+      (work_unless (fold_number (fold_of s k id)) s k ≡ work_of s k) × (fold_words (fold_of s k id) ≡ sort_word_of v ∷ payload_word_of v ∷ [])
+  fold_leaves id v e = rw e (refl, refl)
 
   -- proving a call: the work slice and the slice of reports
   module _ (call room : ℕ) where
-    pub prove-zero : (q : Cause) (p : ℕ) → proveOf s k call room ≡ prove.Refused q p →
-        (workUnless (proveNumber (proveOf s k call room)) s k ≡ replicate k 0) × (reportsOf s k call room ≡ replicate room 0)
-    unfolding reportsOf
-    prove-zero q p e = rw e (sym (zeros-unless q s k), refl)
+    pub prove_zero : (q : Cause) (p : ℕ) → prove_of s k call room ≡ prove.Refused q p →
+        (work_unless (prove_number (prove_of s k call room)) s k ≡ replicate k 0) × (reports_of s k call room ≡ replicate room 0)
+    unfolding reports_of
+    prove_zero q p e = rw e (sym (zeros_unless q s k), refl)
 
-    pub prove-leaves : (n : ℕ) → proveOf s k call room ≡ prove.Proved n →
-        (workUnless (proveNumber (proveOf s k call room)) s k ≡ workOf s k)
-        × (reportsOf s k call room ≡ callEntries (image_of s) call ++ replicate (room - length (callEntries (image_of s) call)) 0)
-    unfolding reportsOf
-    prove-leaves n e = rw e (refl, refl)
+    pub prove_leaves : (n : ℕ) → prove_of s k call room ≡ prove.Proved n →
+        (work_unless (prove_number (prove_of s k call room)) s k ≡ work_of s k)
+        × (reports_of s k call room ≡ call_entries (image_of s) call ++ replicate (room - length (call_entries (image_of s) call)) 0)
+    unfolding reports_of
+    prove_leaves n e = rw e (refl, refl)
 
   -- proving all calls
   module _ (room : ℕ) where
-    pub prove-all-zero : (q : Cause) (p : ℕ) → proveAllOf s k room ≡ prove.Refused q p →
-        (workUnless (proveNumber (proveAllOf s k room)) s k ≡ replicate k 0) × (allReportsOf s k room ≡ replicate room 0)
-    unfolding allReportsOf
-    prove-all-zero q p e = rw e (sym (zeros-unless q s k), refl)
+    pub prove_all_zero : (q : Cause) (p : ℕ) → prove_all_of s k room ≡ prove.Refused q p →
+        (work_unless (prove_number (prove_all_of s k room)) s k ≡ replicate k 0) × (all_reports_of s k room ≡ replicate room 0)
+    unfolding all_reports_of
+    prove_all_zero q p e = rw e (sym (zeros_unless q s k), refl)
 
     abbrev entries : List ℕ
-    entries = allEntries (image_of s) (countsOf s).calls 0
+    entries = all_entries (image_of s) (counts_of s).calls 0
 
-    pub prove-all-leaves : (n : ℕ) → proveAllOf s k room ≡ prove.Proved n →
-        (workUnless (proveNumber (proveAllOf s k room)) s k ≡ workOf s k)
-        × (allReportsOf s k room ≡ entries ++ replicate (room - length entries) 0)
-    unfolding allReportsOf
-    prove-all-leaves n e = rw e (refl, refl)
+    pub prove_all_leaves : (n : ℕ) → prove_all_of s k room ≡ prove.Proved n →
+        (work_unless (prove_number (prove_all_of s k room)) s k ≡ work_of s k)
+        × (all_reports_of s k room ≡ entries ++ replicate (room - length entries) 0)
+    unfolding all_reports_of
+    prove_all_leaves n e = rw e (refl, refl)
 
   -- a text: the work slice
   module _ (t : ℕ) where
-    pub text-zero : (q : Cause) (p : ℕ) → textFor s k t ≡ text.Refused q p → workUnless (textNumber (textFor s k t)) s k ≡ replicate k 0
-    text-zero q p e = rw e (sym (zeros-unless q s k))
+    pub text_zero : (q : Cause) (p : ℕ) → text_for s k t ≡ text.Refused q p → work_unless (text_number (text_for s k t)) s k ≡ replicate k 0
+    text_zero q p e = rw e (sym (zeros_unless q s k))
 
-    pub text-leaves : (part : TextPart) → textFor s k t ≡ text.Found part → workUnless (textNumber (textFor s k t)) s k ≡ workOf s k
-    text-leaves part e = rw e refl
+    pub text_leaves : (part : TextPart) → text_for s k t ≡ text.Found part → work_unless (text_number (text_for s k t)) s k ≡ work_of s k
+    text_leaves part e = rw e refl
 
   -- a message: the work slice and the array of 65,535 bytes
   module _ (call n : ℕ) where
-    pub message-zero : (q : Cause) (p : ℕ) → messageAnswer s k call n ≡ message.Refused q p →
-        (workUnless (messageNumber (messageAnswer s k call n)) s k ≡ replicate k 0) × (messageOut s k call n ≡ replicate 65535 0)
-    unfolding messageOut
-    message-zero q p e = (rw e (sym (zeros-unless q s k)), ap (messageBytes s call n) e)
+    pub message_zero : (q : Cause) (p : ℕ) → message_answer s k call n ≡ message.Refused q p →
+        (work_unless (message_number (message_answer s k call n)) s k ≡ replicate k 0) × (message_out s k call n ≡ replicate 65535 0)
+    unfolding message_out
+    message_zero q p e = (rw e (sym (zeros_unless q s k)), ap (message_bytes s call n) e)
 
-    bytes_of : (l : ℕ) → messageAnswer s k call n ≡ message.Message l → length (messageAt (image_of s) call n) ≡ l
-    bytes_of l e = ((message-accepts s k call n l).0 e).1
+    bytes_of : (l : ℕ) → message_answer s k call n ≡ message.Message l → length (message_at (image_of s) call n) ≡ l
+    bytes_of l e = ((message_accepts s k call n l).0 e).1
 
-    pub message-leaves : (l : ℕ) → messageAnswer s k call n ≡ message.Message l →
-        (workUnless (messageNumber (messageAnswer s k call n)) s k ≡ workOf s k)
-        × (messageOut s k call n ≡ messageAt (image_of s) call n ++ replicate (65535 - length (messageAt (image_of s) call n)) 0)
-    unfolding messageOut
-    message-leaves l e = (rw e refl, ap (messageBytes s call n) (e ∙ ap message.Message (sym (bytes_of l e))))
+    pub message_leaves : (l : ℕ) → message_answer s k call n ≡ message.Message l →
+        (work_unless (message_number (message_answer s k call n)) s k ≡ work_of s k)
+        × (message_out s k call n ≡ message_at (image_of s) call n ++ replicate (65535 - length (message_at (image_of s) call n)) 0)
+    unfolding message_out
+    message_leaves l e = (rw e refl, ap (message_bytes s call n) (e ∙ ap message.Message (sym (bytes_of l e))))
 
   -- pages: the work slice and the page slice
   module _ (room : ℕ) where
-    pub pages-zero : (q : Cause) (p : ℕ) → pagesAnswer s k room ≡ pages.Refused q p →
-        (workUnless (pagesNumber (pagesAnswer s k room)) s k ≡ replicate k 0) × (pagesOut s k room ≡ replicate room 0)
-    unfolding pagesOut
-    pages-zero q p e = (rw e (sym (zeros-unless q s k)), ap (pagesSlice s room) e)
+    pub pages_zero : (q : Cause) (p : ℕ) → pages_answer s k room ≡ pages.Refused q p →
+        (work_unless (pages_number (pages_answer s k room)) s k ≡ replicate k 0) × (pages_out s k room ≡ replicate room 0)
+    unfolding pages_out
+    pages_zero q p e = (rw e (sym (zeros_unless q s k)), ap (pages_slice s room) e)
 
     abbrev bytes : List ℕ
-    bytes = pagesOf (image_of s) (countsOf s).calls
+    bytes = pages_of (image_of s) (counts_of s).calls
 
-    written : (n : ℕ) → pagesAnswer s k room ≡ pages.Written n → length bytes ≡ n
-    written n e = rw (← section-size s Calls) ((pages-accepts s k room n).0 e).1
+    written : (n : ℕ) → pages_answer s k room ≡ pages.Written n → length bytes ≡ n
+    written n e = rw (← section_size s Calls) ((pages_accepts s k room n).0 e).1
 
-    pub pages-leaves : (n : ℕ) → pagesAnswer s k room ≡ pages.Written n →
-        (workUnless (pagesNumber (pagesAnswer s k room)) s k ≡ workOf s k)
-        × (pagesOut s k room ≡ bytes ++ replicate (room - length bytes) 0)
-    unfolding pagesOut
-    pages-leaves n e = (rw e refl, ap (pagesSlice s room) (e ∙ ap pages.Written (sym (written n e))))
+    pub pages_leaves : (n : ℕ) → pages_answer s k room ≡ pages.Written n →
+        (work_unless (pages_number (pages_answer s k room)) s k ≡ work_of s k)
+        × (pages_out s k room ≡ bytes ++ replicate (room - length bytes) 0)
+    unfolding pages_out
+    pages_leaves n e = (rw e refl, ap (pages_slice s room) (e ∙ ap pages.Written (sym (written n e))))
 
   -- lowering: the work slice and the output slice
   module _ (f room : ℕ) where
-    pub lower-zero : (q : Cause) (p : ℕ) → lowerOf s k f room ≡ refused q p →
-        (workUnless (lowerNumber (lowerOf s k f room)) s k ≡ replicate k 0) × (lowerOut room (lowerOf s k f room) ≡ replicate room 0)
-    lower-zero q p e = rw e (sym (zeros-unless q s k), refl)
+    pub lower_zero : (q : Cause) (p : ℕ) → lower_of s k f room ≡ refused q p →
+        (work_unless (lower_number (lower_of s k f room)) s k ≡ replicate k 0) × (lower_out room (lower_of s k f room) ≡ replicate room 0)
+    lower_zero q p e = rw e (sym (zeros_unless q s k), refl)
 
-    pub lower-leaves : (im' : Image) → lowerOf s k f room ≡ made im' →
-        (workUnless (lowerNumber (lowerOf s k f room)) s k ≡ workOf s k)
-        × (lowerOut room (lowerOf s k f room) ≡ encode im' ++ replicate (room - length (encode im')) 0)
-    lower-leaves im' e = rw e (refl, refl)
+    pub lower_leaves : (im' : Image) → lower_of s k f room ≡ made im' →
+        (work_unless (lower_number (lower_of s k f room)) s k ≡ work_of s k)
+        × (lower_out room (lower_of s k f room) ≡ encode im' ++ replicate (room - length (encode im')) 0)
+    lower_leaves im' e = rw e (refl, refl)
 
   -- running: the work slice and the outcome's four words
   module _ (f : ℕ) (args : Arguments) (budget : ℕ) where
-    pub run-zero : (q : Cause) (p : ℕ) → run_of s k f args budget ≡ run.Refused q p →
-        (workUnless (runNumber (run_of s k f args budget)) s k ≡ replicate k 0) × (runWords (run_of s k f args budget) ≡ replicate 4 0)
-    run-zero q p e = rw e (sym (zeros-unless q s k), refl)
+    pub run_zero : (q : Cause) (p : ℕ) → run_of s k f args budget ≡ run.Refused q p →
+        (work_unless (run_number (run_of s k f args budget)) s k ≡ replicate k 0) × (run_words (run_of s k f args budget) ≡ replicate 4 0)
+    run_zero q p e = rw e (sym (zeros_unless q s k), refl)
 
-    pub run-leaves : (o : Outcome) (n : ℕ) → run_of s k f args budget ≡ run.Ran o n →
-        (workUnless (runNumber (run_of s k f args budget)) s k ≡ workOf s k) × (runWords (run_of s k f args budget) ≡ outcomeWords o n)
-    run-leaves o n e = rw e (refl, refl)
+    pub run_leaves : (o : Outcome) (n : ℕ) → run_of s k f args budget ≡ run.Ran o n →
+        (work_unless (run_number (run_of s k f args budget)) s k ≡ work_of s k) × (run_words (run_of s k f args budget) ≡ outcome_words o n)
+    run_leaves o n e = rw e (refl, refl)
 
 -- ---- an answer in one number: a refusal's is the number and the place of `packed`, in all of them; any other is what is answered
 
 module _ (q : Cause) (p : ℕ) where
-  pub refusals-packed : (foldPacked (fold.Refused q p) ≡ packed (read.Refused q p))
-      × (runPacked (run.Refused q p) ≡ packed (read.Refused q p))
-      × (provePacked (prove.Refused q p) ≡ packed (read.Refused q p))
-      × (lowerPacked (lower.Refused q p) ≡ packed (read.Refused q p))
-      × (textPacked (text.Refused q p) ≡ packed (read.Refused q p))
-      × (messagePacked (message.Refused q p) ≡ packed (read.Refused q p))
-      × (pagesPacked (pages.Refused q p) ≡ packed (read.Refused q p))
-  refusals-packed = (refl, refl, refl, refl, refl, refl, refl)
+  pub refusals_packed : (fold_packed (fold.Refused q p) ≡ packed (read.Refused q p))
+      × (run_packed (run.Refused q p) ≡ packed (read.Refused q p))
+      × (prove_packed (prove.Refused q p) ≡ packed (read.Refused q p))
+      × (lower_packed (lower.Refused q p) ≡ packed (read.Refused q p))
+      × (text_packed (text.Refused q p) ≡ packed (read.Refused q p))
+      × (message_packed (message.Refused q p) ≡ packed (read.Refused q p))
+      × (pages_packed (pages.Refused q p) ≡ packed (read.Refused q p))
+  refusals_packed = (refl, refl, refl, refl, refl, refl, refl)
 
-pub answers-packed : (v : Folded) (o : Outcome) (n : ℕ) (part : TextPart) → (foldPacked (fold.Found v) ≡ 0) × (runPacked (run.Ran o n) ≡ 0)
-    × (provePacked (prove.Proved n) ≡ n) × (lowerPacked (lower.Lowered n) ≡ n) × (messagePacked (message.Message n) ≡ n)
-    × (pagesPacked (pages.Written n) ≡ n) × (textPacked (text.Found part) ≡ part.start + part.length * 2 ^ 16)
-answers-packed v o n part = (refl, refl, refl, refl, refl, refl, refl)
+pub answers_packed : (v : Folded) (o : Outcome) (n : ℕ) (part : TextPart) → (fold_packed (fold.Found v) ≡ 0) × (run_packed (run.Ran o n) ≡ 0)
+    × (prove_packed (prove.Proved n) ≡ n) × (lower_packed (lower.Lowered n) ≡ n) × (message_packed (message.Message n) ≡ n)
+    × (pages_packed (pages.Written n) ≡ n) × (text_packed (text.Found part) ≡ part.start + part.length * 2 ^ 16)
+answers_packed v o n part = (refl, refl, refl, refl, refl, refl, refl)

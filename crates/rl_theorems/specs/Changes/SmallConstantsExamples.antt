@@ -13,64 +13,64 @@ use Rattle.rl_spec.specs.declared.Violation.{Violation}
 use Rattle.rl_spec.specs.declared.Violation.TheVariants.{Refinement, Requires}
 use Rattle.rl_spec.specs.Image.{Image, pair, text_of, encode}
 use Rattle.rl_spec.specs.Values.{ConstVal, int}
-use Rattle.rl_spec.specs.Tree.{formBy, exprTree}
+use Rattle.rl_spec.specs.Tree.{form_by, expr_tree}
 use Rattle.rl_spec.specs.Ranges.{up_from}
-use Rattle.rl_spec.specs.Fold.{constEval}
-use Rattle.rl_spec.specs.Prove.{violationsOf, proveOf}
-use Rattle.rl_examples.specs.MarkedImages.{integer, byte, identifier, binary, bangEqual, less, parameter, refined, clause, function, call, build, nodes}
+use Rattle.rl_spec.specs.Fold.{const_eval}
+use Rattle.rl_spec.specs.Prove.{violations_of, prove_of}
+use Rattle.rl_examples.specs.MarkedImages.{integer, byte, identifier, binary, bang_equal, less, parameter, refined, clause, function, call, build, nodes}
 use Rattle.rl_examples.specs.NodeRows.{literal}
 use Rattle.rl_theorems.specs.DemandThree.Marked.{decoding, folding, proving}
-use Rattle.rl_theorems.specs.Changes.SmallConstants.{isSmall, before}
+use Rattle.rl_theorems.specs.Changes.SmallConstants.{is_small, before}
 
 -- ---- what each holds
 
 -- a literal of a kind, with its bits as a number
 abbrev pub formed : Image → ℕ → ℕ → Form
-formed im kind n = formBy im (literal kind n)
+formed im kind n = form_by im (literal kind n)
 
 abbrev pub whole : ℤ → Form
 whole z = Literal (Value (Int z))
 
-pub unsigned-holds : (im : Image) (n : ℕ) → (formed im 20 n ≡ whole (pos n)) × (formed im 21 n ≡ whole (pos n)) × (formed im 23 n ≡ whole (pos n))
-unfolding formBy
-unsigned-holds im n = (refl, refl, refl)
+pub unsigned_holds : (im : Image) (n : ℕ) → (formed im 20 n ≡ whole (pos n)) × (formed im 21 n ≡ whole (pos n)) × (formed im 23 n ≡ whole (pos n))
+unfolding form_by
+unsigned_holds im n = (refl, refl, refl)
 
 -- n and n - 2 ^ 7, n and n - 2 ^ 15
-pub sbyte-holds : (im : Image) (n : ℕ) → n < 128 → (formed im 22 n ≡ whole (pos n)) × (formed im 22 (128 + n) ≡ whole (pos n -ℤ pos 128))
-unfolding formBy
-sbyte-holds im n h =
+pub sbyte_holds : (im : Image) (n : ℕ) → n < 128 → (formed im 22 n ≡ whole (pos n)) × (formed im 22 (128 + n) ≡ whole (pos n -ℤ pos 128))
+unfolding form_by
+sbyte_holds im n h =
     (rw (lt-ltb n 128 h) refl, rw (le-ltb (128 + n) 128 (omega arith), lt-ltb n 128 h) (ap (λ m. whole (negsuc m)) (omega arith)))
 
-pub bsbyte-holds : (im : Image) (n : ℕ) → n < 32768 →
+pub bsbyte_holds : (im : Image) (n : ℕ) → n < 32768 →
     (formed im 24 n ≡ whole (pos n)) × (formed im 24 (32768 + n) ≡ whole (pos n -ℤ pos 32768))
-unfolding formBy
-bsbyte-holds im n h =
+unfolding form_by
+bsbyte_holds im n h =
     (rw (lt-ltb n 32768 h) refl, rw (le-ltb (32768 + n) 32768 (omega arith), lt-ltb n 32768 h) (ap (λ m. whole (negsuc m)) (omega arith)))
 
 -- ---- before
 
 -- of the kinds 16 to 57, 20 to 24
-pub kinds-so : map isSmall (up_from 16 42) ≡ replicate 4 false ++ replicate 5 true ++ replicate 33 false
+pub kinds_so : map is_small (up_from 16 42) ≡ replicate 4 false ++ replicate 5 true ++ replicate 33 false
 unfolding up_from
-kinds-so = refl
+kinds_so = refl
 
 -- what a literal of a kind, of the payload 5, folds to in an image as it is, or as it was
 abbrev pub five : (Image → Image) → ℕ → Option (ConstVal ℕ)
 five taken kind =
     let im : Image = taken (nodes [] (literal kind 5 ∷ [])) in
-    constEval (text_of im) [] (exprTree im 0)
+    const_eval (text_of im) [] (expr_tree im 0)
 
 -- Integer, SInt, UInt; SUInt, Byte, SByte, BByte, BSByte; Character, which never does
-pub fives-so : (map (five before) (17 ∷ 18 ∷ 19 ∷ 20 ∷ 21 ∷ 22 ∷ 23 ∷ 24 ∷ 29 ∷ []) ≡ replicate 3 (some (int (pos 5))) ++ replicate 6 none)
+pub fives_so : (map (five before) (17 ∷ 18 ∷ 19 ∷ 20 ∷ 21 ∷ 22 ∷ 23 ∷ 24 ∷ 29 ∷ []) ≡ replicate 3 (some (int (pos 5))) ++ replicate 6 none)
     × (map (five λ im. im) (17 ∷ 18 ∷ 19 ∷ 20 ∷ 21 ∷ 22 ∷ 23 ∷ 24 ∷ 29 ∷ []) ≡ replicate 8 (some (int (pos 5))) ++ none ∷ [])
 unfolding before decoding folding
-fives-so = (refl, refl)
+fives_so = (refl, refl)
 
 -- ---- reports
 
 -- the first call of an image had these reports, and has those
 abbrev pub Reports : Image → List Violation → List Violation → Type 0
-Reports im vs ws = (violationsOf (before im) 0 ≡ vs) × (violationsOf im 0 ≡ ws)
+Reports im vs ws = (violations_of (before im) 0 ≡ vs) × (violations_of im 0 ≡ ws)
 
 -- f(Byte 5), parameter a; requires a < 4
 abbrev pub priority : Image
@@ -87,9 +87,9 @@ priority =
       calls = call 0 10 (pair 0 1) ∷ [];
     }
 
-pub report-comes : Reports priority [] (Requires 0 ∷ [])
+pub report_comes : Reports priority [] (Requires 0 ∷ [])
 unfolding before decoding folding proving
-report-comes = (refl, refl)
+report_comes = (refl, refl)
 
 -- f(SByte -1), parameter a > 9
 abbrev pub level : Image
@@ -106,9 +106,9 @@ level =
       calls = call 0 10 (pair 0 1) ∷ [];
     }
 
-pub refinement-comes : Reports level [] (Refinement 0 ∷ [])
+pub refinement_comes : Reports level [] (Refinement 0 ∷ [])
 unfolding before decoding folding proving
-refinement-comes = (refl, refl)
+refinement_comes = (refl, refl)
 
 -- f(1, Byte 5), parameters a and a; requires a != 1. The second now has a value and hides the first
 abbrev pub twice : Image
@@ -117,7 +117,7 @@ twice =
     record {
       texts = "f" ∷ "a" ∷ [];
       lists = 0 ∷ 1 ∷ [];
-      expressions = integer (pos 1) ∷ byte 5 ∷ identifier 1 ∷ binary 2 bangEqual 0 ∷ [];
+      expressions = integer (pos 1) ∷ byte 5 ∷ identifier 1 ∷ binary 2 bang_equal 0 ∷ [];
       statements = [];
       parameters = parameter 1 ∷ parameter 1 ∷ [];
       clauses = clause 3 65535 ∷ [];
@@ -125,11 +125,11 @@ twice =
       calls = call 0 10 (pair 0 2) ∷ [];
     }
 
-pub report-goes : Reports twice (Requires 0 ∷ []) []
+pub report_goes : Reports twice (Requires 0 ∷ []) []
 unfolding before decoding folding proving
-report-goes = (refl, refl)
+report_goes = (refl, refl)
 
 -- the bytes of the three are accepted, and `prove` answers so many reports
-pub examples-prove : (proveOf (encode priority) 8192 0 4 ≡ Proved 1) × (proveOf (encode level) 8192 0 4 ≡ Proved 1) × (proveOf (encode twice) 8192 0 4 ≡ Proved 0)
-unfolding decoding folding proving proveOf
-examples-prove = (refl, refl, refl)
+pub examples_prove : (prove_of (encode priority) 8192 0 4 ≡ Proved 1) × (prove_of (encode level) 8192 0 4 ≡ Proved 1) × (prove_of (encode twice) 8192 0 4 ≡ Proved 0)
+unfolding decoding folding proving prove_of
+examples_prove = (refl, refl, refl)

@@ -10,82 +10,82 @@ use Rattle.rl_spec.specs.declared.Cause.{Cause}
 use Rattle.rl_spec.specs.declared.LowerAnswer.TheVariants.{Lowered}
 use Rattle.rl_spec.specs.declared.Outcome.{Outcome}
 use Rattle.rl_spec.specs.declared.RunAnswer.TheVariants.{Ran, Refused}
-use Rattle.rl_spec.specs.Read.{countsOf}
+use Rattle.rl_spec.specs.Read.{counts_of}
 use Rattle.rl_spec.specs.Image.{Image, text_of, encode, image_of, AllBytes, WellFormed}
 use Rattle.rl_spec.specs.Run as run
-use Rattle.rl_spec.specs.Reading.{runFunction}
-use Rattle.rl_spec.specs.Mapped.{mapValue}
-use Rattle.rl_spec.specs.Functions.{contractFunction, readingIn}
-use Rattle.rl_spec.specs.Lowerer.{made, lowerOf, lowerAnswer, lowerOut}
-use Rattle.rl_spec.specs.Runner.{outcomeIn, allHave, given, values_of, run_of}
-use Rattle.rl_images.specs.Reading.Decode.{accepted-encodes}
+use Rattle.rl_spec.specs.Reading.{run_function}
+use Rattle.rl_spec.specs.Mapped.{map_value}
+use Rattle.rl_spec.specs.Functions.{contract_function, reading_in}
+use Rattle.rl_spec.specs.Lowerer.{made, lower_of, lower_answer, lower_out}
+use Rattle.rl_spec.specs.Runner.{outcome_in, all_have_lem, given, values_of, run_of}
+use Rattle.rl_images.specs.Reading.Decode.{accepted_encodes}
 use Rattle.rl_theorems.specs.Lowering.LoweredRuns.{Premises}
-use Rattle.rl_theorems.specs.Lowering.LoweredFunctions.{lowered-reads}
-use Rattle.rl_theorems.specs.Lowering.LoweredArguments.{Keeps, followed-keeps}
-use Rattle.rl_theorems.specs.DemandThree.LowerAnswers.{Made, made-for}
-use Rattle.rl_theorems.specs.DemandThree.LoweredBytes.{out-made, original-well-formed, function-there, made-well-formed, made-accepted, made-followed}
-use Rattle.rl_theorems.specs.DemandThree.KeptRuns.{Whole, refused-alike, runs-alike}
+use Rattle.rl_theorems.specs.Lowering.LoweredFunctions.{lowered_reads}
+use Rattle.rl_theorems.specs.Lowering.LoweredArguments.{Keeps, followed_keeps}
+use Rattle.rl_theorems.specs.DemandThree.LowerAnswers.{Made, made_for}
+use Rattle.rl_theorems.specs.DemandThree.LoweredBytes.{out_made, original_well_formed, function_there, made_well_formed, made_accepted, made_followed}
+use Rattle.rl_theorems.specs.DemandThree.KeptRuns.{Whole, refused_alike, runs_alike}
 
-module _ (s : List ℕ) (k f room : ℕ) (im' : Image) (bytes : AllBytes s) (e : lowerOf s k f room ≡ made im') where
+module _ (s : List ℕ) (k f room : ℕ) (im' : Image) (bytes : AllBytes s) (e : lower_of s k f room ≡ made im') where
   abbrev im : Image
   im = image_of s
 
   by : Made s k f room im'
-  by = made-for s k f room im' e
+  by = made_for s k f room im' e
 
   same : image_of (encode im') ≡ im'
-  same = (made-accepted s k f room im' bytes e).1
+  same = (made_accepted s k f room im' bytes e).1
 
   -- both are bytes of well-formed images, and the second keeps the texts and the parameters of the first
-  pub original-whole : Whole s
-  original-whole =
+  pub original_whole : Whole s
+  original_whole =
       record {
-        well-formed = original-well-formed s k f room im' bytes e;
-        bytes = accepted-encodes s k by.arena by.counts bytes by.accepted;
+        well_formed = original_well_formed s k f room im' bytes e;
+        bytes = accepted_encodes s k by.arena by.counts bytes by.accepted;
       }
 
-  pub made-whole : Whole (encode im')
-  made-whole = record { well-formed = subst WellFormed (sym same) (made-well-formed s k f room im' bytes e); bytes = ap encode same }
+  pub made_whole : Whole (encode im')
+  made_whole = record { well_formed = subst WellFormed (sym same) (made_well_formed s k f room im' bytes e); bytes = ap encode same }
 
-  pub made-keeps : Keeps im (image_of (encode im'))
-  made-keeps =
+  pub made_keeps : Keeps im (image_of (encode im'))
+  made_keeps =
       subst (Keeps im) (sym same)
-      (followed-keeps im im' f (original-well-formed s k f room im' bytes e) (made-followed s k f room im' bytes e))
+      (followed_keeps im im' f (original_well_formed s k f room im' bytes e) (made_followed s k f room im' bytes e))
 
-  module _ (k' : ℕ) (args : Arguments) (budget : ℕ) (texts : allHave (countsOf s) (given args) ≡ true) where
+  module _ (k' : ℕ) (args : Arguments) (budget : ℕ) (texts : all_have_lem (counts_of s) (given args) ≡ true) where
     -- THEOREM: where the runner refuses the original's run, it refuses the lowered one's by the same number, at the same place
-    pub first-half-refused : (q : Cause) (p : ℕ) → run_of s k' f args budget ≡ Refused q p → run_of (encode im') k' f args budget ≡ Refused q p
-    first-half-refused = refused-alike s (encode im') original-whole made-whole made-keeps k' f args budget texts
+    pub first_half_refused : (q : Cause) (p : ℕ) → run_of s k' f args budget ≡ Refused q p → run_of (encode im') k' f args budget ≡ Refused q p
+    first_half_refused = refused_alike s (encode im') original_whole made_whole made_keeps k' f args budget texts
 
     -- THEOREM: where it does not, both run, and the lowered body's run is the original's contract reading
-    pub first-half : Premises (contractFunction im f) → (o : Outcome) (n : ℕ) → run_of s k' f args budget ≡ Ran o n →
+    pub first_half : Premises (contract_function im f) → (o : Outcome) (n : ℕ) → run_of s k' f args budget ≡ Ran o n →
         (o' : Outcome) × (n' : ℕ) × (run_of (encode im') k' f args budget ≡ Ran o' n')
-        × ((outcomeIn (image_of (encode im')) o', n') ≡ readingIn im f (values_of (given args)) budget)
-    unfolding readingIn
-    first-half h o n r =
-        let x = runs-alike s (encode im') original-whole made-whole made-keeps k' f args budget texts o n r in
-        let vs = map (mapValue (text_of im)) (values_of (given args)) in
-        let reads = lowered-reads im im' f original-whole.well-formed (function-there s k f room im' bytes e) by.is h.last h.ensures vs budget in (
+        × ((outcome_in (image_of (encode im')) o', n') ≡ reading_in im f (values_of (given args)) budget)
+    unfolding reading_in
+    first_half h o n r =
+        let x = runs_alike s (encode im') original_whole made_whole made_keeps k' f args budget texts o n r in
+        let vs = map (map_value (text_of im)) (values_of (given args)) in
+        let reads = lowered_reads im im' f original_whole.well_formed (function_there s k f room im' bytes e) by.is h.last h.ensures vs budget in (
           x.0,
           x.1,
           x.2,
-          x.3 ∙ ap (λ g. run.used budget (runFunction (λ t. t) (contractFunction g f) vs budget)) same ∙ ap (run.used budget) reads,
+          x.3 ∙ ap (λ g. run.used budget (run_function (λ t. t) (contract_function g f) vs budget)) same ∙ ap (run.used budget) reads,
         )
 
 -- the same of the bytes that stand in the output slice at the length that lowering answers
-module _ (s : List ℕ) (k f room n : ℕ) (bytes : AllBytes s) (e : lowerAnswer (lowerOf s k f room) ≡ Lowered n) (k' : ℕ) (args : Arguments)
-    (budget : ℕ) (texts : allHave (countsOf s) (given args) ≡ true) where
+module _ (s : List ℕ) (k f room n : ℕ) (bytes : AllBytes s) (e : lower_answer (lower_of s k f room) ≡ Lowered n) (k' : ℕ) (args : Arguments)
+    (budget : ℕ) (texts : all_have_lem (counts_of s) (given args) ≡ true) where
   abbrev out : List ℕ
-  out = take n (lowerOut room (lowerOf s k f room))
+  out = take n (lower_out room (lower_of s k f room))
 
-  there : (im' : Image) × (lowerOf s k f room ≡ made im') × (out ≡ encode im')
-  there = out-made s k f room n e
+  there : (im' : Image) × (lower_of s k f room ≡ made im') × (out ≡ encode im')
+  there = out_made s k f room n e
 
   -- THEOREMS
-  pub out-refused : (q : Cause) (p : ℕ) → run_of s k' f args budget ≡ Refused q p → run_of out k' f args budget ≡ Refused q p
-  out-refused q p r = rw there.2 (first-half-refused s k f room there.0 bytes there.1 k' args budget texts q p r)
+  pub out_refused : (q : Cause) (p : ℕ) → run_of s k' f args budget ≡ Refused q p → run_of out k' f args budget ≡ Refused q p
+  out_refused q p r = rw there.2 (first_half_refused s k f room there.0 bytes there.1 k' args budget texts q p r)
 
-  pub out_reads : Premises (contractFunction (image_of s) f) → (o : Outcome) (m : ℕ) → run_of s k' f args budget ≡ Ran o m →
+  pub out_reads : Premises (contract_function (image_of s) f) → (o : Outcome) (m : ℕ) → run_of s k' f args budget ≡ Ran o m →
       (o' : Outcome) × (m' : ℕ) × (run_of out k' f args budget ≡ Ran o' m')
-      × ((outcomeIn (image_of out) o', m') ≡ readingIn (image_of s) f (values_of (given args)) budget)
-  out_reads h o m r = rw there.2 (first-half s k f room there.0 bytes there.1 k' args budget texts h o m r)
+      × ((outcome_in (image_of out) o', m') ≡ reading_in (image_of s) f (values_of (given args)) budget)
+  out_reads h o m r = rw there.2 (first_half s k f room there.0 bytes there.1 k' args budget texts h o m r)

@@ -5,13 +5,13 @@ use Rattle.std.specs.Prelude.{◌≡◌, [], ◌∷◌, refl}
 use Rattle.std.proofs.Common.{ap, ◌∙◌, lit<, lit≤}
 use Rattle.std.proofs.Math.Option.{some}
 use Rattle.rl_spec.specs.Image.{Image, num, pair, encode}
-use Rattle.rl_spec.specs.Functions.{plainFunction, readingIn}
+use Rattle.rl_spec.specs.Functions.{plain_function, reading_in}
 use Rattle.rl_spec.specs.Lower.{lowered}
-use Rattle.rl_spec.specs.Lowerer.{made, orLimit, lowerOf}
-use Rattle.rl_spec.specs.Runner.{allHave, ranIn, run_of}
-use Rattle.rl_theorems.specs.Reading.EncodedAnswers.{lowered-encoded, well-formed-by}
+use Rattle.rl_spec.specs.Lowerer.{made, or_limit, lower_of}
+use Rattle.rl_spec.specs.Runner.{all_have_lem, ran_in, run_of}
+use Rattle.rl_theorems.specs.Reading.EncodedAnswers.{lowered_encoded, well_formed_by}
 use Rattle.rl_examples.specs.MarkedImages.{made as a, bool, identifier, parameter, clause, function, build}
-use Rattle.rl_examples.specs.LowerExamples.{loop-and-last, loop-and-last-lowered, loop-and-last-whole, lowering, running}
+use Rattle.rl_examples.specs.LowerExamples.{loop_and_last, loop_and_last_lowered, loop_and_last_whole, lowering, running}
 use Rattle.rl_theorems.specs.DemandThree.Marked.{decoding, measuring}
 
 -- ---- f(p), requires true, which returns p; its texts are "f", "p" and "x"
@@ -30,11 +30,11 @@ echo =
       calls = [];
     }
 
-abbrev pub echo-lowered : Image
-echo-lowered =
+abbrev pub echo_lowered : Image
+echo_lowered =
     build
     record {
-      texts = "f" ∷ "p" ∷ "x" ∷ "requires violated" ∷ "std" ∷ "res" ∷ "result_unwrap" ∷ [];
+      texts = "f" ∷ "p" ∷ "x" ∷ "requires violated" ∷ "std" ∷ "res" ∷ "result_unwrap_lem" ∷ [];
       lists = 0 ∷ 4 ∷ 5 ∷ 6 ∷ 5 ∷ 1 ∷ 3 ∷ 0 ∷ [];
       expressions =
           bool 1 ∷ identifier 1 ∷ a 25 (num 1 ∷ num 3 ∷ []) ∷ bool 1 ∷ a 33 (num 1 ∷ num 5 ∷ num 3 ∷ []) ∷ a 50 (num 1 ∷ num 2 ∷ [])
@@ -64,12 +64,12 @@ promising name =
       calls = [];
     }
 
-abbrev pub promising-lowered : String → Image
-promising-lowered name =
+abbrev pub promising_lowered : String → Image
+promising_lowered name =
     build
     record {
       texts =
-          "f" ∷ name ∷ "__ensure_ret_0" ∷ "__ensure_ret_0" ∷ "ret" ∷ "ensures violated" ∷ "std" ∷ "res" ∷ "result_unwrap"
+          "f" ∷ name ∷ "__ensure_ret_0" ∷ "__ensure_ret_0" ∷ "ret" ∷ "ensures violated" ∷ "std" ∷ "res" ∷ "result_unwrap_lem"
           ∷ "__ensure_ret_0" ∷ [];
       lists = 0 ∷ 6 ∷ 7 ∷ 8 ∷ 6 ∷ 3 ∷ 1 ∷ 2 ∷ 5 ∷ 6 ∷ [];
       expressions =
@@ -90,46 +90,46 @@ promising-lowered name =
 
 -- with the shortest slices
 abbrev pub Makes : Image → Image → Type 0
-Makes im im' = lowerOf (encode im) 8192 0 65535 ≡ made im'
+Makes im im' = lower_of (encode im) 8192 0 65535 ≡ made im'
 
-echo-whole : lowered echo 0 ≡ some echo-lowered
+echo_whole : lowered echo 0 ≡ some echo_lowered
 unfolding lowering
-echo-whole = refl
+echo_whole = refl
 
-ret-whole : lowered (promising "ret") 0 ≡ some (promising-lowered "ret")
+ret_whole : lowered (promising "ret") 0 ≡ some (promising_lowered "ret")
 unfolding lowering
-ret-whole = refl
+ret_whole = refl
 
-reserved-whole : lowered (promising "__ensure_ret_0") 0 ≡ some (promising-lowered "__ensure_ret_0")
+reserved_whole : lowered (promising "__ensure_ret_0") 0 ≡ some (promising_lowered "__ensure_ret_0")
 unfolding lowering
-reserved-whole = refl
+reserved_whole = refl
 
-pub echo-made : Makes echo echo-lowered
+pub echo_made : Makes echo echo_lowered
 unfolding decoding measuring
-echo-made =
-    lowered-encoded echo (well-formed-by (encode echo) _ _ refl refl) 8192 (lit≤ tt) 0 65535 (lit< tt) refl (lit≤ tt) ∙ ap orLimit echo-whole
+echo_made =
+    lowered_encoded echo (well_formed_by (encode echo) _ _ refl refl) 8192 (lit≤ tt) 0 65535 (lit< tt) refl (lit≤ tt) ∙ ap or_limit echo_whole
 
-pub ret-made : Makes (promising "ret") (promising-lowered "ret")
+pub ret_made : Makes (promising "ret") (promising_lowered "ret")
 unfolding decoding measuring
-ret-made =
-    lowered-encoded (promising "ret") (well-formed-by (encode (promising "ret")) _ _ refl refl) 8192 (lit≤ tt) 0 65535 (lit< tt) refl (lit≤ tt)
-    ∙ ap orLimit ret-whole
+ret_made =
+    lowered_encoded (promising "ret") (well_formed_by (encode (promising "ret")) _ _ refl refl) 8192 (lit≤ tt) 0 65535 (lit< tt) refl (lit≤ tt)
+    ∙ ap or_limit ret_whole
 
-pub reserved-made : Makes (promising "__ensure_ret_0") (promising-lowered "__ensure_ret_0")
+pub reserved_made : Makes (promising "__ensure_ret_0") (promising_lowered "__ensure_ret_0")
 unfolding decoding measuring
-reserved-made =
-    lowered-encoded (promising "__ensure_ret_0") (well-formed-by (encode (promising "__ensure_ret_0")) _ _ refl refl) 8192 (lit≤ tt) 0 65535
+reserved_made =
+    lowered_encoded (promising "__ensure_ret_0") (well_formed_by (encode (promising "__ensure_ret_0")) _ _ refl refl) 8192 (lit≤ tt) 0 65535
     (lit< tt) refl (lit≤ tt)
-    ∙ ap orLimit reserved-whole
+    ∙ ap or_limit reserved_whole
 
-pub last_made : Makes loop-and-last loop-and-last-lowered
+pub last_made : Makes loop_and_last loop_and_last_lowered
 unfolding decoding measuring
 last_made =
-    lowered-encoded loop-and-last (well-formed-by (encode loop-and-last) _ _ refl refl) 8192 (lit≤ tt) 0 65535 (lit< tt) refl (lit≤ tt)
-    ∙ ap orLimit loop-and-last-whole
+    lowered_encoded loop_and_last (well_formed_by (encode loop_and_last) _ _ refl refl) 8192 (lit≤ tt) 0 65535 (lit< tt) refl (lit≤ tt)
+    ∙ ap or_limit loop_and_last_whole
 
 -- ---- what the computation of runs and readings opens
 
 unfoldable pub answering : Unit {0}
-unfolding decoding lowering running run_of ranIn allHave readingIn plainFunction
+unfolding decoding lowering running run_of ran_in all_have_lem reading_in plain_function
 answering = tt

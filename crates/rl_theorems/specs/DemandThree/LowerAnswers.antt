@@ -10,18 +10,18 @@ use Rattle.rl_spec.specs.declared.Section.TheVariants.{Expressions, Statements, 
 use Rattle.rl_spec.specs.Read.{answer_of}
 use Rattle.rl_spec.specs.Image.{Image, heights, image_of}
 use Rattle.rl_spec.specs.Lower.{lowered}
-use Rattle.rl_spec.specs.Lowerer.{made, lowerOf}
-use Rattle.rl_images.specs.Reading.Table.{unmet-parts}
-use Rattle.rl_images.specs.Reading.Rows.{readRows}
-use Rattle.rl_laws.specs.Tests.{not-below}
-use Rattle.rl_images.specs.Reading.ReadOutcome.{read-accepts}
-use Rattle.rl_images.specs.Reading.Starts.{sizes-are-counts}
-use Rattle.rl_theorems.specs.Answers.OfLowering.{makingRows, making-accepts}
+use Rattle.rl_spec.specs.Lowerer.{made, lower_of}
+use Rattle.rl_images.specs.Reading.Table.{unmet_parts}
+use Rattle.rl_images.specs.Reading.Rows.{read_rows}
+use Rattle.rl_laws.specs.Tests.{not_below}
+use Rattle.rl_images.specs.Reading.ReadOutcome.{read_accepts}
+use Rattle.rl_images.specs.Reading.Starts.{sizes_are_counts}
+use Rattle.rl_theorems.specs.Answers.OfLowering.{making_rows, making_accepts}
 use Rattle.rl_theorems.specs.Images.FunctionReady.{Under}
 
 pub under : (most : ℕ) (hs : List ℕ) → ((i : ℕ) → most < slice_index hs i → ⊥) → Under most hs
 under most [] h = tt
-under most (x ∷ hs) h = (not-below most x (h 0), under most hs (λ i. h (suc i)))
+under most (x ∷ hs) h = (not_below most x (h 0), under most hs (λ i. h (suc i)))
 
 module _ (s : List ℕ) (k f room : ℕ) where
   pub record Made (im' : Image) : Type 0 where
@@ -35,18 +35,18 @@ module _ (s : List ℕ) (k f room : ℕ) where
     pub is : lowered (image_of s) f ≡ some im'
 
   -- THEOREM
-  pub made-for : (im' : Image) → lowerOf s k f room ≡ made im' → Made im'
-  made-for im' e =
-      let x = (making-accepts s k f room im').0 e in
-      let u = unmet-parts (readRows s k) (makingRows (image_of s) f room) x.0 in
-      let r = (read-accepts s k).1 u.0 in
+  pub made_for : (im' : Image) → lower_of s k f room ≡ made im' → Made im'
+  made_for im' e =
+      let x = (making_accepts s k f room im').0 e in
+      let u = unmet_parts (read_rows s k) (making_rows (image_of s) f room) x.0 in
+      let r = (read_accepts s k).1 u.0 in
       record {
         arena = r.0;
         counts = r.1;
         accepted = r.2;
-        there = subst (λ n. f < n) (sizes-are-counts s k r.0 r.1 r.2 Functions) (lt_of_not-le u.1.0);
+        there = subst (λ n. f < n) (sizes_are_counts s k r.0 r.1 r.2 Functions) (lt_of_not-le u.1.0);
         low = under 64 (heights (image_of s) Expressions) (λ i l. u.1.1.0 (inl (i, l)));
         lower = under 32 (heights (image_of s) Statements) (λ i l. u.1.1.0 (inr (i, l)));
-        long = not-below room 65535 u.1.1.1.0;
+        long = not_below room 65535 u.1.1.1.0;
         is = x.1;
       }

@@ -10,61 +10,61 @@ use Rattle.rl_spec.specs.Read.{answer_of}
 use Rattle.rl_spec.specs.Image.{Image, size_of, encode, image_of, AllBytes, WellFormed}
 use Rattle.rl_spec.specs.declared.LowerAnswer.{LowerAnswer}
 use Rattle.rl_spec.specs.declared.LowerAnswer.TheVariants.{Lowered, Refused}
-use Rattle.rl_spec.specs.Lowerer.{Lowering, made, refused, lowerOf, lowerAnswer, lowerOut}
+use Rattle.rl_spec.specs.Lowerer.{Lowering, made, refused, lower_of, lower_answer, lower_out}
 use Rattle.rl_images.specs.Encoding.ReaderKnows.{counts}
-use Rattle.rl_images.specs.Reading.Starts.{sizes-are-counts}
-use Rattle.rl_images.specs.Encoding.Accepted.{accepted-long, accepted-well-formed}
-use Rattle.rl_images.specs.Lowering.Grows.{eight-sections}
-use Rattle.rl_images.specs.Lowering.Followed.{Followed, lowered-followed}
-use Rattle.rl_theorems.specs.Images.LoweredWellFormed.{lowered-well-formed, lowered-accepted}
-use Rattle.rl_theorems.specs.DemandThree.LowerAnswers.{Made, made-for}
+use Rattle.rl_images.specs.Reading.Starts.{sizes_are_counts}
+use Rattle.rl_images.specs.Encoding.Accepted.{accepted_long, accepted_well_formed}
+use Rattle.rl_images.specs.Lowering.Grows.{eight_sections}
+use Rattle.rl_images.specs.Lowering.Followed.{Followed, lowered_followed}
+use Rattle.rl_theorems.specs.Images.LoweredWellFormed.{lowered_well_formed, lowered_accepted}
+use Rattle.rl_theorems.specs.DemandThree.LowerAnswers.{Made, made_for}
 
-abbrev sizeIn : LowerAnswer → ℕ
-sizeIn (Lowered n) = n
-sizeIn (Refused q n) = 0
+abbrev size_in : LowerAnswer → ℕ
+size_in (Lowered n) = n
+size_in (Refused q n) = 0
 
 abbrev IsLowered : LowerAnswer → Type 0
 IsLowered (Lowered n) = Unit {0}
 IsLowered (Refused q n) = ⊥
 
-written : (room : ℕ) (im' : Image) → take (length (encode im')) (lowerOut room (made im')) ≡ encode im'
+written : (room : ℕ) (im' : Image) → take (length (encode im')) (lower_out room (made im')) ≡ encode im'
 written room im' = take-append_seam (encode im') (replicate (room - length (encode im')) 0)
 
 -- where lowering answers a length, it made an image, whose bytes stand in the output slice at that length
-pub out-made : (s : List ℕ) (k f room n : ℕ) → lowerAnswer (lowerOf s k f room) ≡ Lowered n →
-    (im' : Image) × (lowerOf s k f room ≡ made im') × (take n (lowerOut room (lowerOf s k f room)) ≡ encode im')
-out-made s k f room n e = go (lowerOf s k f room) refl e
+pub out_made : (s : List ℕ) (k f room n : ℕ) → lower_answer (lower_of s k f room) ≡ Lowered n →
+    (im' : Image) × (lower_of s k f room ≡ made im') × (take n (lower_out room (lower_of s k f room)) ≡ encode im')
+out_made s k f room n e = go (lower_of s k f room) refl e
   where
-    go : (l : Lowering) → lowerOf s k f room ≡ l → lowerAnswer l ≡ Lowered n →
-        (im' : Image) × (lowerOf s k f room ≡ made im') × (take n (lowerOut room l) ≡ encode im')
+    go : (l : Lowering) → lower_of s k f room ≡ l → lower_answer l ≡ Lowered n →
+        (im' : Image) × (lower_of s k f room ≡ made im') × (take n (lower_out room l) ≡ encode im')
     go (made im') d q =
-        (im', d, ap (λ m. take m (lowerOut room (made im'))) (sym (ap sizeIn q)) ∙ written room im')
+        (im', d, ap (λ m. take m (lower_out room (made im'))) (sym (ap size_in q)) ∙ written room im')
     go (refused c p) d q = absurd (subst IsLowered (sym q) tt)
 
-module _ (s : List ℕ) (k f room : ℕ) (im' : Image) (bytes : AllBytes s) (e : lowerOf s k f room ≡ made im') where
+module _ (s : List ℕ) (k f room : ℕ) (im' : Image) (bytes : AllBytes s) (e : lower_of s k f room ≡ made im') where
   by : Made s k f room im'
-  by = made-for s k f room im' e
+  by = made_for s k f room im' e
 
   -- the original is well formed
-  pub original-well-formed : WellFormed (image_of s)
-  original-well-formed = accepted-well-formed s k by.arena by.counts bytes by.accepted
+  pub original_well_formed : WellFormed (image_of s)
+  original_well_formed = accepted_well_formed s k by.arena by.counts bytes by.accepted
 
   -- the function is there
-  pub function-there : f < size_of (image_of s) Functions
-  function-there = omega (arith, by.there, sizes-are-counts s k by.arena by.counts by.accepted Functions)
+  pub function_there : f < size_of (image_of s) Functions
+  function_there = omega (arith, by.there, sizes_are_counts s k by.arena by.counts by.accepted Functions)
 
   -- THEOREMS
-  pub made-well-formed : WellFormed im'
-  made-well-formed = lowered-well-formed (image_of s) im' f original-well-formed function-there by.low by.lower by.is
+  pub made_well_formed : WellFormed im'
+  made_well_formed = lowered_well_formed (image_of s) im' f original_well_formed function_there by.low by.lower by.is
 
-  pub made-accepted : (answer_of (encode im') k ≡ Accepted (record { 0 = im'.arena }) (counts im')) × (image_of (encode im') ≡ im')
-  made-accepted =
-      lowered-accepted (image_of s) im' f k original-well-formed function-there by.low by.lower by.is
-      (accepted-long s k by.arena by.counts by.accepted)
+  pub made_accepted : (answer_of (encode im') k ≡ Accepted (record { 0 = im'.arena }) (counts im')) × (image_of (encode im') ≡ im')
+  made_accepted =
+      lowered_accepted (image_of s) im' f k original_well_formed function_there by.low by.lower by.is
+      (accepted_long s k by.arena by.counts by.accepted)
 
-  pub made-followed : Followed (image_of s) f im'
-  made-followed = lowered-followed (image_of s) im' f (eight-sections (image_of s) original-well-formed) by.is
+  pub made_followed : Followed (image_of s) f im'
+  made_followed = lowered_followed (image_of s) im' f (eight_sections (image_of s) original_well_formed) by.is
 
   -- they are what the output slice begins with
-  pub made-written : take (length (encode im')) (lowerOut room (lowerOf s k f room)) ≡ encode im'
-  made-written = ap (λ l. take (length (encode im')) (lowerOut room l)) e ∙ written room im'
+  pub made_written : take (length (encode im')) (lower_out room (lower_of s k f room)) ≡ encode im'
+  made_written = ap (λ l. take (length (encode im')) (lower_out room l)) e ∙ written room im'

@@ -11,28 +11,28 @@ use Rattle.rl_spec.specs.declared.Plain.TheVariants.{Const}
 use Rattle.rl_spec.specs.declared.RunAnswer.TheVariants.{Ran}
 use Rattle.rl_spec.specs.declared.Value.TheVariants.{Plain as Bare}
 use Rattle.rl_spec.specs.declared.Section.TheVariants.{Expressions, Clauses}
-use Rattle.rl_spec.specs.Image.{num, pair, Rec, Image, recordOf, text_of, encode, image_of, AllBytes}
+use Rattle.rl_spec.specs.Image.{num, pair, Rec, Image, record_of_lem, text_of, encode, image_of, AllBytes}
 use Rattle.rl_spec.specs.Tree.{ascii, number}
-use Rattle.rl_spec.specs.Records.{functionAt}
+use Rattle.rl_spec.specs.Records.{function_at}
 use Rattle.rl_spec.specs.Values as value
 use Rattle.rl_spec.specs.Run.{Outcome as Ended, returned, folds}
 use Rattle.rl_spec.specs.Mapped.{Text}
-use Rattle.rl_spec.specs.Runner.{outcomeIn, run_of}
+use Rattle.rl_spec.specs.Runner.{outcome_in, run_of}
 use Rattle.rl_spec.specs.Make.{made}
 use Rattle.rl_spec.specs.Lower.{lowered}
 use Rattle.rl_spec.specs.Lowerer as lower
-use Rattle.rl_spec.specs.Lowerer.{orLimit, lowerOf, lowerAnswer}
+use Rattle.rl_spec.specs.Lowerer.{or_limit, lower_of, lower_answer}
 use Rattle.rl_examples.specs.MarkedImages.{bool, identifier, clause, function, build}
 use Rattle.rl_examples.specs.LowerExamples.{lowering}
-use Rattle.rl_theorems.specs.Reading.EncodedAnswers.{lowered-encoded, bytes-by, well-formed-by}
+use Rattle.rl_theorems.specs.Reading.EncodedAnswers.{lowered_encoded, bytes_by, well_formed_by}
 use Rattle.rl_theorems.specs.DemandThree.Marked.{decoding, measuring}
-use Rattle.rl_theorems.specs.DemandThree.LoweredBytes.{made-written}
+use Rattle.rl_theorems.specs.DemandThree.LoweredBytes.{made_written}
 use Rattle.rl_theorems.specs.DemandThree.FirstHalfImages.{answering}
 use Rattle.rl_theorems.specs.Lowering.LowerFrame.{begins}
 use Rattle.rl_theorems.specs.Lowering.LoweredInTurn.{Among, NoneTwice}
-use Rattle.rl_theorems.specs.DemandThree.DepthTests.{allNamed, throughout, not-true, begins-not}
-use Rattle.rl_theorems.specs.DemandThree.Demand.{NoBareLast, Names, no-values, tested, in-depth}
-use Rattle.rl_theorems.specs.DemandThree.OneAfterAnother.{BytesInTurn, none_left, and_then, NoReservedEnsures, in-turn-lowered, in-turn-others}
+use Rattle.rl_theorems.specs.DemandThree.DepthTests.{all_named, throughout, not_true, begins_not}
+use Rattle.rl_theorems.specs.DemandThree.Demand.{NoBareLast, Names, no_values_lem, tested, in_depth}
+use Rattle.rl_theorems.specs.DemandThree.OneAfterAnother.{BytesInTurn, none_left, and_then, NoReservedEnsures, in_turn_lowered, in_turn_others}
 
 -- f, g and h return true and ensure `ret`; f also requires true
 abbrev original : Image
@@ -51,50 +51,50 @@ original =
       calls = [];
     }
 
-abbrev imageIn : Option Image → Image
-imageIn none = original
-imageIn (some im) = im
+abbrev image_in : Option Image → Image
+image_in none = original
+image_in (some im) = im
 
 -- with g lowered, and then f
 abbrev middle : Image
-middle = imageIn (lowered original 1)
+middle = image_in (lowered original 1)
 
 abbrev final : Image
-final = imageIn (lowered middle 0)
+final = image_in (lowered middle 0)
 
-g-made : lowered original 1 ≡ some middle
+g_made : lowered original 1 ≡ some middle
 unfolding lowering
-g-made = refl
+g_made = refl
 
-f-made : lowered middle 0 ≡ some final
+f_made : lowered middle 0 ≡ some final
 unfolding lowering
-f-made = refl
+f_made = refl
 
-g-lowered : lowerOf (encode original) 8192 1 65535 ≡ lower.made middle
+g_lowered : lower_of (encode original) 8192 1 65535 ≡ lower.made middle
 unfolding decoding lowering measuring
-g-lowered =
-    lowered-encoded original (well-formed-by (encode original) _ _ refl refl) 8192 (lit≤ tt) 1 65535 (lit< tt) refl (lit≤ tt) ∙ ap orLimit g-made
+g_lowered =
+    lowered_encoded original (well_formed_by (encode original) _ _ refl refl) 8192 (lit≤ tt) 1 65535 (lit< tt) refl (lit≤ tt) ∙ ap or_limit g_made
 
-f-lowered : lowerOf (encode middle) 9000 0 70000 ≡ lower.made final
+f_lowered : lower_of (encode middle) 9000 0 70000 ≡ lower.made final
 unfolding decoding lowering measuring
-f-lowered =
-    lowered-encoded middle (well-formed-by (encode middle) _ _ refl refl) 9000 (lit≤ tt) 0 70000 (lit< tt) refl (lit≤ tt) ∙ ap orLimit f-made
+f_lowered =
+    lowered_encoded middle (well_formed_by (encode middle) _ _ refl refl) 9000 (lit≤ tt) 0 70000 (lit< tt) refl (lit≤ tt) ∙ ap or_limit f_made
 
 -- one more lowering ahead
-ahead : {last : List ℕ} {fs : List ℕ} (im im' : Image) (k f room : ℕ) → AllBytes (encode im) → lowerOf (encode im) k f room ≡ lower.made im' →
+ahead : {last : List ℕ} {fs : List ℕ} (im im' : Image) (k f room : ℕ) → AllBytes (encode im) → lower_of (encode im) k f room ≡ lower.made im' →
     BytesInTurn (encode im') fs last → BytesInTurn (encode im) (f ∷ fs) last
 ahead {last} {fs} im im' k f room bytes e rest =
-    and_then k room (length (encode im')) (ap lowerAnswer e)
-    (subst (λ t. BytesInTurn t fs last) (sym (made-written (encode im) k f room im' bytes e)) rest)
+    and_then k room (length (encode im')) (ap lower_answer e)
+    (subst (λ t. BytesInTurn t fs last) (sym (made_written (encode im) k f room im' bytes e)) rest)
 
-in-turn : BytesInTurn (encode original) (1 ∷ 0 ∷ []) (encode final)
+in_turn : BytesInTurn (encode original) (1 ∷ 0 ∷ []) (encode final)
 unfolding decoding lowering
-in-turn =
-    ahead original middle 8192 1 65535 (bytes-by (encode original) refl) g-lowered
-    (ahead middle final 9000 0 70000 (bytes-by (encode middle) refl) f-lowered none_left)
+in_turn =
+    ahead original middle 8192 1 65535 (bytes_by (encode original) refl) g_lowered
+    (ahead middle final 9000 0 70000 (bytes_by (encode middle) refl) f_lowered none_left)
 
-none-twice : NoneTwice (1 ∷ 0 ∷ [])
-none-twice = (λ x. elim x [ inl e ↦ absurd (omega (arith, e)) | inr y ↦ y ], ((λ x. x), tt))
+none_twice : NoneTwice (1 ∷ 0 ∷ [])
+none_twice = (λ x. elim x [ inl e ↦ absurd (omega (arith, e)) | inr y ↦ y ], ((λ x. x), tt))
 
 -- ---- the premises, of the original
 
@@ -105,21 +105,21 @@ first = image_of (encode original)
 abbrev free : Rec → Bool
 free x = not ((x.kind == 30 || x.kind == 39) && begins (ascii "__ensure_ret_") (text_of first (number x 1)))
 
-free-name : (x : Rec) → free x ≡ true → (x.kind ≡ 30) ⊎ (x.kind ≡ 39) → begins (ascii "__ensure_ret_") (text_of first (number x 1)) ≡ false
-free-name x h (inl e) = not-true (begins (ascii "__ensure_ret_") (text_of first (number x 1))) (rw e at h)
-free-name x h (inr e) = not-true (begins (ascii "__ensure_ret_") (text_of first (number x 1))) (rw e at h)
+free_name : (x : Rec) → free x ≡ true → (x.kind ≡ 30) ⊎ (x.kind ≡ 39) → begins (ascii "__ensure_ret_") (text_of first (number x 1)) ≡ false
+free_name x h (inl e) = not_true (begins (ascii "__ensure_ret_") (text_of first (number x 1))) (rw e at h)
+free_name x h (inr e) = not_true (begins (ascii "__ensure_ret_") (text_of first (number x 1))) (rw e at h)
 
 -- the clause that f and g ensure
-no-reserved : (f : ℕ) → (functionAt first f).ensured.first ≡ 1 → (functionAt first f).ensured.count ≡ 1 → NoReservedEnsures first f
-unfolding decoding lowering begins allNamed throughout
-no-reserved f a n j i l x m d k =
-    let z : (functionAt first f).ensured.first + j ≡ 1 = omega (arith, a, n, l) in
-    let y : Names first (recordOf first Clauses 1) i = rw z at x in
-    begins-not (ascii "__ensure_ret_") _ (free-name (recordOf first Expressions m) (in-depth first free i (tested y (throughout first free) refl) m d) k)
+no_reserved : (f : ℕ) → (function_at first f).ensured.first ≡ 1 → (function_at first f).ensured.count ≡ 1 → NoReservedEnsures first f
+unfolding decoding lowering begins all_named throughout
+no_reserved f a n j i l x m d k =
+    let z : (function_at first f).ensured.first + j ≡ 1 = omega (arith, a, n, l) in
+    let y : Names first (record_of_lem first Clauses 1) i = rw z at x in
+    begins_not (ascii "__ensure_ret_") _ (free_name (record_of_lem first Expressions m) (in_depth first free i (tested y (throughout first free) refl) m d) k)
 
 -- a body of one statement
-one-statement : (f : ℕ) → (functionAt first f).body.count ≡ 1 → NoBareLast first f
-one-statement f e z l = absurd (omega (arith, e, l))
+one_statement : (f : ℕ) → (function_at first f).body.count ≡ 1 → NoBareLast first f
+one_statement f e z l = absurd (omega (arith, e, l))
 
 -- ---- so they run
 
@@ -129,29 +129,29 @@ yes = Returned (Bare (Const (Truth true)))
 -- f and g return true as they were read, after 12 and 9 steps
 abbrev RunsSo : ℕ → ℕ → Type 0
 RunsSo f steps =
-    (o : Outcome) × (n : ℕ) × (run_of (encode final) 9000 f no-values 1000 ≡ Ran o n)
-    × (◌≡◌ {A = Ended Text × ℕ} (outcomeIn (image_of (encode final)) o, n) (returned (folds (value.bool true)), steps))
+    (o : Outcome) × (n : ℕ) × (run_of (encode final) 9000 f no_values_lem 1000 ≡ Ran o n)
+    × (◌≡◌ {A = Ended Text × ℕ} (outcome_in (image_of (encode final)) o, n) (returned (folds (value.bool true)), steps))
 
-pub f-runs : RunsSo 0 12
+pub f_runs : RunsSo 0 12
 unfolding answering
-f-runs =
-    (in-turn-lowered (encode original) (encode final) (1 ∷ 0 ∷ []) (bytes-by (encode original) refl) in-turn 0 9000 no-values 1000 refl none-twice (inr (inl refl))
-    (no-reserved 0 refl refl) (one-statement 0 refl)).1 yes 2 refl
+f_runs =
+    (in_turn_lowered (encode original) (encode final) (1 ∷ 0 ∷ []) (bytes_by (encode original) refl) in_turn 0 9000 no_values_lem 1000 refl none_twice (inr (inl refl))
+    (no_reserved 0 refl refl) (one_statement 0 refl)).1 yes 2 refl
 
-pub g-runs : RunsSo 1 9
+pub g_runs : RunsSo 1 9
 unfolding answering
-g-runs =
-    (in-turn-lowered (encode original) (encode final) (1 ∷ 0 ∷ []) (bytes-by (encode original) refl) in-turn 1 9000 no-values 1000 refl none-twice (inl refl)
-    (no-reserved 1 refl refl) (one-statement 1 refl)).1 yes 2 refl
+g_runs =
+    (in_turn_lowered (encode original) (encode final) (1 ∷ 0 ∷ []) (bytes_by (encode original) refl) in_turn 1 9000 no_values_lem 1000 refl none_twice (inl refl)
+    (no_reserved 1 refl refl) (one_statement 1 refl)).1 yes 2 refl
 
 -- and h as it did, its ensures unread, after 2
-pub h-runs : (o : Outcome) × (run_of (encode final) 9000 2 no-values 1000 ≡ Ran o 2)
-    × (outcomeIn (image_of (encode final)) o ≡ returned (folds (value.bool true)))
+pub h_runs : (o : Outcome) × (run_of (encode final) 9000 2 no_values_lem 1000 ≡ Ran o 2)
+    × (outcome_in (image_of (encode final)) o ≡ returned (folds (value.bool true)))
 unfolding answering
-h-runs =
-    (in-turn-others (encode original) (encode final) (1 ∷ 0 ∷ []) (bytes-by (encode original) refl) in-turn 2 9000 no-values 1000 refl not-lowered).1 yes 2 refl
+h_runs =
+    (in_turn_others (encode original) (encode final) (1 ∷ 0 ∷ []) (bytes_by (encode original) refl) in_turn 2 9000 no_values_lem 1000 refl not_lowered).1 yes 2 refl
   where
-    not-lowered : Among 2 (1 ∷ 0 ∷ []) → ⊥
-    not-lowered (inl e) = omega (arith, e)
-    not-lowered (inr (inl e)) = omega (arith, e)
-    not-lowered (inr (inr x)) = x
+    not_lowered : Among 2 (1 ∷ 0 ∷ []) → ⊥
+    not_lowered (inl e) = omega (arith, e)
+    not_lowered (inr (inl e)) = omega (arith, e)
+    not_lowered (inr (inr x)) = x

@@ -6,21 +6,21 @@ use Rattle.std.proofs.Math.Option.{Option, none, some}
 use Rattle.std.proofs.Common.{arith}
 use Rattle.rl_spec.specs.declared.Section.TheVariants.{Texts, Expressions, Statements, Parameters, Clauses, Functions}
 use Rattle.rl_spec.specs.declared.Target.TheVariants.{Statement}
-use Rattle.rl_spec.specs.Image.{Rec, Image, size_of, recordOf, field_of, entry_of, text_of, Refers, Entries, heights}
+use Rattle.rl_spec.specs.Image.{Rec, Image, size_of, record_of_lem, field_of, entry_of, text_of, Refers, Entries, heights}
 use Rattle.rl_spec.specs.Tree.{number}
-use Rattle.rl_spec.specs.Records.{param_at, clauseAt, functionAt}
+use Rattle.rl_spec.specs.Records.{param_at, clause_at, function_at}
 use Rattle.rl_spec.specs.Ranges.{up_from}
-use Rattle.rl_spec.specs.Contracts.{RefineOperand, integer, str, bool, param, ParamRefinement, paramOf}
-use Rattle.rl_spec.specs.Lower.{start, paramsIn, requiresIn, ensuresIn, bodyIn}
+use Rattle.rl_spec.specs.FnContracts.{RefineOperand, integer, str, bool, param, ParamRefinement, param_of}
+use Rattle.rl_spec.specs.Lower.{start, params_in, requires_in, ensures_in, body_in}
 use Rattle.rl_images.specs.Lowering.GrowsTo.{Every, no_more, more}
-use Rattle.rl_images.specs.Images.FunctionFields.{ClauseFits, clause-says, ParameterFits, parameter-says, FunctionFits, function-says}
-use Rattle.rl_laws.specs.Optionals.{if_some, optional-says}
-use Rattle.rl_theorems.specs.Images.ProperTexts.{Proper, text-proper, OperandReady}
+use Rattle.rl_images.specs.Images.FunctionFields.{ClauseFits, clause_says, ParameterFits, parameter_says, FunctionFits, function_says}
+use Rattle.rl_laws.specs.Optionals.{if_some, optional_says}
+use Rattle.rl_theorems.specs.Images.ProperTexts.{Proper, text_proper, OperandReady}
 use Rattle.rl_theorems.specs.Images.SoundImages.{Sound}
-use Rattle.rl_theorems.specs.Images.NewReferences.{noRefs, ref}
+use Rattle.rl_theorems.specs.Images.NewReferences.{no_refs, ref}
 use Rattle.rl_theorems.specs.Images.KeepsSound.{Ready, Node, Lines}
 use Rattle.rl_theorems.specs.Images.SoundGuards.{ClauseReady}
-use Rattle.rl_theorems.specs.Images.Refinements.{OperandSays, RefinementSays, refinement-says}
+use Rattle.rl_theorems.specs.Images.Refinements.{OperandSays, RefinementSays, refinement_says}
 use Rattle.rl_theorems.specs.Images.SoundBodies.{RefinementReady, ParamsReady}
 
 -- all heights of a section are at most h
@@ -37,78 +37,78 @@ under_at h (x ∷ xs) u (suc i) = under_at h xs u.1 i
 
 module _ {im : Image} (s : Sound im) where
   named : (t : ℕ) → t < size_of im Texts → Proper (text_of im t)
-  named t p = text-proper im s.bytes t (s.fits Texts t p)
+  named t p = text_proper im s.bytes t (s.fits Texts t p)
 
-  operand-ready : (x : RefineOperand ℕ) → OperandSays im x → OperandReady im x
-  operand-ready (integer x) h = h
-  operand-ready (str t) h = named t h
-  operand-ready (bool b) h = tt
-  operand-ready (param t) h = named t h
+  operand_ready : (x : RefineOperand ℕ) → OperandSays im x → OperandReady im x
+  operand_ready (integer x) h = h
+  operand_ready (str t) h = named t h
+  operand_ready (bool b) h = tt
+  operand_ready (param t) h = named t h
 
-  refinement-ready : (name : ℕ) (o : Option (ParamRefinement ℕ)) → Proper (text_of im name) → RefinementSays im o → RefinementReady im name o
-  refinement-ready name none p h = tt
-  refinement-ready name (some r) p h = (p, operand-ready r.operand h)
+  refinement_ready : (name : ℕ) (o : Option (ParamRefinement ℕ)) → Proper (text_of im name) → RefinementSays im o → RefinementReady im name o
+  refinement_ready name none p h = tt
+  refinement_ready name (some r) p h = (p, operand_ready r.operand h)
 
-  param-ready : (i : ℕ) → i < size_of im Parameters → RefinementReady im (paramOf im i).name (paramOf im i).refinement
-  unfolding paramOf param_at
-  param-ready i p =
-      let x : ParameterFits im (recordOf im Parameters i) = parameter-says (recordOf im Parameters i) (s.fits Parameters i p) in
-      refinement-ready (paramOf im i).name (paramOf im i).refinement (named (paramOf im i).name x.name) (refinement-says im i x)
+  param_ready : (i : ℕ) → i < size_of im Parameters → RefinementReady im (param_of im i).name (param_of im i).refinement
+  unfolding param_of param_at
+  param_ready i p =
+      let x : ParameterFits im (record_of_lem im Parameters i) = parameter_says (record_of_lem im Parameters i) (s.fits Parameters i p) in
+      refinement_ready (param_of im i).name (param_of im i).refinement (named (param_of im i).name x.name) (refinement_says im i x)
 
-  params-from : (k n : ℕ) → k + n ≤ size_of im Parameters → ParamsReady im (map (paramOf im) (up_from k n))
+  params_from_lem : (k n : ℕ) → k + n ≤ size_of im Parameters → ParamsReady im (map (param_of im) (up_from k n))
   unfolding up_from
-  params-from k zero p = tt
-  params-from k (suc n) p = (param-ready k (omega arith), params-from (k + 1) n (omega arith))
+  params_from_lem k zero p = tt
+  params_from_lem k (suc n) p = (param_ready k (omega arith), params_from_lem (k + 1) n (omega arith))
 
 -- ---- a function, at the start of its lowering
 
 module _ {im : Image} (s : Sound im) (f : ℕ) (low : Under 64 (heights im Expressions)) (lower : Under 32 (heights im Statements)) where
-  node-ready : (n : ℕ) → n < size_of im Expressions → Node 64 n (start im f)
-  node-ready n p = record { refers = record { earlier = p; taken = refl }; low = under_at 64 (heights im Expressions) low n }
+  node_ready : (n : ℕ) → n < size_of im Expressions → Node 64 n (start im f)
+  node_ready n p = record { refers = record { earlier = p; taken = refl }; low = under_at 64 (heights im Expressions) low n }
 
-  clause-ready : (i : ℕ) → i < size_of im Clauses → ClauseReady (clauseAt im i) (start im f)
-  unfolding clauseAt
-  clause-ready i p =
-      let r : Rec = recordOf im Clauses i in
-      let x : ClauseFits im r = clause-says r (s.fits Clauses i p) in
+  clause_ready : (i : ℕ) → i < size_of im Clauses → ClauseReady (clause_at im i) (start im f)
+  unfolding clause_at
+  clause_ready i p =
+      let r : Rec = record_of_lem im Clauses i in
+      let x : ClauseFits im r = clause_says r (s.fits Clauses i p) in
       record {
-        condition = node-ready (number r 0) x.0;
-        message = if_some node-ready (optional-says (field_of r 1) x.1);
+        condition = node_ready (number r 0) x.0;
+        message = if_some node_ready (optional_says (field_of r 1) x.1);
       }
 
-  clauses-from : (k n : ℕ) → k + n ≤ size_of im Clauses → Every ClauseReady (start im f) (map (clauseAt im) (up_from k n))
+  clauses_from_lem : (k n : ℕ) → k + n ≤ size_of im Clauses → Every ClauseReady (start im f) (map (clause_at im) (up_from k n))
   unfolding up_from
-  clauses-from k zero p = no_more
-  clauses-from k (suc n) p = more (clause-ready k (omega arith)) (clauses-from (k + 1) n (omega arith))
+  clauses_from_lem k zero p = no_more
+  clauses_from_lem k (suc n) p = more (clause_ready k (omega arith)) (clauses_from_lem (k + 1) n (omega arith))
 
   -- what a body's list names
-  lines-ready : (n a : ℕ) → Entries im Functions f n a Statement Statement → Lines 32 (map (entry_of im) (up_from a n)) (start im f)
+  lines_ready : (n a : ℕ) → Entries im Functions f n a Statement Statement → Lines 32 (map (entry_of im) (up_from a n)) (start im f)
   unfolding up_from
-  lines-ready zero a h = noRefs
-  lines-ready (suc n) a h =
+  lines_ready zero a h = no_refs
+  lines_ready (suc n) a h =
       let there : Refers im Statements (size_of im Statements) Statement (entry_of im a) = record { earlier = h.0.earlier; taken = h.0.taken } in
-      ref (record { refers = there; low = under_at 32 (heights im Statements) lower (entry_of im a) }) (lines-ready n (a + 1) h.1)
+      ref (record { refers = there; low = under_at 32 (heights im Statements) lower (entry_of im a) }) (lines_ready n (a + 1) h.1)
 
   module _ (p : f < size_of im Functions) where
-    here : FunctionFits im f (recordOf im Functions f)
-    here = function-says (recordOf im Functions f) (s.fits Functions f p)
+    here : FunctionFits im f (record_of_lem im Functions f)
+    here = function_says (record_of_lem im Functions f) (s.fits Functions f p)
 
-    pub start-ready : Ready (start im f)
-    unfolding functionAt
-    start-ready = record { sound = s; span = here.span; limited = refl }
+    pub start_ready : Ready (start im f)
+    unfolding function_at
+    start_ready = record { sound = s; span = here.span; limited = refl }
 
-    pub params-ready : ParamsReady im (paramsIn im f)
-    unfolding functionAt
-    params-ready = params-from s _ _ here.params
+    pub params_ready : ParamsReady im (params_in im f)
+    unfolding function_at
+    params_ready = params_from_lem s _ _ here.params
 
-    pub requires-ready : Every ClauseReady (start im f) (requiresIn im f)
-    unfolding functionAt
-    requires-ready = clauses-from _ _ here.required
+    pub requires_ready : Every ClauseReady (start im f) (requires_in im f)
+    unfolding function_at
+    requires_ready = clauses_from_lem _ _ here.required
 
-    pub ensures-ready : Every ClauseReady (start im f) (ensuresIn im f)
-    unfolding functionAt
-    ensures-ready = clauses-from _ _ here.ensured
+    pub ensures_ready : Every ClauseReady (start im f) (ensures_in im f)
+    unfolding function_at
+    ensures_ready = clauses_from_lem _ _ here.ensured
 
-    pub body-ready : Lines 32 (bodyIn im f) (start im f)
-    unfolding functionAt
-    body-ready = lines-ready _ _ here.entries
+    pub body_ready : Lines 32 (body_in im f) (start im f)
+    unfolding function_at
+    body_ready = lines_ready _ _ here.entries

@@ -4,96 +4,96 @@ use Rattle.std.specs.Prelude.{◌≡◌, ℕ, zero, suc, ◌+◌, ◌/◌, ◌%�
 use Rattle.std.proofs.Common.{ap, ◌∙◌, arith, ltb-true}
 use Rattle.std.proofs.Math.Option.{some}
 use Rattle.rl_spec.specs.declared.Section.TheVariants.{Texts}
-use Rattle.rl_spec.specs.Schema.{sortOf, fields_of, fieldsIn, schema}
-use Rattle.rl_spec.specs.Utf8.{utf8, octets, encodeText}
-use Rattle.rl_spec.specs.Image.{Field, no_field, Rec, Image, recordOf, first, second, text_of, aPart, FieldsFit, noFields, ◌&◌, RecordFits, AllBytes}
+use Rattle.rl_spec.specs.Schema.{sort_of, fields_of, fields_in_lem, schema}
+use Rattle.rl_spec.specs.Utf8.{utf8, octets, encode_text}
+use Rattle.rl_spec.specs.Image.{Field, no_field, Rec, Image, record_of_lem, first, second, text_of, a_part, FieldsFit, no_fields, ◌&◌, RecordFits, AllBytes}
 use Rattle.rl_spec.specs.Values.{RefineOp, gt, ge, lt, le, eq, ne}
 use Rattle.rl_spec.specs.Tree.{ascii}
 use Rattle.rl_spec.specs.Words.{bits64}
-use Rattle.rl_spec.specs.Contracts.{RefineOperand, integer, str, bool, param, ParamRefinement}
-use Rattle.rl_spec.specs.Mapped.{mapOperand, mapRefinement}
-use Rattle.rl_spec.specs.Message.{decimalBy, decimal, integerText, refineOpStr, operandStr, refinementText}
-use Rattle.rl_images.specs.Encoding.AcceptedParts.{take-bytes, drop-bytes}
-use Rattle.rl_theorems.specs.Reading.EncodedBytes.{append-bytes}
-use Rattle.rl_images.specs.Images.SchemaSorts.{kind-range, and_left, and_right}
-use Rattle.rl_images.specs.Reading.Utf8.{utf8_append, encode_one, scalar-low, encoded-is-utf8}
+use Rattle.rl_spec.specs.FnContracts.{RefineOperand, integer, str, bool, param, ParamRefinement}
+use Rattle.rl_spec.specs.Mapped.{map_operand, map_refinement}
+use Rattle.rl_spec.specs.Message.{decimal_by, decimal, integer_text, refine_op_str, operand_str, refinement_text}
+use Rattle.rl_images.specs.Encoding.AcceptedParts.{take_bytes, drop_bytes}
+use Rattle.rl_theorems.specs.Reading.EncodedBytes.{append_bytes_lem}
+use Rattle.rl_images.specs.Images.SchemaSorts.{kind_range, and_left, and_right}
+use Rattle.rl_images.specs.Reading.Utf8.{utf8_append, encode_one, scalar_low, encoded_is_utf8}
 
 pub record Proper (s : List ℕ) : Type 0 where
   pub bytes : AllBytes s
-  pub is-utf8 : utf8 s ≡ true
+  pub is_utf8 : utf8 s ≡ true
 
 infixl 5 ◌with◌
 pub ◌with◌ : {s t : List ℕ} → Proper s → Proper t → Proper (s ++ t)
-◌with◌ {s} {t} p q = record { bytes = append-bytes s t p.bytes q.bytes; is-utf8 = utf8_append s t p.is-utf8 ∙ q.is-utf8 }
+◌with◌ {s} {t} p q = record { bytes = append_bytes_lem s t p.bytes q.bytes; is_utf8 = utf8_append s t p.is_utf8 ∙ q.is_utf8 }
 
 -- ---- ASCII
 
-abbrev allAscii : List ℕ → Bool
-allAscii [] = true
-allAscii (c ∷ s) = nat_lt c 128 && allAscii s
+abbrev all_ascii : List ℕ → Bool
+all_ascii [] = true
+all_ascii (c ∷ s) = nat_lt c 128 && all_ascii s
 
-ascii-below : (c : ℕ) (s : List ℕ) → allAscii (c ∷ s) ≡ true → c < 128
-ascii-below c s e = ltb-true c 128 (and_left (nat_lt c 128) (allAscii s) e)
+ascii_below : (c : ℕ) (s : List ℕ) → all_ascii (c ∷ s) ≡ true → c < 128
+ascii_below c s e = ltb-true c 128 (and_left (nat_lt c 128) (all_ascii s) e)
 
-one-proper : (c : ℕ) → c < 128 → Proper (c ∷ [])
-unfolding encodeText
-one-proper c p =
-    let e : encodeText (c ∷ []) ≡ c ∷ [] = ap (λ (s : List ℕ). s ++ []) (encode_one c (omega arith)) in
-    record { bytes = (omega arith, tt); is-utf8 = rw e at (encoded-is-utf8 (c ∷ []) (scalar-low c (omega arith), tt)) }
+one_proper : (c : ℕ) → c < 128 → Proper (c ∷ [])
+unfolding encode_text
+one_proper c p =
+    let e : encode_text (c ∷ []) ≡ c ∷ [] = ap (λ (s : List ℕ). s ++ []) (encode_one c (omega arith)) in
+    record { bytes = (omega arith, tt); is_utf8 = rw e at (encoded_is_utf8 (c ∷ []) (scalar_low c (omega arith), tt)) }
 
-none-proper : Proper []
+none_proper : Proper []
 unfolding utf8 octets
-none-proper = record { bytes = tt; is-utf8 = refl }
+none_proper = record { bytes = tt; is_utf8 = refl }
 
-ascii-proper : (s : List ℕ) → allAscii s ≡ true → Proper s
-ascii-proper [] e = none-proper
-ascii-proper (c ∷ s) e = one-proper c (ascii-below c s e) with ascii-proper s (and_right (nat_lt c 128) (allAscii s) e)
+ascii_proper : (s : List ℕ) → all_ascii s ≡ true → Proper s
+ascii_proper [] e = none_proper
+ascii_proper (c ∷ s) e = one_proper c (ascii_below c s e) with ascii_proper s (and_right (nat_lt c 128) (all_ascii s) e)
 
 -- ---- decimal digits
 
-digit-proper : (b : Bool) (n : ℕ) → nat_lt n 10 ≡ b → (rest : List ℕ) → Proper rest →
+digit_proper : (b : Bool) (n : ℕ) → nat_lt n 10 ≡ b → (rest : List ℕ) → Proper rest →
     Proper (cond b ((48 + n) ∷ []) (rest ++ ((48 + n % 10) ∷ [])))
-digit-proper true n e rest p = one-proper (48 + n) (omega (arith, ltb-true n 10 e))
-digit-proper false n e rest p = p with one-proper (48 + n % 10) (omega arith)
+digit_proper true n e rest p = one_proper (48 + n) (omega (arith, ltb-true n 10 e))
+digit_proper false n e rest p = p with one_proper (48 + n % 10) (omega arith)
 
-decimal-by : (k n : ℕ) → Proper (decimalBy k n)
-unfolding decimalBy
-decimal-by zero n = none-proper
-decimal-by (suc k) n = digit-proper (nat_lt n 10) n refl (decimalBy k (n / 10)) (decimal-by k (n / 10))
+decimal_by_lem : (k n : ℕ) → Proper (decimal_by k n)
+unfolding decimal_by
+decimal_by_lem zero n = none_proper
+decimal_by_lem (suc k) n = digit_proper (nat_lt n 10) n refl (decimal_by k (n / 10)) (decimal_by_lem k (n / 10))
 
-pub decimal-proper : (n : ℕ) → Proper (decimal n)
+pub decimal_proper : (n : ℕ) → Proper (decimal n)
 unfolding decimal
-decimal-proper n = decimal-by 20 n
+decimal_proper n = decimal_by_lem 20 n
 
 -- ---- a text of the image
 
 module _ (im : Image) (bytes : AllBytes im.bytes) where
-  part-proper : {t : ℕ} {fs : List Field} → FieldsFit im Texts t 0 (map sortOf (fields_of 2)) fs →
+  part_proper : {t : ℕ} {fs : List Field} → FieldsFit im Texts t 0 (map sort_of (fields_of 2)) fs →
       Proper (take (second (slice_index_or fs 0 no_field)) (drop (first (slice_index_or fs 0 no_field)) im.bytes))
-  unfolding fields_of fieldsIn schema sortOf
-  part-proper (aPart {a} {n} p u & noFields) = record { bytes = take-bytes n (drop a im.bytes) (drop-bytes a im.bytes bytes); is-utf8 = u }
+  unfolding fields_of fields_in_lem schema sort_of
+  part_proper (a_part {a} {n} p u & no_fields) = record { bytes = take_bytes n (drop a im.bytes) (drop_bytes a im.bytes bytes); is_utf8 = u }
 
-  pub text-proper : (t : ℕ) → RecordFits im Texts t (recordOf im Texts t) → Proper (text_of im t)
-  text-proper t h =
-      let r : Rec = recordOf im Texts t in
-      let e : r.kind ≡ 2 = omega (arith, kind-range Texts r.kind h.kind) in
-      part-proper (rw e at h.fields)
+  pub text_proper : (t : ℕ) → RecordFits im Texts t (record_of_lem im Texts t) → Proper (text_of im t)
+  text_proper t h =
+      let r : Rec = record_of_lem im Texts t in
+      let e : r.kind ≡ 2 = omega (arith, kind_range Texts r.kind h.kind) in
+      part_proper (rw e at h.fields)
 
 -- ---- the text of a refinement
 
-integer-proper : (x : ℤ) → Proper (integerText x)
+integer_proper : (x : ℤ) → Proper (integer_text x)
 unfolding ascii
-integer-proper (pos n) = decimal-proper n
-integer-proper (negsuc n) = ascii-proper (ascii "-") refl with decimal-proper (suc n)
+integer_proper (pos n) = decimal_proper n
+integer_proper (negsuc n) = ascii_proper (ascii "-") refl with decimal_proper (suc n)
 
-op-proper : (op : RefineOp) → Proper (refineOpStr op)
+op_proper : (op : RefineOp) → Proper (refine_op_str op)
 unfolding ascii
-op-proper gt = ascii-proper (ascii ">") refl
-op-proper ge = ascii-proper (ascii ">=") refl
-op-proper lt = ascii-proper (ascii "<") refl
-op-proper le = ascii-proper (ascii "<=") refl
-op-proper eq = ascii-proper (ascii "==") refl
-op-proper ne = ascii-proper (ascii "!=") refl
+op_proper gt = ascii_proper (ascii ">") refl
+op_proper ge = ascii_proper (ascii ">=") refl
+op_proper lt = ascii_proper (ascii "<") refl
+op_proper le = ascii_proper (ascii "<=") refl
+op_proper eq = ascii_proper (ascii "==") refl
+op_proper ne = ascii_proper (ascii "!=") refl
 
 -- an operand as an image has it
 abbrev pub OperandReady : Image → RefineOperand ℕ → Type 0
@@ -102,51 +102,51 @@ OperandReady im (str t) = Proper (text_of im t)
 OperandReady im (bool b) = Unit {0}
 OperandReady im (param t) = Proper (text_of im t)
 
-operand-proper : (im : Image) (x : RefineOperand ℕ) → OperandReady im x → Proper (operandStr (mapOperand (text_of im) x))
+operand_proper : (im : Image) (x : RefineOperand ℕ) → OperandReady im x → Proper (operand_str (map_operand (text_of im) x))
 unfolding ascii
-operand-proper im (integer x) h = integer-proper x
-operand-proper im (str t) h = ascii-proper (ascii "\"") refl with h with ascii-proper (ascii "\"") refl
-operand-proper im (bool true) h = ascii-proper (ascii "true") refl
-operand-proper im (bool false) h = ascii-proper (ascii "false") refl
-operand-proper im (param t) h = h
+operand_proper im (integer x) h = integer_proper x
+operand_proper im (str t) h = ascii_proper (ascii "\"") refl with h with ascii_proper (ascii "\"") refl
+operand_proper im (bool true) h = ascii_proper (ascii "true") refl
+operand_proper im (bool false) h = ascii_proper (ascii "false") refl
+operand_proper im (param t) h = h
 
-pub refinement-proper : (im : Image) (name : ℕ) (r : ParamRefinement ℕ) → Proper (text_of im name) → OperandReady im r.operand →
-    Proper (refinementText (text_of im name) (some (mapRefinement (text_of im) r)))
+pub refinement_proper : (im : Image) (name : ℕ) (r : ParamRefinement ℕ) → Proper (text_of im name) → OperandReady im r.operand →
+    Proper (refinement_text (text_of im name) (some (map_refinement (text_of im) r)))
 unfolding ascii
-refinement-proper im name r p q =
-    ascii-proper (ascii "refinement failed: ") refl with p with ascii-proper (ascii " ") refl with op-proper r.op
-    with ascii-proper (ascii " ") refl with operand-proper im r.operand q
+refinement_proper im name r p q =
+    ascii_proper (ascii "refinement failed: ") refl with p with ascii_proper (ascii " ") refl with op_proper r.op
+    with ascii_proper (ascii " ") refl with operand_proper im r.operand q
 
 -- ---- the texts of lowering itself
 
-pub std-proper : Proper (ascii "std")
+pub std_proper : Proper (ascii "std")
 unfolding ascii
-std-proper = ascii-proper (ascii "std") refl
+std_proper = ascii_proper (ascii "std") refl
 
-pub res-proper : Proper (ascii "res")
+pub res_proper : Proper (ascii "res")
 unfolding ascii
-res-proper = ascii-proper (ascii "res") refl
+res_proper = ascii_proper (ascii "res") refl
 
-pub unwrap-proper : Proper (ascii "result_unwrap")
+pub unwrap_proper : Proper (ascii "result_unwrap_lem")
 unfolding ascii
-unwrap-proper = ascii-proper (ascii "result_unwrap") refl
+unwrap_proper = ascii_proper (ascii "result_unwrap_lem") refl
 
-pub is-err-proper : Proper (ascii "is_err")
+pub is_err_proper : Proper (ascii "is_err_lem")
 unfolding ascii
-is-err-proper = ascii-proper (ascii "is_err") refl
+is_err_proper = ascii_proper (ascii "is_err_lem") refl
 
-pub ret-proper : Proper (ascii "ret")
+pub ret_proper : Proper (ascii "ret")
 unfolding ascii
-ret-proper = ascii-proper (ascii "ret") refl
+ret_proper = ascii_proper (ascii "ret") refl
 
-pub temp-proper : (n : ℕ) → Proper (ascii "__ensure_ret_" ++ decimal n)
+pub temp_proper : (n : ℕ) → Proper (ascii "__ensure_ret_" ++ decimal n)
 unfolding ascii
-temp-proper n = ascii-proper (ascii "__ensure_ret_") refl with decimal-proper n
+temp_proper n = ascii_proper (ascii "__ensure_ret_") refl with decimal_proper n
 
-pub requires-proper : Proper (ascii "requires violated")
+pub requires_proper : Proper (ascii "requires violated")
 unfolding ascii
-requires-proper = ascii-proper (ascii "requires violated") refl
+requires_proper = ascii_proper (ascii "requires violated") refl
 
-pub ensures-proper : Proper (ascii "ensures violated")
+pub ensures_proper : Proper (ascii "ensures violated")
 unfolding ascii
-ensures-proper = ascii-proper (ascii "ensures violated") refl
+ensures_proper = ascii_proper (ascii "ensures violated") refl

@@ -7,11 +7,11 @@ use Rattle.std.proofs.Common.{arith}
 use Rattle.std.proofs.lemmas.Bool.{eqb-false}
 use Rattle.rl_spec.specs.declared.ParamRefinement.TheVariants.{Unrefined, Refined}
 use Rattle.rl_spec.specs.declared.Section.TheVariants.{Texts, Parameters}
-use Rattle.rl_spec.specs.Image.{Rec, Image, size_of, recordOf, SortFits, OperandFits}
+use Rattle.rl_spec.specs.Image.{Rec, Image, size_of, record_of_lem, SortFits, OperandFits}
 use Rattle.rl_spec.specs.Tree.{signed, number}
 use Rattle.rl_spec.specs.Words.{bits64}
-use Rattle.rl_spec.specs.Records.{refineOp, refineOperand, param_at}
-use Rattle.rl_spec.specs.Contracts.{RefineOperand, integer, str, bool, param, ParamRefinement, operandOf, refinementOf, paramOf}
+use Rattle.rl_spec.specs.Records.{refine_op, refine_operand, param_at}
+use Rattle.rl_spec.specs.FnContracts.{RefineOperand, integer, str, bool, param, ParamRefinement, operand_of, refinement_of, param_of}
 use Rattle.rl_images.specs.Images.FunctionFields.{ParameterFits}
 
 abbrev pub OperandSays : Image → RefineOperand ℕ → Type 0
@@ -31,26 +31,26 @@ signed_below x p = go (nat_lt x (2 ^ 63))
     go true = omega arith
     go false = omega arith
 
-sort-some : (n x : ℕ) → (n ≢ 0) → SortFits n x → 1 ≤ x
-sort-some zero x z h = absurd (z refl)
-sort-some (suc n) x z h = h.0
+sort_some : (n x : ℕ) → (n ≢ 0) → SortFits n x → 1 ≤ x
+sort_some zero x z h = absurd (z refl)
+sort_some (suc n) x z h = h.0
 
 module _ (im : Image) where
-  operand-says : (sort x : ℕ) → 1 ≤ sort → OperandFits im sort x → OperandSays im (operandOf (refineOperand sort x))
-  operand-says zero x l h = absurd (omega arith)
-  operand-says (suc zero) x l h = signed_below x h
-  operand-says (suc (suc zero)) x l h = omega arith
-  operand-says (suc (suc (suc zero))) x l h = tt
-  operand-says (suc (suc (suc (suc zero)))) x l h = omega arith
-  operand-says (suc (suc (suc (suc (suc n))))) x l h = absurd h
+  operand_says : (sort x : ℕ) → 1 ≤ sort → OperandFits im sort x → OperandSays im (operand_of (refine_operand sort x))
+  operand_says zero x l h = absurd (omega arith)
+  operand_says (suc zero) x l h = signed_below x h
+  operand_says (suc (suc zero)) x l h = omega arith
+  operand_says (suc (suc (suc zero))) x l h = tt
+  operand_says (suc (suc (suc (suc zero)))) x l h = omega arith
+  operand_says (suc (suc (suc (suc (suc n))))) x l h = absurd h
 
-  by-sort : (n sort x : ℕ) → SortFits n sort → OperandFits im sort x → (b : Bool) → (n == 0) ≡ b →
-      RefinementSays im (refinementOf (cond b Unrefined (Refined (refineOp n) (refineOperand sort x))))
-  by-sort n sort x h o true e = tt
-  by-sort n sort x h o false e = operand-says sort x (sort-some n sort (eqb-false n 0 e) h) o
+  by_sort : (n sort x : ℕ) → SortFits n sort → OperandFits im sort x → (b : Bool) → (n == 0) ≡ b →
+      RefinementSays im (refinement_of (cond b Unrefined (Refined (refine_op n) (refine_operand sort x))))
+  by_sort n sort x h o true e = tt
+  by_sort n sort x h o false e = operand_says sort x (sort_some n sort (eqb-false n 0 e) h) o
 
-  pub refinement-says : (i : ℕ) → ParameterFits im (recordOf im Parameters i) → RefinementSays im (paramOf im i).refinement
-  unfolding paramOf param_at
-  refinement-says i x =
-      let r : Rec = recordOf im Parameters i in
-      by-sort (number r 2) (number r 3) (number r 4) x.sort x.operand (number r 2 == 0) refl
+  pub refinement_says : (i : ℕ) → ParameterFits im (record_of_lem im Parameters i) → RefinementSays im (param_of im i).refinement
+  unfolding param_of param_at
+  refinement_says i x =
+      let r : Rec = record_of_lem im Parameters i in
+      by_sort (number r 2) (number r 3) (number r 4) x.sort x.operand (number r 2 == 0) refl

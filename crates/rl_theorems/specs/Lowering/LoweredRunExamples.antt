@@ -5,15 +5,15 @@ use Rattle.std.specs.Prelude.{◌≡◌, ℕ, Bool, true, false, List, [], ◌�
 use Rattle.std.proofs.Common.{ap, true≢false}
 use Rattle.std.proofs.Math.Option.{Option, none, some}
 use Rattle.rl_spec.specs.Values as value
-use Rattle.rl_spec.specs.Values.{sameText, compareValues, arithValues, bang}
-use Rattle.rl_spec.specs.Tree.{Expr, literal, identifier, unary, binary, assign, okLiteral, errLiteral, isErr, resultUnwrap, ascii}
-use Rattle.rl_spec.specs.Fold.{unaryValue, binaryValue}
-use Rattle.rl_spec.specs.Statement.{Stmt, declaration, expression, return, conditional, while, Body, nil, ◌▸◌, Branch, branch, noElse, elseConditional}
-use Rattle.rl_spec.specs.Message.{decimalBy, decimal}
+use Rattle.rl_spec.specs.Values.{same_text, compare_values, arith_values, bang}
+use Rattle.rl_spec.specs.Tree.{Expr, literal, identifier, unary, binary, assign, ok_literal, err_literal, is_err_lem, result_unwrap_lem, ascii}
+use Rattle.rl_spec.specs.Fold.{unary_value, binary_value}
+use Rattle.rl_spec.specs.Statement.{Stmt, declaration, expression, return, conditional, while, Body, nil, ◌▸◌, Branch, branch, no_else, else_conditional}
+use Rattle.rl_spec.specs.Message.{decimal_by, decimal}
 use Rattle.rl_spec.specs.Mapped.{Text}
 use Rattle.rl_spec.specs.Run.{Plain, folded, Value, plain, ok, err, folds, Outcome, returned, stopped, fault, spent, used, find, update, eval}
-use Rattle.rl_spec.specs.Reading.{Check, Function, checks, turns, stmt, body, top, runFunction, reading}
-use Rattle.rl_theorems.specs.Lowering.LowerTrees.{◌⧺◌, guards, transformStmt, trailing, withoutLast, lowered}
+use Rattle.rl_spec.specs.Reading.{Check, Function, checks, turns, stmt, body, top, run_function, reading}
+use Rattle.rl_theorems.specs.Lowering.LowerTrees.{◌⧺◌, guards, transform_stmt, trailing, without_last, lowered}
 use Rattle.rl_theorems.specs.Lowering.LowerFrame.{begins, CleanChecks}
 use Rattle.rl_theorems.specs.Lowering.LowerBodies.{Ensured}
 use Rattle.rl_theorems.specs.Lowering.LoweredRuns.{Premises}
@@ -52,7 +52,7 @@ if e b = branch (some e) b
 
 -- what a guard of a function that is no result function is
 abbrev refused : Expr Text → Stmt Text
-refused e = conditional (if (unary 5 e) (one (expression (resultUnwrap (errLiteral no))))) noElse
+refused e = conditional (if (unary 5 e) (one (expression (result_unwrap_lem (err_literal no))))) no_else
 
 -- ---- two functions that meet the premises
 
@@ -60,68 +60,68 @@ refused e = conditional (if (unary 5 e) (one (expression (resultUnwrap (errLiter
 abbrev counting : Body Text
 counting =
     while (binary x 8 (number 3)) (one (expression (assign (ascii "x") (binary x 1 (number 1)))))
-    ▸ conditional (if (binary x 10 (number 5)) (one (return x))) (elseConditional (if (binary x 6 (number 4)) (one (return (number 0)))) noElse)
+    ▸ conditional (if (binary x 10 (number 5)) (one (return x))) (else_conditional (if (binary x 6 (number 4)) (one (return (number 0)))) no_else)
     ▸ one (return x)
 
-abbrev pub plainOne : Function Text
-plainOne =
+abbrev pub plain_one : Function Text
+plain_one =
     record {
       name = ascii "f";
       params = ascii "x" ∷ [];
-      isResult = false;
+      is_result = false;
       entry = must (binary x 10 (number 0)) ∷ [];
       ensures = must (binary ret 8 (number 7)) ∷ [];
       body = counting;
     }
 
 -- of a result function, ensures ret < 7: the bare only statement ok(x)
-abbrev pub resultOne : Function Text
-resultOne =
+abbrev pub result_one : Function Text
+result_one =
     record {
       name = ascii "f";
       params = ascii "x" ∷ [];
-      isResult = true;
+      is_result = true;
       entry = [];
       ensures = must (binary ret 8 (number 7)) ∷ [];
-      body = one (expression (okLiteral x));
+      body = one (expression (ok_literal x));
     }
 
-pub plain-meets : Premises plainOne
+pub plain_meets : Premises plain_one
 unfolding CleanChecks begins ascii
-plain-meets = record { ensures = ((refl, tt), tt, tt); last = refl }
+plain_meets = record { ensures = ((refl, tt), tt, tt); last = refl }
 
-pub result-meets : Premises resultOne
+pub result_meets : Premises result_one
 unfolding CleanChecks begins ascii
-result-meets = record { ensures = ((refl, tt), tt, tt); last = tt }
+result_meets = record { ensures = ((refl, tt), tt, tt); last = tt }
 
 -- ---- what lowering makes of them
 
 -- the return in the conditional that is an else branch is left alone; the last return has the second temporary
-pub plain-lowered : (lowered plainOne).body ≡
+pub plain_lowered : (lowered plain_one).body ≡
     refused (binary x 10 (number 0))
     ▸ while (binary x 8 (number 3)) (one (expression (assign (ascii "x") (binary x 1 (number 1)))))
     ▸ conditional
     (if (binary x 10 (number 5))
     (declaration first x ▸ declaration (ascii "ret") (identifier first) ▸ refused (binary ret 8 (number 7)) ▸ one (return (identifier first))))
-    (elseConditional (if (binary x 6 (number 4)) (one (return (number 0)))) noElse)
+    (else_conditional (if (binary x 6 (number 4)) (one (return (number 0)))) no_else)
     ▸ declaration second x ▸ declaration (ascii "ret") (identifier second) ▸ refused (binary ret 8 (number 7)) ▸ one (return (identifier second))
-unfolding lowered guards transformStmt trailing withoutLast ◌⧺◌ decimal decimalBy ascii
-plain-lowered = refl
+unfolding lowered guards transform_stmt trailing without_last ◌⧺◌ decimal decimal_by ascii
+plain_lowered = refl
 
-pub result-lowered : (lowered resultOne).body ≡
-    declaration first (okLiteral x)
-    ▸ conditional (if (isErr (identifier first)) (one (return (identifier first)))) noElse
-    ▸ declaration (ascii "ret") (resultUnwrap (identifier first))
-    ▸ conditional (if (unary 5 (binary ret 8 (number 7))) (one (return (errLiteral no)))) noElse
+pub result_lowered : (lowered result_one).body ≡
+    declaration first (ok_literal x)
+    ▸ conditional (if (is_err_lem (identifier first)) (one (return (identifier first)))) no_else
+    ▸ declaration (ascii "ret") (result_unwrap_lem (identifier first))
+    ▸ conditional (if (unary 5 (binary ret 8 (number 7))) (one (return (err_literal no)))) no_else
     ▸ one (return (identifier first))
-unfolding lowered guards transformStmt trailing withoutLast ◌⧺◌ decimal decimalBy ascii
-result-lowered = refl
+unfolding lowered guards transform_stmt trailing without_last ◌⧺◌ decimal decimal_by ascii
+result_lowered = refl
 
 -- ---- functions that do not meet them
 
 -- `return 5` under ensures
 abbrev five : Check Text → Function Text
-five c = record { name = ascii "f"; params = []; isResult = false; entry = []; ensures = c ∷ []; body = one (return (number 5)) }
+five c = record { name = ascii "f"; params = []; is_result = false; entry = []; ensures = c ∷ []; body = one (return (number 5)) }
 
 -- a condition that looks a temporary up, a message that does, and a condition that assigns one
 abbrev looking : Function Text
@@ -139,38 +139,38 @@ after =
     record {
       name = ascii "f";
       params = [];
-      isResult = false;
+      is_result = false;
       entry = [];
       ensures = must (truth true) ∷ [];
       body = declaration (ascii "x") (number 1) ▸ one (expression x);
     }
 
-pub looking-fails : Premises looking → ⊥
+pub looking_fails : Premises looking → ⊥
 unfolding CleanChecks begins ascii
-looking-fails p = true≢false p.ensures.0.0
+looking_fails p = true≢false p.ensures.0.0
 
-pub telling-fails : Premises telling → ⊥
+pub telling_fails : Premises telling → ⊥
 unfolding CleanChecks begins ascii
-telling-fails p = true≢false p.ensures.1
+telling_fails p = true≢false p.ensures.1
 
-pub changing-fails : Premises changing → ⊥
+pub changing_fails : Premises changing → ⊥
 unfolding CleanChecks begins ascii
-changing-fails p = true≢false p.ensures.0.0.0
+changing_fails p = true≢false p.ensures.0.0.0
 
 abbrev given : Option (Expr Text) → Bool
 given none = false
 given (some e) = true
 
-pub after-fails : Premises after → ⊥
-after-fails p = true≢false (ap given p.last)
+pub after_fails : Premises after → ⊥
+after_fails p = true≢false (ap given p.last)
 
 -- each of them meets the other premise
-pub five-last : (c : Check Text) → Ensured (five c).ensures (five c).body
-five-last c = tt
+pub five_last : (c : Check Text) → Ensured (five c).ensures (five c).body
+five_last c = tt
 
-pub after-ensures : CleanChecks after.ensures
+pub after_ensures : CleanChecks after.ensures
 unfolding CleanChecks
-after-ensures = (tt, tt, tt)
+after_ensures = (tt, tt, tt)
 
 -- ---- the list: the run of the lowered function, and the reading
 
@@ -198,16 +198,16 @@ said = folded (value.str (ascii "no"))
 unfoldable pub cases : List Case
 cases =
     -- the entry check fails; holds; a return that is not checked; one that is, and fails; the budget
-    both plainOne (0 ∷ []) 1000 (stopped said) 9
-    ∷ both plainOne (1 ∷ []) 1000 (returned (plain (int 3))) 46
-    ∷ both plainOne (4 ∷ []) 1000 (returned (plain (int 0))) 19
-    ∷ both plainOne (6 ∷ []) 1000 (returned (plain (int 6))) 25
-    ∷ both plainOne (7 ∷ []) 1000 (stopped said) 27
-    ∷ both plainOne (6 ∷ []) 25 (returned (plain (int 6))) 25
-    ∷ both plainOne (6 ∷ []) 24 spent 24
+    both plain_one (0 ∷ []) 1000 (stopped said) 9
+    ∷ both plain_one (1 ∷ []) 1000 (returned (plain (int 3))) 46
+    ∷ both plain_one (4 ∷ []) 1000 (returned (plain (int 0))) 19
+    ∷ both plain_one (6 ∷ []) 1000 (returned (plain (int 6))) 25
+    ∷ both plain_one (7 ∷ []) 1000 (stopped said) 27
+    ∷ both plain_one (6 ∷ []) 25 (returned (plain (int 6))) 25
+    ∷ both plain_one (6 ∷ []) 24 spent 24
     -- of a result function
-    ∷ both resultOne (3 ∷ []) 1000 (returned (ok (int 3))) 16
-    ∷ both resultOne (7 ∷ []) 1000 (returned (err said)) 17
+    ∷ both result_one (3 ∷ []) 1000 (returned (ok (int 3))) 16
+    ∷ both result_one (7 ∷ []) 1000 (returned (err said)) 17
     -- NEEDED: no reserved name in the ensures
     ∷ apart looking (returned (plain (int 5))) 11 (fault 3) 8
     ∷ apart telling (stopped (int 5)) 11 (fault 3) 11
@@ -217,12 +217,12 @@ cases =
     ∷ []
 
 -- THEOREM: each of them ends so
-pub runs-end-so :
-    map (λ c. used c.budget (runFunction (λ t. t) (lowered c.function) c.values c.budget)) cases ≡ map (λ c. c.runs) cases
-unfolding cases lowered guards transformStmt trailing withoutLast ◌⧺◌ decimal decimalBy ascii runFunction turns top stmt eval find update sameText unaryValue binaryValue bang compareValues arithValues
-runs-end-so = refl
+pub runs_end_so :
+    map (λ c. used c.budget (run_function (λ t. t) (lowered c.function) c.values c.budget)) cases ≡ map (λ c. c.runs) cases
+unfolding cases lowered guards transform_stmt trailing without_last ◌⧺◌ decimal decimal_by ascii run_function turns top stmt eval find update same_text unary_value binary_value bang compare_values arith_values
+runs_end_so = refl
 
-pub reads-end-so :
+pub reads_end_so :
     map (λ c. used c.budget (reading (λ t. t) (ascii "ret") c.function c.values c.budget)) cases ≡ map (λ c. c.reads) cases
-unfolding cases ascii reading checks turns top stmt eval find update sameText unaryValue binaryValue bang compareValues arithValues
-reads-end-so = refl
+unfolding cases ascii reading checks turns top stmt eval find update same_text unary_value binary_value bang compare_values arith_values
+reads_end_so = refl

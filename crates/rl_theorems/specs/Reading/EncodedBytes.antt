@@ -5,69 +5,69 @@ use Rattle.std.proofs.Common.{sym, subst, arith, lit<}
 use Rattle.rl_spec.specs.declared.Section.{Section}
 use Rattle.rl_spec.specs.declared.Section.TheVariants.{Texts, Lists, Expressions, Statements, Parameters, Clauses, Functions, Calls}
 use Rattle.rl_spec.specs.declared.Sort.{Sort}
-use Rattle.rl_spec.specs.Schema.{sections, highest, sortOf, width_of, fields_of}
-use Rattle.rl_spec.specs.Image.{Field, num, pair, Rec, Image, recordsOf, noRecord, recordOf, bytes_of, encodeField, encodeFields, encodeRecord, encodeRecords, encodeSections, encodeCounts, encode, AllBytes, WellFormed}
-use Rattle.rl_images.specs.Images.SchemaSorts.{kind-range}
-use Rattle.rl_images.specs.Encoding.Header.{records-are}
+use Rattle.rl_spec.specs.Schema.{sections, highest, sort_of, width_of, fields_of}
+use Rattle.rl_spec.specs.Image.{Field, num, pair, Rec, Image, records_of, no_record, record_of_lem, bytes_of, encode_field, encode_fields, encode_record, encode_records, encode_sections, encode_counts, encode, AllBytes, WellFormed}
+use Rattle.rl_images.specs.Images.SchemaSorts.{kind_range}
+use Rattle.rl_images.specs.Encoding.Header.{records_are}
 
-pub append-bytes : (x y : List ℕ) → AllBytes x → AllBytes y → AllBytes (x ++ y)
-append-bytes [] y a b = b
-append-bytes (n ∷ x) y a b = (a.0, append-bytes x y a.1 b)
+pub append_bytes_lem : (x y : List ℕ) → AllBytes x → AllBytes y → AllBytes (x ++ y)
+append_bytes_lem [] y a b = b
+append_bytes_lem (n ∷ x) y a b = (a.0, append_bytes_lem x y a.1 b)
 
-number-bytes : (n x : ℕ) → AllBytes (bytes_of n x)
+number_bytes : (n x : ℕ) → AllBytes (bytes_of n x)
 unfolding bytes_of
-number-bytes zero x = tt
-number-bytes (suc n) x = (omega arith, number-bytes n (x / 256))
+number_bytes zero x = tt
+number_bytes (suc n) x = (omega arith, number_bytes n (x / 256))
 
-field-bytes : (k : Sort) (f : Field) → AllBytes (encodeField k f)
-field-bytes k (num x) = number-bytes (width_of k) x
-field-bytes k (pair a b) = append-bytes (bytes_of 2 a) (bytes_of 2 b) (number-bytes 2 a) (number-bytes 2 b)
+field_bytes : (k : Sort) (f : Field) → AllBytes (encode_field k f)
+field_bytes k (num x) = number_bytes (width_of k) x
+field_bytes k (pair a b) = append_bytes_lem (bytes_of 2 a) (bytes_of 2 b) (number_bytes 2 a) (number_bytes 2 b)
 
-fields-bytes : (cs : List ℕ) (fs : List Field) → AllBytes (encodeFields cs fs)
-unfolding encodeFields
-fields-bytes [] fs = tt
-fields-bytes (c ∷ cs) [] = tt
-fields-bytes (c ∷ cs) (f ∷ fs) = append-bytes (encodeField (sortOf c) f) (encodeFields cs fs) (field-bytes (sortOf c) f) (fields-bytes cs fs)
+fields_bytes : (cs : List ℕ) (fs : List Field) → AllBytes (encode_fields cs fs)
+unfolding encode_fields
+fields_bytes [] fs = tt
+fields_bytes (c ∷ cs) [] = tt
+fields_bytes (c ∷ cs) (f ∷ fs) = append_bytes_lem (encode_field (sort_of c) f) (encode_fields cs fs) (field_bytes (sort_of c) f) (fields_bytes cs fs)
 
-records-bytes : (rs : List Rec) → ((n : ℕ) → n < length rs → (slice_index_or rs n noRecord).kind < 256) → AllBytes (encodeRecords rs)
-unfolding encodeRecords encodeRecord
-records-bytes [] f = tt
-records-bytes (r ∷ rs) f =
-    append-bytes (encodeRecord r) (encodeRecords rs) (f 0 (omega arith), fields-bytes (fields_of r.kind) r.fields)
-    (records-bytes rs (λ n l. f (suc n) (omega arith)))
+records_bytes : (rs : List Rec) → ((n : ℕ) → n < length rs → (slice_index_or rs n no_record).kind < 256) → AllBytes (encode_records rs)
+unfolding encode_records encode_record
+records_bytes [] f = tt
+records_bytes (r ∷ rs) f =
+    append_bytes_lem (encode_record r) (encode_records rs) (f 0 (omega arith), fields_bytes (fields_of r.kind) r.fields)
+    (records_bytes rs (λ n l. f (suc n) (omega arith)))
 
-counts-bytes : (rss : List (List Rec)) → AllBytes (encodeCounts rss)
-unfolding encodeCounts
-counts-bytes [] = tt
-counts-bytes (rs ∷ rss) = append-bytes (bytes_of 2 (length rs)) (encodeCounts rss) (number-bytes 2 (length rs)) (counts-bytes rss)
+counts_bytes : (rss : List (List Rec)) → AllBytes (encode_counts rss)
+unfolding encode_counts
+counts_bytes [] = tt
+counts_bytes (rs ∷ rss) = append_bytes_lem (bytes_of 2 (length rs)) (encode_counts rss) (number_bytes 2 (length rs)) (counts_bytes rss)
 
-kind-small : (o : Section) → highest o < 256
-kind-small Texts = lit< tt
-kind-small Lists = lit< tt
-kind-small Expressions = lit< tt
-kind-small Statements = lit< tt
-kind-small Parameters = lit< tt
-kind-small Clauses = lit< tt
-kind-small Functions = lit< tt
-kind-small Calls = lit< tt
+kind_small : (o : Section) → highest o < 256
+kind_small Texts = lit< tt
+kind_small Lists = lit< tt
+kind_small Expressions = lit< tt
+kind_small Statements = lit< tt
+kind_small Parameters = lit< tt
+kind_small Clauses = lit< tt
+kind_small Functions = lit< tt
+kind_small Calls = lit< tt
 
-sections-bytes : (im : Image) → WellFormed im → (os : List Section) → AllBytes (encodeSections (map (recordsOf im) os))
-unfolding encodeSections
-sections-bytes im wf [] = tt
-sections-bytes im wf (o ∷ os) =
-    append-bytes (encodeRecords (recordsOf im o)) (encodeSections (map (recordsOf im) os))
-    (records-bytes (recordsOf im o) (λ n l. omega (arith, kind-small o, kind-range o (recordOf im o n).kind (wf.fits o n l).kind)))
-    (sections-bytes im wf os)
+sections_bytes : (im : Image) → WellFormed im → (os : List Section) → AllBytes (encode_sections (map (records_of im) os))
+unfolding encode_sections
+sections_bytes im wf [] = tt
+sections_bytes im wf (o ∷ os) =
+    append_bytes_lem (encode_records (records_of im o)) (encode_sections (map (records_of im) os))
+    (records_bytes (records_of im o) (λ n l. omega (arith, kind_small o, kind_range o (record_of_lem im o n).kind (wf.fits o n l).kind)))
+    (sections_bytes im wf os)
 
-pub encoded-bytes : (im : Image) → WellFormed im → AllBytes (encode im)
+pub encoded_bytes : (im : Image) → WellFormed im → AllBytes (encode im)
 unfolding encode
-encoded-bytes im wf =
+encoded_bytes im wf =
     let a : List ℕ = 1 ∷ bytes_of 4 im.arena in
     let b : List ℕ = bytes_of 2 (length im.bytes) in
-    let c : List ℕ = encodeCounts im.records in
-    let d : AllBytes (encodeSections im.records) = subst (λ (rss : List (List Rec)). AllBytes (encodeSections rss)) (sym (records-are im wf)) (sections-bytes im wf sections) in
-    append-bytes (a ++ b ++ c ++ im.bytes) (encodeSections im.records)
-    (append-bytes (a ++ b ++ c) im.bytes
-    (append-bytes (a ++ b) c (append-bytes a b (lit< tt, number-bytes 4 im.arena) (number-bytes 2 (length im.bytes))) (counts-bytes im.records))
+    let c : List ℕ = encode_counts im.records in
+    let d : AllBytes (encode_sections im.records) = subst (λ (rss : List (List Rec)). AllBytes (encode_sections rss)) (sym (records_are im wf)) (sections_bytes im wf sections) in
+    append_bytes_lem (a ++ b ++ c ++ im.bytes) (encode_sections im.records)
+    (append_bytes_lem (a ++ b ++ c) im.bytes
+    (append_bytes_lem (a ++ b) c (append_bytes_lem a b (lit< tt, number_bytes 4 im.arena) (number_bytes 2 (length im.bytes))) (counts_bytes im.records))
     wf.bytes)
     d

@@ -6,12 +6,12 @@ use Rattle.rl_spec.specs.declared.Answer.TheVariants.{Accepted}
 use Rattle.rl_spec.specs.declared.Section.{Section}
 use Rattle.rl_spec.specs.declared.Section.TheVariants.{Texts, Lists, Expressions, Statements, Parameters, Clauses, Functions, Calls}
 use Rattle.rl_spec.specs.declared.Target.{Target}
-use Rattle.rl_spec.specs.Schema.{limits, sections, inSection, sortOf, fields_of, fieldsIn, schema}
-use Rattle.rl_spec.specs.Utf8.{within, utf8Char, begins, width_by, charWidth, octets, utf8}
-use Rattle.rl_spec.specs.Bytes.{u16At, u32_at, past}
-use Rattle.rl_spec.specs.Fields.{kindOfStatement, allowed, childHeight, entry_at, range_of, part_of, byteIn, referTo, entriesFrom, list_of, value_of, field_at, fieldsFrom, recordAt}
-use Rattle.rl_spec.specs.Read.{countsOf, countsFrom, headerOf, recordsFrom, sectionsFrom, end_of, body_of, read_of, answer_of}
-use Rattle.rl_spec.specs.Image.{Field, num, pair, Rec, Image, size_of, recordOf, bytes_of, encodeFields, encodeRecord, encodeRecords, encodeSections, encodeCounts, encode, tallestEntry, tallestChild, heightsFrom, heights, Refers, aRaw, aByte, aPart, aReference, aList, aRange, noFields, ◌&◌, RecordFits, WellFormed}
+use Rattle.rl_spec.specs.Schema.{limits, sections, in_section, sort_of, fields_of, fields_in_lem, schema}
+use Rattle.rl_spec.specs.Utf8.{within, utf8_char, begins, width_by, char_width, octets, utf8}
+use Rattle.rl_spec.specs.Bytes.{u16_at, u32_at, past}
+use Rattle.rl_spec.specs.Fields.{kind_of_statement, allowed, child_height, entry_at, range_of, part_of, byte_in, refer_to, entries_from, list_of, value_of, field_at, fields_from, record_at}
+use Rattle.rl_spec.specs.Read.{counts_of, counts_from, header_of, records_from, sections_from, end_of, body_of, read_of, answer_of}
+use Rattle.rl_spec.specs.Image.{Field, num, pair, Rec, Image, size_of, record_of_lem, bytes_of, encode_fields, encode_record, encode_records, encode_sections, encode_counts, encode, tallest_entry, tallest_child, heights_from, heights, Refers, a_raw, a_byte, a_part, a_reference, a_list, a_range, no_fields, ◌&◌, RecordFits, WellFormed}
 
 abbrev made : ℕ → List Field → Rec
 made k fs = record { kind = k; fields = fs }
@@ -33,53 +33,53 @@ example =
           ∷ (made 83 (num 0 ∷ num 5 ∷ pair 0 1 ∷ []) ∷ []) ∷ [];
     }
 
-example-fits : (o : Section) (i : ℕ) → i < size_of example o → RecordFits example o i (recordOf example o i)
-unfolding inSection fields_of fieldsIn schema sortOf heights heightsFrom tallestChild tallestEntry utf8 octets charWidth width_by begins utf8Char within
-example-fits Texts zero l = record { kind = refl; fields = aPart (lit≤ tt) refl & noFields; height = lit≤ tt }
-example-fits Texts (suc i) l = absurd (omega arith)
-example-fits Lists zero l = record { kind = refl; fields = aRaw (lit< tt) & noFields; height = lit≤ tt }
-example-fits Lists (suc i) l = absurd (omega arith)
-example-fits Expressions zero l = record { kind = refl; fields = aRaw (lit< tt) & noFields; height = lit≤ tt }
-example-fits Expressions (suc zero) l =
-    record { kind = refl; fields = aRaw (lit< tt) & aReference (record { earlier = lit< tt; taken = refl }) & noFields; height = lit≤ tt }
-example-fits Expressions (suc (suc i)) l = absurd (omega arith)
-example-fits Statements zero l =
-    record { kind = refl; fields = aRaw (lit< tt) & aReference (record { earlier = lit< tt; taken = refl }) & noFields; height = lit≤ tt }
-example-fits Statements (suc i) l = absurd (omega arith)
-example-fits Parameters i l = absurd (omega arith)
-example-fits Clauses i l = absurd (omega arith)
-example-fits Functions zero l =
+example_fits : (o : Section) (i : ℕ) → i < size_of example o → RecordFits example o i (record_of_lem example o i)
+unfolding in_section fields_of fields_in_lem schema sort_of heights heights_from tallest_child tallest_entry utf8 octets char_width width_by begins utf8_char within
+example_fits Texts zero l = record { kind = refl; fields = a_part (lit≤ tt) refl & no_fields; height = lit≤ tt }
+example_fits Texts (suc i) l = absurd (omega arith)
+example_fits Lists zero l = record { kind = refl; fields = a_raw (lit< tt) & no_fields; height = lit≤ tt }
+example_fits Lists (suc i) l = absurd (omega arith)
+example_fits Expressions zero l = record { kind = refl; fields = a_raw (lit< tt) & no_fields; height = lit≤ tt }
+example_fits Expressions (suc zero) l =
+    record { kind = refl; fields = a_raw (lit< tt) & a_reference (record { earlier = lit< tt; taken = refl }) & no_fields; height = lit≤ tt }
+example_fits Expressions (suc (suc i)) l = absurd (omega arith)
+example_fits Statements zero l =
+    record { kind = refl; fields = a_raw (lit< tt) & a_reference (record { earlier = lit< tt; taken = refl }) & no_fields; height = lit≤ tt }
+example_fits Statements (suc i) l = absurd (omega arith)
+example_fits Parameters i l = absurd (omega arith)
+example_fits Clauses i l = absurd (omega arith)
+example_fits Functions zero l =
     let name : Refers example Functions 0 Target.Text 0 = record { earlier = lit< tt; taken = refl } in
     let body : Refers example Functions 0 Target.Statement 0 = record { earlier = lit< tt; taken = refl } in
     record {
       kind = refl;
-      fields = aReference name & aRaw (lit< tt) & aRange (lit≤ tt) & aByte (lit≤ tt) (lit≤ tt) & aList {n = 1} (lit≤ tt) refl (body, tt)
-          & aRange (lit≤ tt) & aRange (lit≤ tt) & noFields;
+      fields = a_reference name & a_raw (lit< tt) & a_range (lit≤ tt) & a_byte (lit≤ tt) (lit≤ tt) & a_list {n = 1} (lit≤ tt) refl (body, tt)
+          & a_range (lit≤ tt) & a_range (lit≤ tt) & no_fields;
       height = lit≤ tt;
     }
-example-fits Functions (suc i) l = absurd (omega arith)
-example-fits Calls zero l =
+example_fits Functions (suc i) l = absurd (omega arith)
+example_fits Calls zero l =
     let callee : Refers example Calls 0 Target.Text 0 = record { earlier = lit< tt; taken = refl } in
     let argument : Refers example Calls 0 Target.Expression 0 = record { earlier = lit< tt; taken = refl } in
     record {
       kind = refl;
-      fields = aReference callee & aRaw (lit< tt) & aList {n = 1} (lit≤ tt) refl (argument, tt) & noFields;
+      fields = a_reference callee & a_raw (lit< tt) & a_list {n = 1} (lit≤ tt) refl (argument, tt) & no_fields;
       height = lit≤ tt;
     }
-example-fits Calls (suc i) l = absurd (omega arith)
+example_fits Calls (suc i) l = absurd (omega arith)
 
-pub example-well-formed : WellFormed example
-unfolding limits encode encodeCounts encodeSections encodeRecords encodeRecord encodeFields bytes_of fields_of fieldsIn schema sortOf
-example-well-formed =
+pub example_well_formed : WellFormed example
+unfolding limits encode encode_counts encode_sections encode_records encode_record encode_fields bytes_of fields_of fields_in_lem schema sort_of
+example_well_formed =
     record {
       arena = lit< tt;
       bytes = (lit< tt, tt);
       counts = (lit≤ tt, (lit≤ tt, (lit≤ tt, (lit≤ tt, (lit≤ tt, (lit≤ tt, (lit≤ tt, (lit≤ tt, (lit≤ tt, tt)))))))));
-      fits = example-fits;
+      fits = example_fits;
       size = lit≤ tt;
     }
 
 -- the reader's definition computes on its bytes to what the theorem says
-pub example-accepted : answer_of (encode example) 8192 ≡ Accepted (record { 0 = 7 }) (record { bytes = 1; texts = 1; lists = 1; expressions = 2; statements = 1; parameters = 0; clauses = 0; functions = 1; calls = 1 })
-unfolding encode encodeCounts encodeSections encodeRecords encodeRecord encodeFields bytes_of fields_of fieldsIn schema sortOf answer_of read_of headerOf countsFrom limits countsOf body_of end_of sectionsFrom sections recordsFrom recordAt inSection fieldsFrom field_at value_of referTo allowed kindOfStatement childHeight entry_at entriesFrom list_of range_of part_of byteIn past u16At u32_at utf8 octets charWidth width_by begins utf8Char within
-example-accepted = refl
+pub example_accepted : answer_of (encode example) 8192 ≡ Accepted (record { 0 = 7 }) (record { bytes = 1; texts = 1; lists = 1; expressions = 2; statements = 1; parameters = 0; clauses = 0; functions = 1; calls = 1 })
+unfolding encode encode_counts encode_sections encode_records encode_record encode_fields bytes_of fields_of fields_in_lem schema sort_of answer_of read_of header_of counts_from limits counts_of body_of end_of sections_from sections records_from record_at in_section fields_from field_at value_of refer_to allowed kind_of_statement child_height entry_at entries_from list_of range_of part_of byte_in past u16_at u32_at utf8 octets char_width width_by begins utf8_char within
+example_accepted = refl

@@ -4,7 +4,7 @@
 use Rattle.std.specs.Prelude.{◌≡◌, ℕ, ◌+◌, ◌-◌, ◌<◌, ◌≤◌, Bool, true, false, List, [], nat_lt, refl}
 use Rattle.std.proofs.Common.{ap, subst, arith, ltb-true, ltb-false}
 use Rattle.rl_spec.specs.Run.{Value, Env, Outcome, returned, spent, Result, ending, used, Run}
-use Rattle.rl_spec.specs.Reading.{Function, runFunction, reading}
+use Rattle.rl_spec.specs.Reading.{Function, run_function, reading}
 use Rattle.rl_laws.specs.Steps.{NotSpent, goes, ends, empty, Grown, going, over, dry, Exact, runs, readings}
 
 -- the steps used are at most the budget, and all of it where that is spent
@@ -53,35 +53,35 @@ module _ {T : Type 0} (m : Run T (Value T)) (exact : Exact m) (env : Env T) wher
           subst (λ i. NotSpent (at i).0 → (at i).1 ≤ b → at b ≡ at i) (up_to b n (omega (arith, ltb-true b n e))) (enough (exact env b (n - b))) h l
       go false e = subst (λ i. at i ≡ at n) (up_to n b (ltb-false b n e)) (larger (exact env n (b - n)) h)
 
-  spent-at : (n b : ℕ) → NotSpent (at n).0 → b < (at n).1 → at b ≡ (spent, b)
-  spent-at n b h l =
+  spent_at : (n b : ℕ) → NotSpent (at n).0 → b < (at n).1 → at b ≡ (spent, b)
+  spent_at n b h l =
       let p : b ≤ n = omega (arith, (fair (exact env n 0)).0, l) in
       subst (λ i. NotSpent (at i).0 → b < (at i).1 → at b ≡ (spent, b)) (up_to b n p) (smaller (exact env b (n - b))) h l
 
 -- ---- THEOREMS, of the run and of the contract reading
 
 module _ {T : Type 0} (bytes : T → List ℕ) (f : Function T) (vs : List (Value T)) where
-  pub run-fair : (budget : ℕ) → Fair budget (used budget (runFunction bytes f vs budget))
-  unfolding runFunction
-  run-fair budget = fair (runs bytes f vs [] budget 0)
+  pub run_fair : (budget : ℕ) → Fair budget (used budget (run_function bytes f vs budget))
+  unfolding run_function
+  run_fair budget = fair (runs bytes f vs [] budget 0)
 
-  pub run-same : (n b : ℕ) → NotSpent (runFunction bytes f vs n).0 → (used n (runFunction bytes f vs n)).1 ≤ b → used b (runFunction bytes f vs b) ≡ used n (runFunction bytes f vs n)
-  unfolding runFunction
-  run-same = same_at _ (runs bytes f vs) []
+  pub run_same : (n b : ℕ) → NotSpent (run_function bytes f vs n).0 → (used n (run_function bytes f vs n)).1 ≤ b → used b (run_function bytes f vs b) ≡ used n (run_function bytes f vs n)
+  unfolding run_function
+  run_same = same_at _ (runs bytes f vs) []
 
-  pub run-spent : (n b : ℕ) → NotSpent (runFunction bytes f vs n).0 → b < (used n (runFunction bytes f vs n)).1 → used b (runFunction bytes f vs b) ≡ (spent, b)
-  unfolding runFunction
-  run-spent = spent-at _ (runs bytes f vs) []
+  pub run_spent : (n b : ℕ) → NotSpent (run_function bytes f vs n).0 → b < (used n (run_function bytes f vs n)).1 → used b (run_function bytes f vs b) ≡ (spent, b)
+  unfolding run_function
+  run_spent = spent_at _ (runs bytes f vs) []
 
   module _ (ret : T) where
-    pub reading-fair : (budget : ℕ) → Fair budget (used budget (reading bytes ret f vs budget))
+    pub reading_fair : (budget : ℕ) → Fair budget (used budget (reading bytes ret f vs budget))
     unfolding reading
-    reading-fair budget = fair (readings bytes ret f vs [] budget 0)
+    reading_fair budget = fair (readings bytes ret f vs [] budget 0)
 
-    pub reading-same : (n b : ℕ) → NotSpent (reading bytes ret f vs n).0 → (used n (reading bytes ret f vs n)).1 ≤ b → used b (reading bytes ret f vs b) ≡ used n (reading bytes ret f vs n)
+    pub reading_same : (n b : ℕ) → NotSpent (reading bytes ret f vs n).0 → (used n (reading bytes ret f vs n)).1 ≤ b → used b (reading bytes ret f vs b) ≡ used n (reading bytes ret f vs n)
     unfolding reading
-    reading-same = same_at _ (readings bytes ret f vs) []
+    reading_same = same_at _ (readings bytes ret f vs) []
 
-    pub reading-spent : (n b : ℕ) → NotSpent (reading bytes ret f vs n).0 → b < (used n (reading bytes ret f vs n)).1 → used b (reading bytes ret f vs b) ≡ (spent, b)
+    pub reading_spent : (n b : ℕ) → NotSpent (reading bytes ret f vs n).0 → b < (used n (reading bytes ret f vs n)).1 → used b (reading bytes ret f vs b) ≡ (spent, b)
     unfolding reading
-    reading-spent = spent-at _ (readings bytes ret f vs) []
+    reading_spent = spent_at _ (readings bytes ret f vs) []

@@ -8,48 +8,48 @@ use Rattle.rl_spec.specs.declared.Violation.TheVariants.{Refinement, Requires}
 use Rattle.rl_spec.specs.Image.{Image, text_of}
 use Rattle.rl_spec.specs.Values as value
 use Rattle.rl_spec.specs.Values.{ConstVal}
-use Rattle.rl_spec.specs.Tree.{Expr, null, literal, identifier, unary, binary, grouping, assign, okLiteral, errLiteral, isErr, resultUnwrap, other, ascii}
-use Rattle.rl_spec.specs.Records.{functionAt}
-use Rattle.rl_spec.specs.Contracts.{ContractClause, paramOf, clauseOf}
-use Rattle.rl_spec.specs.Mapped.{Text, mapConst, mapExpr, mapParam, mapClause}
-use Rattle.rl_spec.specs.Message.{paramText, stringOf, stringIn, ownString, orDefault, messageBy}
+use Rattle.rl_spec.specs.Tree.{Expr, null, literal, identifier, unary, binary, grouping, assign, ok_literal, err_literal, is_err_lem, result_unwrap_lem, other, ascii}
+use Rattle.rl_spec.specs.Records.{function_at}
+use Rattle.rl_spec.specs.FnContracts.{ContractClause, param_of, clause_of}
+use Rattle.rl_spec.specs.Mapped.{Text, map_const, map_expr, map_param, map_clause}
+use Rattle.rl_spec.specs.Message.{param_text, string_of, string_in, own_string, or_default, message_by}
 
 module _ {A B : Type 0} (f : A → B) where
-  string-of : (v : Option (ConstVal A)) → stringOf (map (mapConst f) v) ≡ map f (stringOf v)
-  string-of none = refl
-  string-of (some (value.int x)) = refl
-  string-of (some (value.float x)) = refl
-  string-of (some (value.str x)) = refl
-  string-of (some (value.bool x)) = refl
+  string_of_lem : (v : Option (ConstVal A)) → string_of (map (map_const f) v) ≡ map f (string_of v)
+  string_of_lem none = refl
+  string_of_lem (some (value.int x)) = refl
+  string_of_lem (some (value.float x)) = refl
+  string_of_lem (some (value.str x)) = refl
+  string_of_lem (some (value.bool x)) = refl
 
-  string-in : (e : Expr A) → stringIn (mapExpr f e) ≡ map f (stringIn e)
-  unfolding mapExpr
-  string-in null = refl
-  string-in (literal v) = string-of v
-  string-in (identifier x) = refl
-  string-in (unary op e) = refl
-  string-in (binary l op r) = refl
-  string-in (grouping e) = refl
-  string-in (assign x e) = refl
-  string-in (okLiteral e) = refl
-  string-in (errLiteral e) = refl
-  string-in (isErr e) = refl
-  string-in (resultUnwrap e) = refl
-  string-in other = refl
+  string_in_lem : (e : Expr A) → string_in (map_expr f e) ≡ map f (string_in e)
+  unfolding map_expr
+  string_in_lem null = refl
+  string_in_lem (literal v) = string_of_lem v
+  string_in_lem (identifier x) = refl
+  string_in_lem (unary op e) = refl
+  string_in_lem (binary l op r) = refl
+  string_in_lem (grouping e) = refl
+  string_in_lem (assign x e) = refl
+  string_in_lem (ok_literal e) = refl
+  string_in_lem (err_literal e) = refl
+  string_in_lem (is_err_lem e) = refl
+  string_in_lem (result_unwrap_lem e) = refl
+  string_in_lem other = refl
 
-  pub own-mapped : (m : Option (Expr A)) → ownString (map (mapExpr f) m) ≡ map f (ownString m)
-  own-mapped none = refl
-  own-mapped (some e) = string-in e
+  pub own_mapped : (m : Option (Expr A)) → own_string (map (map_expr f) m) ≡ map f (own_string m)
+  own_mapped none = refl
+  own_mapped (some e) = string_in_lem e
 
 -- a requires' own text, or the default text
-abbrev pub clauseText : ContractClause Text → Text
-clauseText c = orDefault (ownString c.message) (ascii "requires violated")
+abbrev pub clause_text : ContractClause Text → Text
+clause_text c = or_default (own_string c.message) (ascii "requires violated")
 
 module _ (im : Image) (f n : ℕ) where
-  pub refinement-text : messageBy im f (Refinement n) ≡ paramText (mapParam (text_of im) (paramOf im ((functionAt im f).params.first + n)))
-  unfolding messageBy
-  refinement-text = refl
+  pub refinement_text_lem : message_by im f (Refinement n) ≡ param_text (map_param (text_of im) (param_of im ((function_at im f).params.first + n)))
+  unfolding message_by
+  refinement_text_lem = refl
 
-  pub requires-text : messageBy im f (Requires n) ≡ clauseText (mapClause (text_of im) (clauseOf im ((functionAt im f).required.first + n)))
-  unfolding messageBy clauseOf
-  requires-text = ap (λ o. orDefault o (ascii "requires violated")) (sym (own-mapped (text_of im) (clauseOf im ((functionAt im f).required.first + n)).message))
+  pub requires_text : message_by im f (Requires n) ≡ clause_text (map_clause (text_of im) (clause_of im ((function_at im f).required.first + n)))
+  unfolding message_by clause_of
+  requires_text = ap (λ o. or_default o (ascii "requires violated")) (sym (own_mapped (text_of im) (clause_of im ((function_at im f).required.first + n)).message))

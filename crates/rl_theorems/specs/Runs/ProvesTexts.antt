@@ -10,19 +10,19 @@ use Rattle.rl_spec.specs.declared.Violation.TheVariants.{Refinement, Requires}
 use Rattle.rl_spec.specs.Values as value
 use Rattle.rl_spec.specs.Values.{ConstVal, RefineOp}
 use Rattle.rl_spec.specs.Tree.{Expr}
-use Rattle.rl_spec.specs.Fold.{Binding, constEval}
-use Rattle.rl_spec.specs.Contracts.{RefineOperand, integer, str, bool, param, ParamRefinement, Param, ContractClause, FnContracts, is_some, anyRefined}
-use Rattle.rl_spec.specs.Prove.{bound, isNo, isFalse, report, bindArguments, refineBound, refutes, failsAt, failedRefinements, failedRequires, proveCall}
-use Rattle.rl_spec.specs.Mapped.{mapExpr, mapOperand, mapRefinement, mapParam, mapClause, mapContracts}
-use Rattle.rl_theorems.specs.Runs.Texts.{mapMaybe, compare_same}
-use Rattle.rl_theorems.specs.Runs.FoldsTexts.{mapNames, lookup-same, const-same}
+use Rattle.rl_spec.specs.Fold.{Binding, const_eval}
+use Rattle.rl_spec.specs.FnContracts.{RefineOperand, integer, str, bool, param, ParamRefinement, Param, ContractClause, FnContracts, is_some, any_refined}
+use Rattle.rl_spec.specs.Prove.{bound, is_no, is_false, report, bind_arguments, refine_bound, refutes, fails_at, failed_refinements, failed_requires, prove_call}
+use Rattle.rl_spec.specs.Mapped.{map_expr, map_operand, map_refinement, map_param, map_clause, map_contracts}
+use Rattle.rl_theorems.specs.Runs.Texts.{map_maybe, compare_same}
+use Rattle.rl_theorems.specs.Runs.FoldsTexts.{map_names, lookup_same, const_same}
 
 module _ {A B : Type 0} (f : A → B) where
-  bound-same : (x : A) (v : Option (ConstVal A)) (env : List (Binding A)) → bound (f x) (mapMaybe f v) (mapNames f env) ≡ mapNames f (bound x v env)
-  bound-same x none env = refl
-  bound-same x (some v) env = refl
+  bound_same : (x : A) (v : Option (ConstVal A)) (env : List (Binding A)) → bound (f x) (map_maybe f v) (map_names f env) ≡ map_names f (bound x v env)
+  bound_same x none env = refl
+  bound_same x (some v) env = refl
 
-  false_same : (v : Option (ConstVal A)) → isFalse (mapMaybe f v) ≡ isFalse v
+  false_same : (v : Option (ConstVal A)) → is_false (map_maybe f v) ≡ is_false v
   false_same none = refl
   false_same (some (value.int x)) = refl
   false_same (some (value.float x)) = refl
@@ -31,69 +31,69 @@ module _ {A B : Type 0} (f : A → B) where
   false_same (some (value.bool false)) = refl
 
   -- whether there are contracts
-  some_same : (r : Option (ParamRefinement A)) → is_some (Option.map (mapRefinement f) r) ≡ is_some r
+  some_same : (r : Option (ParamRefinement A)) → is_some (Option.map (map_refinement f) r) ≡ is_some r
   some_same none = refl
   some_same (some r) = refl
 
-  pub any_same : (ps : List (Param A)) → anyRefined (map (mapParam f) ps) ≡ anyRefined ps
-  unfolding anyRefined
+  pub any_same : (ps : List (Param A)) → any_refined (map (map_param f) ps) ≡ any_refined ps
+  unfolding any_refined
   any_same [] = refl
   any_same (p ∷ ps) = ap₂ ◌||◌ (some_same p.refinement) (any_same ps)
 
 module _ {A B : Type 0} (f : A → B) (bytesA : A → List ℕ) (bytesB : B → List ℕ) (keeps : (t : A) → bytesB (f t) ≡ bytesA t) where
-  bind-same : (env : List (Binding A)) (ps : List (Param A)) (args : List (Expr A)) →
-      bindArguments bytesB (mapNames f env) (map (mapParam f) ps) (map (mapExpr f) args) ≡ mapNames f (bindArguments bytesA env ps args)
-  unfolding bindArguments
-  bind-same env [] args = refl
-  bind-same env (p ∷ ps) [] = refl
-  bind-same env (p ∷ ps) (a ∷ args) =
-      ap (λ e. bindArguments bytesB e (map (mapParam f) ps) (map (mapExpr f) args))
-      (ap (λ v. bound (f p.name) v (mapNames f env)) (const-same f bytesA bytesB keeps env a) ∙ bound-same f p.name (constEval bytesA env a) env)
-      ∙ bind-same (bound p.name (constEval bytesA env a) env) ps args
+  bind_same : (env : List (Binding A)) (ps : List (Param A)) (args : List (Expr A)) →
+      bind_arguments bytesB (map_names f env) (map (map_param f) ps) (map (map_expr f) args) ≡ map_names f (bind_arguments bytesA env ps args)
+  unfolding bind_arguments
+  bind_same env [] args = refl
+  bind_same env (p ∷ ps) [] = refl
+  bind_same env (p ∷ ps) (a ∷ args) =
+      ap (λ e. bind_arguments bytesB e (map (map_param f) ps) (map (map_expr f) args))
+      (ap (λ v. bound (f p.name) v (map_names f env)) (const_same f bytesA bytesB keeps env a) ∙ bound_same f p.name (const_eval bytesA env a) env)
+      ∙ bind_same (bound p.name (const_eval bytesA env a) env) ps args
 
-  refine-same : (env : List (Binding A)) (x : RefineOperand A) → refineBound bytesB (mapNames f env) (mapOperand f x) ≡ mapMaybe f (refineBound bytesA env x)
-  unfolding refineBound
-  refine-same env (integer x) = refl
-  refine-same env (str x) = refl
-  refine-same env (bool x) = refl
-  refine-same env (param x) = lookup-same f bytesA bytesB keeps env x
+  refine_same : (env : List (Binding A)) (x : RefineOperand A) → refine_bound bytesB (map_names f env) (map_operand f x) ≡ map_maybe f (refine_bound bytesA env x)
+  unfolding refine_bound
+  refine_same env (integer x) = refl
+  refine_same env (str x) = refl
+  refine_same env (bool x) = refl
+  refine_same env (param x) = lookup_same f bytesA bytesB keeps env x
 
-  refutes-same : (op : RefineOp) (x y : Option (ConstVal A)) → refutes bytesB op (mapMaybe f x) (mapMaybe f y) ≡ refutes bytesA op x y
+  refutes_same : (op : RefineOp) (x y : Option (ConstVal A)) → refutes bytesB op (map_maybe f x) (map_maybe f y) ≡ refutes bytesA op x y
   unfolding refutes
-  refutes-same op none y = refl
-  refutes-same op (some x) none = refl
-  refutes-same op (some x) (some y) = ap isNo (compare_same f bytesA bytesB keeps op x y)
+  refutes_same op none y = refl
+  refutes_same op (some x) none = refl
+  refutes_same op (some x) (some y) = ap is_no (compare_same f bytesA bytesB keeps op x y)
 
-  fails-same : (env : List (Binding A)) (r : Option (ParamRefinement A)) (e : Expr A) →
-      failsAt bytesB (mapNames f env) (Option.map (mapRefinement f) r) (mapExpr f e) ≡ failsAt bytesA env r e
-  unfolding failsAt
-  fails-same env none e = refl
-  fails-same env (some r) e =
-      ap₂ (refutes bytesB r.op) (const-same f bytesA bytesB keeps env e) (refine-same env r.operand)
-      ∙ refutes-same r.op (constEval bytesA env e) (refineBound bytesA env r.operand)
+  fails_same : (env : List (Binding A)) (r : Option (ParamRefinement A)) (e : Expr A) →
+      fails_at bytesB (map_names f env) (Option.map (map_refinement f) r) (map_expr f e) ≡ fails_at bytesA env r e
+  unfolding fails_at
+  fails_same env none e = refl
+  fails_same env (some r) e =
+      ap₂ (refutes bytesB r.op) (const_same f bytesA bytesB keeps env e) (refine_same env r.operand)
+      ∙ refutes_same r.op (const_eval bytesA env e) (refine_bound bytesA env r.operand)
 
-  refinements-same : (env : List (Binding A)) (n : ℕ) (ps : List (Param A)) (args : List (Expr A)) →
-      failedRefinements bytesB (mapNames f env) n (map (mapParam f) ps) (map (mapExpr f) args) ≡ failedRefinements bytesA env n ps args
-  unfolding failedRefinements
-  refinements-same env n [] args = refl
-  refinements-same env n (p ∷ ps) [] = refl
-  refinements-same env n (p ∷ ps) (a ∷ args) =
-      ap₂ (λ c vs. report c (Refinement n) vs) (fails-same env p.refinement a) (refinements-same env (n + 1) ps args)
+  refinements_same : (env : List (Binding A)) (n : ℕ) (ps : List (Param A)) (args : List (Expr A)) →
+      failed_refinements bytesB (map_names f env) n (map (map_param f) ps) (map (map_expr f) args) ≡ failed_refinements bytesA env n ps args
+  unfolding failed_refinements
+  refinements_same env n [] args = refl
+  refinements_same env n (p ∷ ps) [] = refl
+  refinements_same env n (p ∷ ps) (a ∷ args) =
+      ap₂ (λ c vs. report c (Refinement n) vs) (fails_same env p.refinement a) (refinements_same env (n + 1) ps args)
 
-  requires-same : (env : List (Binding A)) (n : ℕ) (cs : List (ContractClause A)) →
-      failedRequires bytesB (mapNames f env) n (map (mapClause f) cs) ≡ failedRequires bytesA env n cs
-  unfolding failedRequires
-  requires-same env n [] = refl
-  requires-same env n (c ∷ cs) =
+  requires_same : (env : List (Binding A)) (n : ℕ) (cs : List (ContractClause A)) →
+      failed_requires bytesB (map_names f env) n (map (map_clause f) cs) ≡ failed_requires bytesA env n cs
+  unfolding failed_requires
+  requires_same env n [] = refl
+  requires_same env n (c ∷ cs) =
       ap₂ (λ x vs. report x (Requires n) vs)
-      (ap isFalse (const-same f bytesA bytesB keeps env c.condition) ∙ false_same f (constEval bytesA env c.condition))
-      (requires-same env (n + 1) cs)
+      (ap is_false (const_same f bytesA bytesB keeps env c.condition) ∙ false_same f (const_eval bytesA env c.condition))
+      (requires_same env (n + 1) cs)
 
   -- PROVING A CALL WITH MAPPED CONTRACTS
-  pub prove-mapped : (c : FnContracts A) (args : List (Expr A)) → proveCall bytesB (mapContracts f c) (map (mapExpr f) args) ≡ proveCall bytesA c args
-  unfolding proveCall
-  prove-mapped c args =
-      ap (λ e. failedRefinements bytesB e 0 (map (mapParam f) c.params) (map (mapExpr f) args) ++ failedRequires bytesB e 0 (map (mapClause f) c.requires))
-      (bind-same [] c.params args)
-      ∙ ap₂ ◌++◌ (refinements-same (bindArguments bytesA [] c.params args) 0 c.params args)
-      (requires-same (bindArguments bytesA [] c.params args) 0 c.requires)
+  pub prove_mapped : (c : FnContracts A) (args : List (Expr A)) → prove_call bytesB (map_contracts f c) (map (map_expr f) args) ≡ prove_call bytesA c args
+  unfolding prove_call
+  prove_mapped c args =
+      ap (λ e. failed_refinements bytesB e 0 (map (map_param f) c.params) (map (map_expr f) args) ++ failed_requires bytesB e 0 (map (map_clause f) c.requires))
+      (bind_same [] c.params args)
+      ∙ ap₂ ◌++◌ (refinements_same (bind_arguments bytesA [] c.params args) 0 c.params args)
+      (requires_same (bind_arguments bytesA [] c.params args) 0 c.requires)

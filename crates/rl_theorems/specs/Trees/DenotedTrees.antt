@@ -12,15 +12,15 @@ use Rattle.rl_spec.specs.declared.Folded.TheVariants.{Value, Nothing}
 use Rattle.rl_spec.specs.declared.Form.TheVariants.{IsErr, ResultUnwrap, Other}
 use Rattle.rl_spec.specs.Image.{Field, num, Image, first, second, entry_of, text_of}
 use Rattle.rl_spec.specs.Values.{ConstVal, int, str}
-use Rattle.rl_spec.specs.Folded.{foldedOf}
-use Rattle.rl_spec.specs.Tree.{Expr, literal, identifier, unary, binary, grouping, assign, okLiteral, errLiteral, isErr, resultUnwrap, other, ascii, below, isResPath, callForm, formBy, treeBy, exprTree, optionalTree}
-use Rattle.rl_spec.specs.Statement.{declaration, expression, return, conditional, while, loop, otherStatement, Body, ◌▸◌, branch, Else, Item, aStatement, aBranch, asStatement, asBranch, asElse, bodyFrom, bodyBy, elseBy, statementBy, itemBy, itemTree, bodyTree}
+use Rattle.rl_spec.specs.Folded.{folded_of}
+use Rattle.rl_spec.specs.Tree.{Expr, literal, identifier, unary, binary, grouping, assign, ok_literal, err_literal, is_err_lem, result_unwrap_lem, other, ascii, below, is_res_path, call_form, form_by, tree_by, expr_tree, optional_tree}
+use Rattle.rl_spec.specs.Statement.{declaration, expression, return, conditional, while, loop, other_statement, Body, ◌▸◌, branch, Else, Item, a_statement, a_branch, as_statement, as_branch, as_else, body_from, body_by, else_by, statement_by, item_by_lem, item_tree, body_tree}
 use Rattle.rl_spec.specs.Ranges.{interval, up_from}
-use Rattle.rl_spec.specs.Mapped.{Text, mapConst, mapExpr, mapStmt, map_body, mapElse, mapItem}
+use Rattle.rl_spec.specs.Mapped.{Text, map_const, map_expr, map_stmt, map_body, map_else, map_item}
 use Rattle.rl_spec.specs.Make.{made}
-use Rattle.rl_laws.specs.Descend.{tree_is, item-is, below-earlier, under-earlier}
-use Rattle.rl_theorems.specs.Trees.MappedItems.{statement-mapped, branch-mapped, else-mapped}
-use Rattle.rl_theorems.specs.Trees.Denotes.{AllSay, noneSay, alsoSays, Holds, Plain, anInteger, anSInt, aUInt, anSUInt, aByte, anSByte, aBByte, aBSByte, aBool, aFloat, anSFloat, isRes, callTree, IsExpr, stands, Reads, aNull, aLiteral, aString, anIdentifier, aBinary, aUnary, aGrouping, anAssign, aCall, anOk, anErr, anOther, Args, no_args, anArg, IsCondition, noCondition, aCondition, IsLine, standsLine, ReadsLine, aDeclaration, anExpression, aReturn, aReturnAlone, aConditional, anArm, aWhile, aLoop, aBreak, aContinue, anOtherLine, IsElse, withoutElse, anElse, aChain, Rows, no_rows, aRow}
+use Rattle.rl_laws.specs.Descend.{tree_is, item_is, below_earlier, under_earlier}
+use Rattle.rl_theorems.specs.Trees.MappedItems.{statement_mapped, branch_mapped, else_mapped}
+use Rattle.rl_theorems.specs.Trees.Denotes.{AllSay, none_say, also_says, Holds, Plain, an_integer, anSInt, aUInt, anSUInt, a_byte, anSByte, aBByte, aBSByte, a_bool, a_float, anSFloat, is_res, call_tree, IsExpr, stands, Reads, a_null, a_literal, a_string, an_identifier, a_binary, a_unary, a_grouping, an_assign, a_call, an_ok, an_err, an_other, Args, no_args, an_arg, IsCondition, no_condition, a_condition, IsLine, stands_line, ReadsLine, a_declaration, an_expression, a_return, a_return_alone, a_conditional, an_arm, a_while, a_loop, a_break, a_continue, an_other_line, IsElse, without_else, an_else, a_chain, Rows, no_rows, a_row}
 
 -- ---- lists
 
@@ -37,32 +37,32 @@ module _ (im : Image) where
   from_at a (suc n) (suc k) h = ap (entry_of im) (omega arith) ∙ from_at (a + 1) n k (omega arith)
 
 module _ {im : Image} where
-  pub holds-length : {list : Field} {ns : List ℕ} → Holds im list ns → second list ≡ length ns
-  holds-length {list} h = sym (length_from im (first list) (second list)) ∙ ap length h.is
+  pub holds_length : {list : Field} {ns : List ℕ} → Holds im list ns → second list ≡ length ns
+  holds_length {list} h = sym (length_from im (first list) (second list)) ∙ ap length h.is
 
   pub holds_at : {list : Field} {ns : List ℕ} (k : ℕ) → Holds im list ns → k < length ns → entry_of im (first list + k) ≡ slice_index ns k
-  holds_at {list} k h l = from_at im (first list) (second list) k (rw (holds-length h) l) ∙ ap (λ ns. slice_index ns k) h.is
+  holds_at {list} k h l = from_at im (first list) (second list) k (rw (holds_length h) l) ∙ ap (λ ns. slice_index ns k) h.is
 
-  pub holds-first : {list : Field} {n : ℕ} {ns : List ℕ} → Holds im list (n ∷ ns) → entry_of im (first list) ≡ n
-  holds-first {list} h = ap (entry_of im) (omega arith) ∙ holds_at {list = list} 0 h (omega arith)
+  pub holds_first : {list : Field} {n : ℕ} {ns : List ℕ} → Holds im list (n ∷ ns) → entry_of im (first list) ≡ n
+  holds_first {list} h = ap (entry_of im) (omega arith) ∙ holds_at {list = list} 0 h (omega arith)
 
   -- ---- a call's path
 
-  path-is : {path : Field} {ts : List ℕ} {xs : List Text} (name : Text) → AllSay im ts xs → Holds im path ts →
-      isResPath im path name ≡ isRes xs name
-  unfolding isResPath
-  path-is name noneSay h = rw (holds-length h) refl
-  path-is name (alsoSays p noneSay) h = rw (holds-length h) refl
-  path-is name (alsoSays p (alsoSays q noneSay)) h = rw (holds-length h) refl
-  path-is name (alsoSays p (alsoSays q (alsoSays r noneSay))) h =
-      rw (holds-length h, holds_at 0 h (omega arith), holds_at 1 h (omega arith), holds_at 2 h (omega arith), p.is, q.is, r.is) refl
-  path-is {path} name (alsoSays p (alsoSays q (alsoSays r (alsoSays s rest)))) h =
-      rw (ne_eqb (second path) 3 (λ e. omega (arith, holds-length h))) refl
+  path_is : {path : Field} {ts : List ℕ} {xs : List Text} (name : Text) → AllSay im ts xs → Holds im path ts →
+      is_res_path im path name ≡ is_res xs name
+  unfolding is_res_path
+  path_is name none_say h = rw (holds_length h) refl
+  path_is name (also_says p none_say) h = rw (holds_length h) refl
+  path_is name (also_says p (also_says q none_say)) h = rw (holds_length h) refl
+  path_is name (also_says p (also_says q (also_says r none_say))) h =
+      rw (holds_length h, holds_at 0 h (omega arith), holds_at 1 h (omega arith), holds_at 2 h (omega arith), p.is, q.is, r.is) refl
+  path_is {path} name (also_says p (also_says q (also_says r (also_says s rest)))) h =
+      rw (ne_eqb (second path) 3 (λ e. omega (arith, holds_length h))) refl
 
 -- ---- expressions
 
 unsigned_is : (f : ℕ → Text) (n : ℕ) (b : Bool) →
-    Option.map (mapConst f) (foldedOf (cond b (Value (Int (pos n))) Nothing)) ≡ cond b (some (int (pos n))) none
+    Option.map (map_const f) (folded_of (cond b (Value (Int (pos n))) Nothing)) ≡ cond b (some (int (pos n))) none
 unsigned_is f n true = refl
 unsigned_is f n false = refl
 
@@ -70,119 +70,119 @@ module _ (im : Image) where
   abbrev texts : ℕ → Text
   texts = text_of im
 
-  plain-is : {k n : ℕ} {v : Option (ConstVal Text)} (s : Field) (tree : ℕ → Expr ℕ) → Plain k n v →
-      mapExpr texts (treeBy im (formBy im (made k (s ∷ num n ∷ []))) tree) ≡ literal v
-  unfolding formBy mapExpr
-  plain-is s tree anInteger = refl
-  plain-is s tree anSInt = refl
-  plain-is s tree (aUInt {n = n}) = ap literal (unsigned_is texts n (nat_lt n (2 ^ 63)))
-  plain-is s tree anSUInt = refl
-  plain-is s tree aByte = refl
-  plain-is s tree anSByte = refl
-  plain-is s tree aBByte = refl
-  plain-is s tree aBSByte = refl
-  plain-is s tree aBool = refl
-  plain-is s tree aFloat = refl
-  plain-is s tree anSFloat = refl
+  plain_is : {k n : ℕ} {v : Option (ConstVal Text)} (s : Field) (tree : ℕ → Expr ℕ) → Plain k n v →
+      map_expr texts (tree_by im (form_by im (made k (s ∷ num n ∷ []))) tree) ≡ literal v
+  unfolding form_by map_expr
+  plain_is s tree an_integer = refl
+  plain_is s tree anSInt = refl
+  plain_is s tree (aUInt {n = n}) = ap literal (unsigned_is texts n (nat_lt n (2 ^ 63)))
+  plain_is s tree anSUInt = refl
+  plain_is s tree a_byte = refl
+  plain_is s tree anSByte = refl
+  plain_is s tree aBByte = refl
+  plain_is s tree aBSByte = refl
+  plain_is s tree a_bool = refl
+  plain_is s tree a_float = refl
+  plain_is s tree anSFloat = refl
 
   call_by : (b c : Bool) (n : ℕ) (tree : ℕ → Expr ℕ) →
-      mapExpr texts (treeBy im (cond b (IsErr n) (cond c (ResultUnwrap n) Other)) tree)
-      ≡ cond b (isErr (mapExpr texts (tree n))) (cond c (resultUnwrap (mapExpr texts (tree n))) other)
-  unfolding mapExpr
+      map_expr texts (tree_by im (cond b (IsErr n) (cond c (ResultUnwrap n) Other)) tree)
+      ≡ cond b (is_err_lem (map_expr texts (tree n))) (cond c (result_unwrap_lem (map_expr texts (tree n))) other)
+  unfolding map_expr
   call_by true c n tree = refl
   call_by false true n tree = refl
   call_by false false n tree = refl
 
-  before : {i n : ℕ} {e : Expr Text} → n < i → mapExpr texts (exprTree im n) ≡ e → mapExpr texts (below i (λ _. other) (exprTree im) n) ≡ e
-  before {i} {n} l h = ap (mapExpr texts) (below-earlier im i n l) ∙ h
+  before : {i n : ℕ} {e : Expr Text} → n < i → map_expr texts (expr_tree im n) ≡ e → map_expr texts (below i (λ _. other) (expr_tree im) n) ≡ e
+  before {i} {n} l h = ap (map_expr texts) (below_earlier im i n l) ∙ h
 
   mutual
-    unfolding formBy callForm mapExpr
+    unfolding form_by call_form map_expr
 
-    pub tree_of : {i : ℕ} {e : Expr Text} → IsExpr im i e → mapExpr texts (exprTree im i) ≡ e
+    pub tree_of : {i : ℕ} {e : Expr Text} → IsExpr im i e → map_expr texts (expr_tree im i) ≡ e
     tree_of (stands {i = i} k fs h d) =
-        ap (mapExpr texts) (tree_is im i ∙ ap (λ r. treeBy im (formBy im r) (below i (λ _. other) (exprTree im))) h.is) ∙ tree-reads d
+        ap (map_expr texts) (tree_is im i ∙ ap (λ r. tree_by im (form_by im r) (below i (λ _. other) (expr_tree im))) h.is) ∙ tree_reads d
 
-    tree-reads : {i k : ℕ} {fs : List Field} {e : Expr Text} → Reads im i k fs e →
-        mapExpr texts (treeBy im (formBy im (made k fs)) (below i (λ _. other) (exprTree im))) ≡ e
-    tree-reads (aNull q) = rw q refl
-    tree-reads (aLiteral {i = i} {s = s} p) = plain-is s (below i (λ _. other) (exprTree im)) p
-    tree-reads (aString q t) = rw q (ap (λ x. literal (some (str x))) t.is)
-    tree-reads (anIdentifier q t) = rw q (ap identifier t.is)
-    tree-reads (aBinary {op = op} q l m h k) = rw q (ap₂ (λ d e. binary d op e) (before l (tree_of h)) (before m (tree_of k)))
-    tree-reads (aUnary {op = op} q l h) = rw q (ap (unary op) (before l (tree_of h)))
-    tree-reads (aGrouping q l h) = rw q (ap grouping (before l (tree_of h)))
-    tree-reads (anAssign q t l h) = rw q (ap₂ assign t.is (before l (tree_of h)))
-    tree-reads (aCall q p ts a es d) = rw q (tree-call p ts a es ∙ sym d)
-    tree-reads (anOk q l h) = rw q (ap okLiteral (before l (tree_of h)))
-    tree-reads (anErr q l h) = rw q (ap errLiteral (before l (tree_of h)))
-    tree-reads (anOther {i = i} {fs = fs} k) = ap (λ f. mapExpr texts (treeBy im f (below i (λ _. other) (exprTree im)))) (k im fs)
+    tree_reads : {i k : ℕ} {fs : List Field} {e : Expr Text} → Reads im i k fs e →
+        map_expr texts (tree_by im (form_by im (made k fs)) (below i (λ _. other) (expr_tree im))) ≡ e
+    tree_reads (a_null q) = rw q refl
+    tree_reads (a_literal {i = i} {s = s} p) = plain_is s (below i (λ _. other) (expr_tree im)) p
+    tree_reads (a_string q t) = rw q (ap (λ x. literal (some (str x))) t.is)
+    tree_reads (an_identifier q t) = rw q (ap identifier t.is)
+    tree_reads (a_binary {op = op} q l m h k) = rw q (ap₂ (λ d e. binary d op e) (before l (tree_of h)) (before m (tree_of k)))
+    tree_reads (a_unary {op = op} q l h) = rw q (ap (unary op) (before l (tree_of h)))
+    tree_reads (a_grouping q l h) = rw q (ap grouping (before l (tree_of h)))
+    tree_reads (an_assign q t l h) = rw q (ap₂ assign t.is (before l (tree_of h)))
+    tree_reads (a_call q p ts a es d) = rw q (tree_call p ts a es ∙ sym d)
+    tree_reads (an_ok q l h) = rw q (ap ok_literal (before l (tree_of h)))
+    tree_reads (an_err q l h) = rw q (ap err_literal (before l (tree_of h)))
+    tree_reads (an_other {i = i} {fs = fs} k) = ap (λ f. map_expr texts (tree_by im f (below i (λ _. other) (expr_tree im)))) (k im fs)
 
-    tree-call : {i : ℕ} {path args : Field} {ts ns : List ℕ} {xs : List Text} {es : List (Expr Text)} → Holds im path ts → AllSay im ts xs →
-        Holds im args ns → Args im i ns es → mapExpr texts (treeBy im (callForm im path args) (below i (λ _. other) (exprTree im))) ≡ callTree xs es
-    tree-call p ts a no_args = rw (holds-length a) refl
-    tree-call {i} {path} {args} {xs = xs} p ts a (anArg {n = n} l h no_args) =
-        rw (holds-length a, path-is (ascii "is_err") ts p, path-is (ascii "result_unwrap") ts p, holds-first a)
-        (call_by (isRes xs (ascii "is_err")) (isRes xs (ascii "result_unwrap")) n (below i (λ _. other) (exprTree im))
-        ∙ ap (λ e. callTree xs (e ∷ [])) (before l (tree_of h)))
-    tree-call {args = args} p ts a (anArg l h (anArg m k es)) = rw (ne_eqb (second args) 1 (λ e. omega (arith, holds-length a))) refl
+    tree_call : {i : ℕ} {path args : Field} {ts ns : List ℕ} {xs : List Text} {es : List (Expr Text)} → Holds im path ts → AllSay im ts xs →
+        Holds im args ns → Args im i ns es → map_expr texts (tree_by im (call_form im path args) (below i (λ _. other) (expr_tree im))) ≡ call_tree xs es
+    tree_call p ts a no_args = rw (holds_length a) refl
+    tree_call {i} {path} {args} {xs = xs} p ts a (an_arg {n = n} l h no_args) =
+        rw (holds_length a, path_is (ascii "is_err_lem") ts p, path_is (ascii "result_unwrap_lem") ts p, holds_first a)
+        (call_by (is_res xs (ascii "is_err_lem")) (is_res xs (ascii "result_unwrap_lem")) n (below i (λ _. other) (expr_tree im))
+        ∙ ap (λ e. call_tree xs (e ∷ [])) (before l (tree_of h)))
+    tree_call {args = args} p ts a (an_arg l h (an_arg m k es)) = rw (ne_eqb (second args) 1 (λ e. omega (arith, holds_length a))) refl
 
   -- ---- statements
 
-  condition-of : {o : Optional} {c : Option (Expr Text)} → IsCondition im o c → Option.map (mapExpr texts) (optionalTree im o) ≡ c
-  condition-of noCondition = refl
-  condition-of (aCondition h) = ap some (tree_of h)
+  condition_of : {o : Optional} {c : Option (Expr Text)} → IsCondition im o c → Option.map (map_expr texts) (optional_tree im o) ≡ c
+  condition_of no_condition = refl
+  condition_of (a_condition h) = ap some (tree_of h)
 
   -- the items before the i-th
   abbrev items : ℕ → ℕ → Item ℕ
-  items i = below i (λ _. aStatement otherStatement) (itemTree im)
+  items i = below i (λ _. a_statement other_statement) (item_tree im)
 
-  earlier : {i n : ℕ} {x : Item Text} → n < i → mapItem texts (itemTree im n) ≡ x → mapItem texts (items i n) ≡ x
-  earlier {i} {n} l h = ap (mapItem texts) (under-earlier (λ _. aStatement otherStatement) (itemTree im) i n l) ∙ h
+  earlier : {i n : ℕ} {x : Item Text} → n < i → map_item texts (item_tree im n) ≡ x → map_item texts (items i n) ≡ x
+  earlier {i} {n} l h = ap (map_item texts) (under_earlier (λ _. a_statement other_statement) (item_tree im) i n l) ∙ h
 
-  list-is : (item : ℕ → Item ℕ) (list : Field) (ns : List ℕ) → Holds im list ns → bodyBy im item (interval list) ≡ bodyFrom (map item ns)
-  list-is item list ns h = ap bodyFrom (sym (map-map item (entry_of im) (up_from (first list) (second list))) ∙ ap (map item) h.is)
+  list_is : (item : ℕ → Item ℕ) (list : Field) (ns : List ℕ) → Holds im list ns → body_by im item (interval list) ≡ body_from (map item ns)
+  list_is item list ns h = ap body_from (sym (map-map item (entry_of im) (up_from (first list) (second list))) ∙ ap (map item) h.is)
 
   mutual
-    unfolding statementBy mapStmt
+    unfolding statement_by map_stmt
 
-    pub line_of : {i : ℕ} {x : Item Text} → IsLine im i x → mapItem texts (itemTree im i) ≡ x
-    line_of (standsLine {i = i} k fs h d) =
-        ap (mapItem texts) (item-is im i ∙ ap (λ r. itemBy im (statementBy r) (items i)) h.is) ∙ line_reads d
+    pub line_of : {i : ℕ} {x : Item Text} → IsLine im i x → map_item texts (item_tree im i) ≡ x
+    line_of (stands_line {i = i} k fs h d) =
+        ap (map_item texts) (item_is im i ∙ ap (λ r. item_by_lem im (statement_by r) (items i)) h.is) ∙ line_reads d
 
-    line_reads : {i k : ℕ} {fs : List Field} {x : Item Text} → ReadsLine im i k fs x → mapItem texts (itemBy im (statementBy (made k fs)) (items i)) ≡ x
-    line_reads (aDeclaration q t h) = rw q (ap₂ (λ x e. aStatement (declaration x e)) t.is (tree_of h))
-    line_reads (anExpression q h) = rw q (ap (λ e. aStatement (expression e)) (tree_of h))
-    line_reads (aReturn q h) = rw q (ap (λ e. aStatement (return e)) (tree_of h))
-    line_reads (aReturnAlone q) = rw q refl
-    line_reads (aConditional {i = i} {n = n} q l h e) =
-        rw q (ap₂ (λ b e. aStatement (conditional b e)) (branch-mapped texts (items i n) ∙ ap asBranch (earlier l (line_of h))) (else-reads e))
-    line_reads (anArm {i = i} {list = list} {ns = ns} q c h b) =
-        rw q (ap₂ (λ c b. aBranch (branch c b)) (condition-of c) (ap (map_body texts) (list-is (items i) list ns h) ∙ rows-read b))
-    line_reads (aWhile {i = i} {list = list} {ns = ns} q e h b) =
-        rw q (ap₂ (λ e b. aStatement (while e b)) (tree_of e) (ap (map_body texts) (list-is (items i) list ns h) ∙ rows-read b))
-    line_reads (aLoop {i = i} {list = list} {ns = ns} q h b) =
-        rw q (ap (λ b. aStatement (loop b)) (ap (map_body texts) (list-is (items i) list ns h) ∙ rows-read b))
-    line_reads (aBreak q) = rw q refl
-    line_reads (aContinue q) = rw q refl
-    line_reads (anOtherLine {i = i} {fs = fs} k) = ap (λ f. mapItem texts (itemBy im f (items i))) (k fs)
+    line_reads : {i k : ℕ} {fs : List Field} {x : Item Text} → ReadsLine im i k fs x → map_item texts (item_by_lem im (statement_by (made k fs)) (items i)) ≡ x
+    line_reads (a_declaration q t h) = rw q (ap₂ (λ x e. a_statement (declaration x e)) t.is (tree_of h))
+    line_reads (an_expression q h) = rw q (ap (λ e. a_statement (expression e)) (tree_of h))
+    line_reads (a_return q h) = rw q (ap (λ e. a_statement (return e)) (tree_of h))
+    line_reads (a_return_alone q) = rw q refl
+    line_reads (a_conditional {i = i} {n = n} q l h e) =
+        rw q (ap₂ (λ b e. a_statement (conditional b e)) (branch_mapped texts (items i n) ∙ ap as_branch (earlier l (line_of h))) (else_reads e))
+    line_reads (an_arm {i = i} {list = list} {ns = ns} q c h b) =
+        rw q (ap₂ (λ c b. a_branch (branch c b)) (condition_of c) (ap (map_body texts) (list_is (items i) list ns h) ∙ rows_read b))
+    line_reads (a_while {i = i} {list = list} {ns = ns} q e h b) =
+        rw q (ap₂ (λ e b. a_statement (while e b)) (tree_of e) (ap (map_body texts) (list_is (items i) list ns h) ∙ rows_read b))
+    line_reads (a_loop {i = i} {list = list} {ns = ns} q h b) =
+        rw q (ap (λ b. a_statement (loop b)) (ap (map_body texts) (list_is (items i) list ns h) ∙ rows_read b))
+    line_reads (a_break q) = rw q refl
+    line_reads (a_continue q) = rw q refl
+    line_reads (an_other_line {i = i} {fs = fs} k) = ap (λ f. map_item texts (item_by_lem im f (items i))) (k fs)
 
-    else-reads : {i : ℕ} {o : Optional} {e : Else Text} → IsElse im i o e → mapElse texts (elseBy (items i) o) ≡ e
-    else-reads withoutElse = refl
-    else-reads (anElse {i = i} {n = n} l h) = else-mapped texts (items i n) ∙ ap asElse (earlier l (line_of h))
-    else-reads (aChain {i = i} {n = n} l h) = else-mapped texts (items i n) ∙ ap asElse (earlier l (line_of h))
+    else_reads : {i : ℕ} {o : Optional} {e : Else Text} → IsElse im i o e → map_else texts (else_by (items i) o) ≡ e
+    else_reads without_else = refl
+    else_reads (an_else {i = i} {n = n} l h) = else_mapped texts (items i n) ∙ ap as_else (earlier l (line_of h))
+    else_reads (a_chain {i = i} {n = n} l h) = else_mapped texts (items i n) ∙ ap as_else (earlier l (line_of h))
 
-    rows-read : {i : ℕ} {ns : List ℕ} {b : Body Text} → Rows im i ns b → map_body texts (bodyFrom (map (items i) ns)) ≡ b
-    rows-read no_rows = refl
-    rows-read (aRow {i = i} {n = n} l h q hs) =
-        ap₂ (λ s b. s ▸ b) (statement-mapped texts (items i n) ∙ ap asStatement (earlier l (line_of h)) ∙ sym q) (rows-read hs)
+    rows_read : {i : ℕ} {ns : List ℕ} {b : Body Text} → Rows im i ns b → map_body texts (body_from (map (items i) ns)) ≡ b
+    rows_read no_rows = refl
+    rows_read (a_row {i = i} {n = n} l h q hs) =
+        ap₂ (λ s b. s ▸ b) (statement_mapped texts (items i n) ∙ ap as_statement (earlier l (line_of h)) ∙ sym q) (rows_read hs)
 
-  body-rows : {i : ℕ} {ns : List ℕ} {b : Body Text} → Rows im i ns b → map_body texts (bodyFrom (map (itemTree im) ns)) ≡ b
-  unfolding mapStmt
-  body-rows no_rows = refl
-  body-rows (aRow {n = n} l h q hs) = ap₂ (λ s b. s ▸ b) (statement-mapped texts (itemTree im n) ∙ ap asStatement (line_of h) ∙ sym q) (body-rows hs)
+  body_rows : {i : ℕ} {ns : List ℕ} {b : Body Text} → Rows im i ns b → map_body texts (body_from (map (item_tree im) ns)) ≡ b
+  unfolding map_stmt
+  body_rows no_rows = refl
+  body_rows (a_row {n = n} l h q hs) = ap₂ (λ s b. s ▸ b) (statement_mapped texts (item_tree im n) ∙ ap as_statement (line_of h) ∙ sym q) (body_rows hs)
 
   -- THEOREM: the body of a list
   pub body_of : {i : ℕ} {ns : List ℕ} {b : Body Text} (list : Field) → Holds im list ns → Rows im i ns b →
-      map_body texts (bodyTree im (interval list)) ≡ b
-  body_of {ns = ns} list h hs = ap (map_body texts) (list-is (itemTree im) list ns h) ∙ body-rows hs
+      map_body texts (body_tree im (interval list)) ≡ b
+  body_of {ns = ns} list h hs = ap (map_body texts) (list_is (item_tree im) list ns h) ∙ body_rows hs

@@ -2,30 +2,30 @@
 -- Assumes nothing.
 use Rattle.std.specs.Prelude.{◌≡◌}
 use Rattle.std.proofs.Math.Path.{refl}
-use Rattle.rl_spec.specs.Statement.{declaration, expression, return, returnAlone, conditional, while, loop, break, continue, otherStatement, Item, aStatement, aBranch, asStatement, asBranch, asElse}
-use Rattle.rl_spec.specs.Mapped.{mapStmt, mapBranch, mapElse, mapItem}
+use Rattle.rl_spec.specs.Statement.{declaration, expression, return, return_alone, conditional, while, loop, break, continue, other_statement, Item, a_statement, a_branch, as_statement, as_branch, as_else}
+use Rattle.rl_spec.specs.Mapped.{map_stmt, map_branch, map_else, map_item}
 
 module _ {A B : Type 0} (f : A → B) where
-  pub statement-mapped : (x : Item A) → mapStmt f (asStatement x) ≡ asStatement (mapItem f x)
-  unfolding mapStmt
-  statement-mapped (aStatement s) = refl
-  statement-mapped (aBranch b) = refl
+  pub statement_mapped : (x : Item A) → map_stmt f (as_statement x) ≡ as_statement (map_item f x)
+  unfolding map_stmt
+  statement_mapped (a_statement s) = refl
+  statement_mapped (a_branch b) = refl
 
-  pub branch-mapped : (x : Item A) → mapBranch f (asBranch x) ≡ asBranch (mapItem f x)
-  unfolding mapStmt
-  branch-mapped (aStatement s) = refl
-  branch-mapped (aBranch b) = refl
+  pub branch_mapped : (x : Item A) → map_branch f (as_branch x) ≡ as_branch (map_item f x)
+  unfolding map_stmt
+  branch_mapped (a_statement s) = refl
+  branch_mapped (a_branch b) = refl
 
-  pub else-mapped : (x : Item A) → mapElse f (asElse x) ≡ asElse (mapItem f x)
-  unfolding mapStmt
-  else-mapped (aStatement (declaration x e)) = refl
-  else-mapped (aStatement (expression e)) = refl
-  else-mapped (aStatement (return e)) = refl
-  else-mapped (aStatement returnAlone) = refl
-  else-mapped (aStatement (conditional b e)) = refl
-  else-mapped (aStatement (while e b)) = refl
-  else-mapped (aStatement (loop b)) = refl
-  else-mapped (aStatement break) = refl
-  else-mapped (aStatement continue) = refl
-  else-mapped (aStatement otherStatement) = refl
-  else-mapped (aBranch b) = refl
+  pub else_mapped : (x : Item A) → map_else f (as_else x) ≡ as_else (map_item f x)
+  unfolding map_stmt
+  else_mapped (a_statement (declaration x e)) = refl
+  else_mapped (a_statement (expression e)) = refl
+  else_mapped (a_statement (return e)) = refl
+  else_mapped (a_statement return_alone) = refl
+  else_mapped (a_statement (conditional b e)) = refl
+  else_mapped (a_statement (while e b)) = refl
+  else_mapped (a_statement (loop b)) = refl
+  else_mapped (a_statement break) = refl
+  else_mapped (a_statement continue) = refl
+  else_mapped (a_statement other_statement) = refl
+  else_mapped (a_branch b) = refl

@@ -11,12 +11,12 @@ use Rattle.rl_spec.specs.declared.Section.TheVariants.{Expressions}
 use Rattle.rl_spec.specs.declared.Sort.{Sort}
 use Rattle.rl_spec.specs.declared.Sort.TheVariants.{One, Many}
 use Rattle.rl_spec.specs.declared.Target.TheVariants.{Expression}
-use Rattle.rl_spec.specs.Schema.{sortOf, fields_of, fieldsIn, schema}
-use Rattle.rl_spec.specs.Image.{Rec, Image, recordOf, field_of, second, entry_of}
-use Rattle.rl_spec.specs.Tree.{Expr, null, literal, identifier, unary, binary, grouping, assign, okLiteral, errLiteral, isErr, resultUnwrap, other, ascii, number, isResPath, below, callForm, formBy, treeBy, exprTree}
-use Rattle.rl_spec.specs.Mapped.{mapExpr}
-use Rattle.rl_laws.specs.Tests.{by-ltb}
-use Rattle.rl_laws.specs.Descend.{tree_is, below-earlier, below-later}
+use Rattle.rl_spec.specs.Schema.{sort_of, fields_of, fields_in_lem, schema}
+use Rattle.rl_spec.specs.Image.{Rec, Image, record_of_lem, field_of, second, entry_of}
+use Rattle.rl_spec.specs.Tree.{Expr, null, literal, identifier, unary, binary, grouping, assign, ok_literal, err_literal, is_err_lem, result_unwrap_lem, other, ascii, number, is_res_path, below, call_form, form_by, tree_by, expr_tree}
+use Rattle.rl_spec.specs.Mapped.{map_expr}
+use Rattle.rl_laws.specs.Tests.{by_ltb}
+use Rattle.rl_laws.specs.Descend.{tree_is, below_earlier, below_later}
 
 module _ {T : Type 0} (look store : T → Type 0) where
   abbrev pub NamesIn : Expr T → Type 0
@@ -27,66 +27,66 @@ module _ {T : Type 0} (look store : T → Type 0) where
   NamesIn (binary l op r) = NamesIn l × NamesIn r
   NamesIn (grouping e) = NamesIn e
   NamesIn (assign x e) = store x × NamesIn e
-  NamesIn (okLiteral e) = NamesIn e
-  NamesIn (errLiteral e) = NamesIn e
-  NamesIn (isErr e) = NamesIn e
-  NamesIn (resultUnwrap e) = NamesIn e
+  NamesIn (ok_literal e) = NamesIn e
+  NamesIn (err_literal e) = NamesIn e
+  NamesIn (is_err_lem e) = NamesIn e
+  NamesIn (result_unwrap_lem e) = NamesIn e
   NamesIn other = Unit {0}
 
 -- of another account of the names
-pub names-mapped : {A B : Type 0} (f : A → B) (look store : B → Type 0) (e : Expr A) → NamesIn (λ x. look (f x)) (λ x. store (f x)) e →
-    NamesIn look store (mapExpr f e)
-unfolding mapExpr
-names-mapped f look store null h = tt
-names-mapped f look store (literal v) h = tt
-names-mapped f look store (identifier x) h = h
-names-mapped f look store (unary op e) h = names-mapped f look store e h
-names-mapped f look store (binary l op r) h = (names-mapped f look store l h.0, names-mapped f look store r h.1)
-names-mapped f look store (grouping e) h = names-mapped f look store e h
-names-mapped f look store (assign x e) h = (h.0, names-mapped f look store e h.1)
-names-mapped f look store (okLiteral e) h = names-mapped f look store e h
-names-mapped f look store (errLiteral e) h = names-mapped f look store e h
-names-mapped f look store (isErr e) h = names-mapped f look store e h
-names-mapped f look store (resultUnwrap e) h = names-mapped f look store e h
-names-mapped f look store other h = tt
+pub names_mapped : {A B : Type 0} (f : A → B) (look store : B → Type 0) (e : Expr A) → NamesIn (λ x. look (f x)) (λ x. store (f x)) e →
+    NamesIn look store (map_expr f e)
+unfolding map_expr
+names_mapped f look store null h = tt
+names_mapped f look store (literal v) h = tt
+names_mapped f look store (identifier x) h = h
+names_mapped f look store (unary op e) h = names_mapped f look store e h
+names_mapped f look store (binary l op r) h = (names_mapped f look store l h.0, names_mapped f look store r h.1)
+names_mapped f look store (grouping e) h = names_mapped f look store e h
+names_mapped f look store (assign x e) h = (h.0, names_mapped f look store e h.1)
+names_mapped f look store (ok_literal e) h = names_mapped f look store e h
+names_mapped f look store (err_literal e) h = names_mapped f look store e h
+names_mapped f look store (is_err_lem e) h = names_mapped f look store e h
+names_mapped f look store (result_unwrap_lem e) h = names_mapped f look store e h
+names_mapped f look store other h = tt
 
 -- ---- from records
 
 -- the sort of the c-th field of a record
-abbrev pub sortIn : Rec → ℕ → Sort
-sortIn x c = sortOf (slice_index (fields_of x.kind) c)
+abbrev pub sort_in : Rec → ℕ → Sort
+sort_in x c = sort_of (slice_index (fields_of x.kind) c)
 
 -- what holds of an expression holds of each that a field of it names, and of the first entry of a list; and it says this of the names in
 -- an identifier and in an assignment
 module _ (im : Image) (H : ℕ → Type 0)
-    (one : (i c : ℕ) → H i → sortIn (recordOf im Expressions i) c ≡ One Expression → H (number (recordOf im Expressions i) c))
-    (entry : (i c : ℕ) → H i → sortIn (recordOf im Expressions i) c ≡ Many Expression Expression 1 → 0 < second (field_of (recordOf im Expressions i) c) →
-    H (entry_of im (number (recordOf im Expressions i) c + 0)))
-    (look store : ℕ → Type 0) (looks : (i : ℕ) → H i → (recordOf im Expressions i).kind ≡ 30 → look (number (recordOf im Expressions i) 1))
-    (stores : (i : ℕ) → H i → (recordOf im Expressions i).kind ≡ 39 → store (number (recordOf im Expressions i) 1)) where
-  module _ (i : ℕ) (h : H i) (earlier : (n : ℕ) → n < i → H n → NamesIn look store (exprTree im n)) where
+    (one : (i c : ℕ) → H i → sort_in (record_of_lem im Expressions i) c ≡ One Expression → H (number (record_of_lem im Expressions i) c))
+    (entry : (i c : ℕ) → H i → sort_in (record_of_lem im Expressions i) c ≡ Many Expression Expression 1 → 0 < second (field_of (record_of_lem im Expressions i) c) →
+    H (entry_of im (number (record_of_lem im Expressions i) c + 0)))
+    (look store : ℕ → Type 0) (looks : (i : ℕ) → H i → (record_of_lem im Expressions i).kind ≡ 30 → look (number (record_of_lem im Expressions i) 1))
+    (stores : (i : ℕ) → H i → (record_of_lem im Expressions i).kind ≡ 39 → store (number (record_of_lem im Expressions i) 1)) where
+  module _ (i : ℕ) (h : H i) (earlier : (n : ℕ) → n < i → H n → NamesIn look store (expr_tree im n)) where
     abbrev r : Rec
-    r = recordOf im Expressions i
+    r = record_of_lem im Expressions i
 
     abbrev tree : ℕ → Expr ℕ
-    tree = below i (λ _. other) (exprTree im)
+    tree = below i (λ _. other) (expr_tree im)
 
     record Says (f : Form) : Type 0 where
-      says : NamesIn look store (treeBy im f tree)
+      says : NamesIn look store (tree_by im f tree)
 
     child : (n : ℕ) → H n → NamesIn look store (tree n)
     child n x =
-        by-ltb n i (λ l. rw (below-earlier im i n l) (earlier n l x)) (λ l. rw (below-later im i n l) tt)
+        by_ltb n i (λ l. rw (below_earlier im i n l) (earlier n l x)) (λ l. rw (below_later im i n l) tt)
 
-    field : (k c : ℕ) → r.kind ≡ k → sortOf (slice_index (fields_of k) c) ≡ One Expression → NamesIn look store (tree (number r c))
+    field : (k c : ℕ) → r.kind ≡ k → sort_of (slice_index (fields_of k) c) ≡ One Expression → NamesIn look store (tree (number r c))
     field k c e o = child (number r c) (one i c h (rw e o))
 
-    by-test : (b : Bool) (x y : Form) → (b ≡ true → Says x) → Says y → Says (cond b x y)
-    by-test true x y f g = f refl
-    by-test false x y f g = g
+    by_test : (b : Bool) (x y : Form) → (b ≡ true → Says x) → Says y → Says (cond b x y)
+    by_test true x y f g = f refl
+    by_test false x y f g = g
 
     by_kind : (m : ℕ) (x y : Form) → (r.kind ≡ m → Says x) → Says y → Says (cond (r.kind == m) x y)
-    by_kind m x y f g = by-test (r.kind == m) x y (λ e. f (eqb-true r.kind m e)) g
+    by_kind m x y f g = by_test (r.kind == m) x y (λ e. f (eqb-true r.kind m e)) g
 
     by_tests : (a b c : Bool) (n : ℕ) → (a ≡ true → NamesIn look store (tree n)) → Says (cond a (cond b (IsErr n) (cond c (ResultUnwrap n) Other)) Other)
     by_tests true true c n f = record { says = f refl }
@@ -95,22 +95,22 @@ module _ (im : Image) (H : ℕ → Type 0)
     by_tests false b c n f = record { says = tt }
 
     argument : r.kind ≡ 41 → second (field_of r 2) ≡ 1 → NamesIn look store (tree (entry_of im (number r 2)))
-    unfolding fields_of fieldsIn schema sortOf
+    unfolding fields_of fields_in_lem schema sort_of
     argument e d =
         let l : 0 < second (field_of r 2) = omega (arith, d) in
         let z : number r 2 + 0 ≡ number r 2 = omega arith in
-        let x : H (entry_of im (number r 2 + 0)) = entry i 2 h (ap (λ k. sortOf (slice_index (fields_of k) 2)) e) l in
+        let x : H (entry_of im (number r 2 + 0)) = entry i 2 h (ap (λ k. sort_of (slice_index (fields_of k) 2)) e) l in
         child (entry_of im (number r 2)) (rw z at x)
 
-    call-says : r.kind ≡ 41 → Says (callForm im (field_of r 1) (field_of r 2))
-    unfolding callForm
-    call-says e =
-        by_tests (second (field_of r 2) == 1) (isResPath im (field_of r 1) (ascii "is_err")) (isResPath im (field_of r 1) (ascii "result_unwrap"))
+    call_says : r.kind ≡ 41 → Says (call_form im (field_of r 1) (field_of r 2))
+    unfolding call_form
+    call_says e =
+        by_tests (second (field_of r 2) == 1) (is_res_path im (field_of r 1) (ascii "is_err_lem")) (is_res_path im (field_of r 1) (ascii "result_unwrap_lem"))
         (entry_of im (number r 2)) (λ d. argument e (eqb-true (second (field_of r 2)) 1 d))
 
-    form-says : Says (formBy im r)
-    unfolding formBy fields_of fieldsIn schema sortOf
-    form-says =
+    form_says : Says (form_by im r)
+    unfolding form_by fields_of fields_in_lem schema sort_of
+    form_says =
         by_kind 16 _ _ (λ e. record { says = tt })
         (by_kind 17 _ _ (λ e. record { says = tt })
         (by_kind 18 _ _ (λ e. record { says = tt })
@@ -129,15 +129,15 @@ module _ (im : Image) (H : ℕ → Type 0)
         (by_kind 33 _ _ (λ e. record { says = field 33 2 e refl })
         (by_kind 34 _ _ (λ e. record { says = field 34 1 e refl })
         (by_kind 39 _ _ (λ e. record { says = (stores i h e, field 39 2 e refl) })
-        (by_kind 41 _ _ call-says
+        (by_kind 41 _ _ call_says
         (by_kind 49 _ _ (λ e. record { says = field 49 1 e refl })
         (by_kind 50 _ _ (λ e. record { says = field 50 1 e refl }) (record { says = tt })))))))))))))))))))))
 
-  all-below : (b i : ℕ) → i < b → H i → NamesIn look store (exprTree im i)
-  all-below zero i l h = absurd (omega arith)
-  all-below (suc b) i l h =
-      rw (tree_is im i) (form-says i h (λ n m x. all-below b n (omega arith) x)).says
+  all_below : (b i : ℕ) → i < b → H i → NamesIn look store (expr_tree im i)
+  all_below zero i l h = absurd (omega arith)
+  all_below (suc b) i l h =
+      rw (tree_is im i) (form_says i h (λ n m x. all_below b n (omega arith) x)).says
 
   -- THEOREM
-  pub tree-names : (i : ℕ) → H i → NamesIn look store (exprTree im i)
-  tree-names i h = all-below (suc i) i (omega arith) h
+  pub tree_names : (i : ℕ) → H i → NamesIn look store (expr_tree im i)
+  tree_names i h = all_below (suc i) i (omega arith) h

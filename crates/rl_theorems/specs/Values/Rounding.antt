@@ -10,14 +10,14 @@ use Rattle.std.specs.Float.Ieee.{size, nearest}
 use Rattle.std.specs.Float.Ieee.Digits.{size_reaches, back}
 use Rattle.std.specs.Float.Ieee.Fits.{kept-lt, nearest-le}
 use Rattle.std.specs.Float.Ieee.Nearest.{closest, nearest-ge}
-use Rattle.rl_laws.specs.Tests.{by-ltb}
+use Rattle.rl_laws.specs.Tests.{by_ltb}
 
 -- |a - b|
 abbrev pub gap : ℕ → ℕ → ℕ
 gap a b = (a - b) + (b - a)
 
-pub gap-mul : (a b c : ℕ) → gap (a * c) (b * c) ≡ gap a b * c
-gap-mul a b c =
+pub gap_mul : (a b c : ℕ) → gap (a * c) (b * c) ≡ gap a b * c
+gap_mul a b c =
     let e : (a - b) * c ≡ a * c - b * c = rw (mul_comm (a - b) c, mul_comm a c, mul_comm b c) (mul-sub c a b) in
     let f : (b - a) * c ≡ b * c - a * c = rw (mul_comm (b - a) c, mul_comm a c, mul_comm b c) (mul-sub c b a) in
     rw (add-mul (a - b) (b - a) c, e, f) refl
@@ -46,16 +46,16 @@ Place u w M = (M * u + u ≤ w * u) ⊎ ((M ≡ w) ⊎ ((M ≡ suc w) ⊎ (w * u
 
 place : (u w M : ℕ) → Place u w M
 place u w M =
-    by-ltb M w
+    by_ltb M w
     (λ p. inl (le_trans (le_of_eq (sym (suc-mul M u))) (mul-le-mul_right u p)))
-    (λ p. by-ltb (suc w) M
+    (λ p. by_ltb (suc w) M
     (λ q. inr (inr (inr (le_trans (le_of_eq (sym (suc-mul (suc w) u ∙ ap (λ (z : ℕ). z + u) (suc-mul w u)))) (mul-le-mul_right u q)))))
-    (λ q. by-ltb w M (λ l. inr (inr (inl (omega arith)))) (λ l. inr (inl (omega arith)))))
+    (λ q. by_ltb w M (λ l. inr (inr (inl (omega arith)))) (λ l. inr (inl (omega arith)))))
 
 -- w * u or the next multiple is nearest to n, which is w * u + r
 module _ (n u w r : ℕ) (e : w * u + r ≡ n) (R : r < u) where
-  near-low : (M : ℕ) → r * 2 ≤ u → gap n (w * u) ≤ gap n (M * u)
-  near-low M h = go (place u w M)
+  near_low : (M : ℕ) → r * 2 ≤ u → gap n (w * u) ≤ gap n (M * u)
+  near_low M h = go (place u w M)
     where
       go : Place u w M → gap n (w * u) ≤ gap n (M * u)
       go (inl p) = omega arith
@@ -63,8 +63,8 @@ module _ (n u w r : ℕ) (e : w * u + r ≡ n) (R : r < u) where
       go (inr (inr (inl p))) = rw (p, suc-mul) (omega arith)
       go (inr (inr (inr p))) = omega arith
 
-  near-high : (M : ℕ) → u ≤ r * 2 → gap n (w * u + u) ≤ gap n (M * u)
-  near-high M h = go (place u w M)
+  near_high : (M : ℕ) → u ≤ r * 2 → gap n (w * u + u) ≤ gap n (M * u)
+  near_high M h = go (place u w M)
     where
       go : Place u w M → gap n (w * u + u) ≤ gap n (M * u)
       go (inl p) = omega arith
@@ -73,8 +73,8 @@ module _ (n u w r : ℕ) (e : w * u + r ≡ n) (R : r < u) where
       go (inr (inr (inr p))) = omega arith
 
   -- another multiple is equally near to n only as the other neighbour, with n half-way between
-  tie-low : (M : ℕ) → r * 2 ≤ u → gap n (w * u) ≡ gap n (M * u) → (M ≢ w) → (M ≡ suc w) × (r * 2 ≡ u)
-  tie-low M h t d = go (place u w M)
+  tie_low : (M : ℕ) → r * 2 ≤ u → gap n (w * u) ≡ gap n (M * u) → (M ≢ w) → (M ≡ suc w) × (r * 2 ≡ u)
+  tie_low M h t d = go (place u w M)
     where
       go : Place u w M → (M ≡ suc w) × (r * 2 ≡ u)
       go (inl p) = absurd (omega arith)
@@ -82,8 +82,8 @@ module _ (n u w r : ℕ) (e : w * u + r ≡ n) (R : r < u) where
       go (inr (inr (inl p))) = (p, let t' : gap n (w * u) ≡ gap n (w * u + u) = t ∙ rw (p, suc-mul) refl in omega arith)
       go (inr (inr (inr p))) = absurd (omega arith)
 
-  tie-high : (M : ℕ) → u ≤ r * 2 → gap n (w * u + u) ≡ gap n (M * u) → (M ≢ suc w) → (M ≡ w) × (r * 2 ≡ u)
-  tie-high M h t d = go (place u w M)
+  tie_high : (M : ℕ) → u ≤ r * 2 → gap n (w * u + u) ≡ gap n (M * u) → (M ≢ suc w) → (M ≡ w) × (r * 2 ≡ u)
+  tie_high M h t d = go (place u w M)
     where
       go : Place u w M → (M ≡ w) × (r * 2 ≡ u)
       go (inl p) = absurd (omega arith)
@@ -99,42 +99,42 @@ pub record Tie (n u K M : ℕ) : Type 0 where
   pub least : n / u ≤ M
   pub most : M ≤ suc (n / u)
 
-to-even : {P : Type 0} (w : ℕ) → (w % 2 ≡ 0 → w + w % 2 ≡ w → P) → (w % 2 ≡ 1 → w + w % 2 ≡ suc w → P) → P
-to-even w f g = by-ltb (w % 2) 1 (λ p. f (omega arith) (omega arith)) (λ p. g (omega arith) (omega arith))
+to_even : {P : Type 0} (w : ℕ) → (w % 2 ≡ 0 → w + w % 2 ≡ w → P) → (w % 2 ≡ 1 → w + w % 2 ≡ suc w → P) → P
+to_even w f g = by_ltb (w % 2) 1 (λ p. f (omega arith) (omega arith)) (λ p. g (omega arith) (omega arith))
 
 module _ (n u : ℕ) (U : 0 < u) (M : ℕ) where
   abbrev w : ℕ
   w = n / u
 
   near_of : (o : Ordering) → Order o (n % u * 2) u → gap n (nearest w o * u) ≤ gap n (M * u)
-  near_of Ordering.lt h = near-low n u w (n % u) (div-add-mod' n u) (mod-lt n U) M (le_of_lt h)
+  near_of Ordering.lt h = near_low n u w (n % u) (div-add-mod' n u) (mod-lt n U) M (le_of_lt h)
   near_of Ordering.eq h =
-      to-even w
-      (λ b e. rw e (near-low n u w (n % u) (div-add-mod' n u) (mod-lt n U) M (le_of_eq h)))
-      (λ b e. rw (e, suc-mul) (near-high n u w (n % u) (div-add-mod' n u) (mod-lt n U) M (le_of_eq (sym h))))
-  near_of Ordering.gt h = rw suc-mul (near-high n u w (n % u) (div-add-mod' n u) (mod-lt n U) M (le_of_lt h))
+      to_even w
+      (λ b e. rw e (near_low n u w (n % u) (div-add-mod' n u) (mod-lt n U) M (le_of_eq h)))
+      (λ b e. rw (e, suc-mul) (near_high n u w (n % u) (div-add-mod' n u) (mod-lt n U) M (le_of_eq (sym h))))
+  near_of Ordering.gt h = rw suc-mul (near_high n u w (n % u) (div-add-mod' n u) (mod-lt n U) M (le_of_lt h))
 
-  pub closest-near : gap n (closest n u * u) ≤ gap n (M * u)
-  closest-near = near_of (compare (n % u * 2) u) (order (n % u * 2) u)
+  pub closest_near : gap n (closest n u * u) ≤ gap n (M * u)
+  closest_near = near_of (compare (n % u * 2) u) (order (n % u * 2) u)
 
-  tie-of : (o : Ordering) → Order o (n % u * 2) u → gap n (nearest w o * u) ≡ gap n (M * u) → (M ≢ nearest w o) → Tie n u (nearest w o) M
-  tie-of Ordering.lt h t d =
-      let c = tie-low n u w (n % u) (div-add-mod' n u) (mod-lt n U) M (le_of_lt h) t d in
+  tie_of : (o : Ordering) → Order o (n % u * 2) u → gap n (nearest w o * u) ≡ gap n (M * u) → (M ≢ nearest w o) → Tie n u (nearest w o) M
+  tie_of Ordering.lt h t d =
+      let c = tie_low n u w (n % u) (div-add-mod' n u) (mod-lt n U) M (le_of_lt h) t d in
       absurd (omega (arith, c.1))
-  tie-of Ordering.eq h t d =
-      to-even w
+  tie_of Ordering.eq h t d =
+      to_even w
       (λ b e.
-      let c = tie-low n u w (n % u) (div-add-mod' n u) (mod-lt n U) M (le_of_eq h) (rw e at t) (λ q. d (q ∙ sym e)) in
+      let c = tie_low n u w (n % u) (div-add-mod' n u) (mod-lt n U) M (le_of_eq h) (rw e at t) (λ q. d (q ∙ sym e)) in
       record { half = h; even = omega arith; odd = omega (arith, c.0); least = omega (arith, c.0); most = omega (arith, c.0) })
       (λ b e.
-      let c = tie-high n u w (n % u) (div-add-mod' n u) (mod-lt n U) M (le_of_eq (sym h)) (rw (e, suc-mul) at t) (λ q. d (q ∙ sym e)) in
+      let c = tie_high n u w (n % u) (div-add-mod' n u) (mod-lt n U) M (le_of_eq (sym h)) (rw (e, suc-mul) at t) (λ q. d (q ∙ sym e)) in
       record { half = h; even = omega arith; odd = omega (arith, c.0); least = omega (arith, c.0); most = omega (arith, c.0) })
-  tie-of Ordering.gt h t d =
-      let c = tie-high n u w (n % u) (div-add-mod' n u) (mod-lt n U) M (le_of_lt h) (rw suc-mul at t) d in
+  tie_of Ordering.gt h t d =
+      let c = tie_high n u w (n % u) (div-add-mod' n u) (mod-lt n U) M (le_of_lt h) (rw suc-mul at t) d in
       absurd (omega (arith, c.1))
 
-  pub closest-tie : gap n (closest n u * u) ≡ gap n (M * u) → (M ≢ closest n u) → Tie n u (closest n u) M
-  closest-tie = tie-of (compare (n % u * 2) u) (order (n % u * 2) u)
+  pub closest_tie : gap n (closest n u * u) ≡ gap n (M * u) → (M ≢ closest n u) → Tie n u (closest n u) M
+  closest_tie = tie_of (compare (n % u * 2) u) (order (n % u * 2) u)
 
 -- ---- n rounded to p digits: the digits after the first p are dropped, and `unit` is the weight of the last one that stays
 
@@ -148,19 +148,19 @@ module _ (p n : ℕ) where
   abbrev pub rounded : ℕ
   rounded = closest n unit
 
-  pub rounded-most : rounded ≤ 2 ^ p
-  rounded-most = le_trans (nearest-le (n / unit) (compare (n % unit * 2) unit)) (kept-lt p n)
+  pub rounded_most : rounded ≤ 2 ^ p
+  rounded_most = le_trans (nearest-le (n / unit) (compare (n % unit * 2) unit)) (kept-lt p n)
 
-  pub rounded-least : n / unit ≤ rounded
-  rounded-least = nearest-ge (n / unit) (compare (n % unit * 2) unit)
+  pub rounded_least : n / unit ≤ rounded
+  rounded_least = nearest-ge (n / unit) (compare (n % unit * 2) unit)
 
   module _ (P : 0 < p) where
     reaches : 0 < dropped → 2 ^ (p - 1) * unit ≤ n
     reaches h = le_trans (le_of_eq (sym (pow-add 2 (p - 1) dropped))) (size_reaches n (p - 1 + dropped) (omega arith))
 
     -- where digits are dropped, p are left
-    pub digits-left : 0 < dropped → 2 ^ (p - 1) ≤ n / unit
-    digits-left h = (le-div_iff_mul-le (pow_pos dropped)).1 (reaches h)
+    pub digits_left : 0 < dropped → 2 ^ (p - 1) ≤ n / unit
+    digits_left h = (le-div_iff_mul-le (pow_pos dropped)).1 (reaches h)
 
     module _ (m j : ℕ) (h : m < 2 ^ p) where
       multiple : dropped ≤ j → m * 2 ^ j ≡ m * 2 ^ (j - dropped) * unit
@@ -171,20 +171,20 @@ module _ (p n : ℕ) where
       small : j < dropped → m * 2 ^ j < 2 ^ (p - 1) * unit
       small l = lt_of_lt_of_le (shl_lt p j h) (le_trans (pow_mono (omega arith)) (le_of_eq (pow-add 2 (p - 1) dropped)))
 
-      nearer-one : j < dropped → gap n (rounded * unit) < gap n (m * 2 ^ j)
-      nearer-one l = lt_of_le_of_lt (closest-near n unit (pow_pos dropped) (2 ^ (p - 1))) (nearer n (m * 2 ^ j) (2 ^ (p - 1) * unit) (small l) (reaches (omega arith)))
+      nearer_one : j < dropped → gap n (rounded * unit) < gap n (m * 2 ^ j)
+      nearer_one l = lt_of_le_of_lt (closest_near n unit (pow_pos dropped) (2 ^ (p - 1))) (nearer n (m * 2 ^ j) (2 ^ (p - 1) * unit) (small l) (reaches (omega arith)))
 
-      pub rounded-near : gap n (rounded * unit) ≤ gap n (m * 2 ^ j)
-      rounded-near =
-          by-ltb j dropped
-          (λ l. le_of_lt (nearer-one l))
-          (λ l. rw (multiple l) (closest-near n unit (pow_pos dropped) (m * 2 ^ (j - dropped))))
+      pub rounded_near : gap n (rounded * unit) ≤ gap n (m * 2 ^ j)
+      rounded_near =
+          by_ltb j dropped
+          (λ l. le_of_lt (nearer_one l))
+          (λ l. rw (multiple l) (closest_near n unit (pow_pos dropped) (m * 2 ^ (j - dropped))))
 
-      pub rounded-tie : gap n (rounded * unit) ≡ gap n (m * 2 ^ j) → (m * 2 ^ j ≢ rounded * unit) → (M : ℕ) × (m * 2 ^ j ≡ M * unit) × Tie n unit rounded M
-      rounded-tie t d =
-          by-ltb j dropped
-          (λ l. absurd (ne_of_lt (nearer-one l) t))
+      pub rounded_tie : gap n (rounded * unit) ≡ gap n (m * 2 ^ j) → (m * 2 ^ j ≢ rounded * unit) → (M : ℕ) × (m * 2 ^ j ≡ M * unit) × Tie n unit rounded M
+      rounded_tie t d =
+          by_ltb j dropped
+          (λ l. absurd (ne_of_lt (nearer_one l) t))
           (λ l.
           let e = multiple l in
           let M = m * 2 ^ (j - dropped) in
-          (M, e, closest-tie n unit (pow_pos dropped) M (t ∙ ap (gap n) e) (λ q. d (e ∙ ap (λ (z : ℕ). z * unit) q))))
+          (M, e, closest_tie n unit (pow_pos dropped) M (t ∙ ap (gap n) e) (λ q. d (e ∙ ap (λ (z : ℕ). z * unit) q))))

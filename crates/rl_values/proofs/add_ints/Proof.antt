@@ -1,9 +1,9 @@
 use borrow.Author.Rules.{rules}
 use Rattle.rl_values.proofs.add_ints.Statement.{statement}
 use Rattle.rl_values.proofs.add_ints.Tie as tie
-use Rattle.rl_values.proofs.Sums.{top-fits, low_fits, up_fits, up-some, up_none, down_fits, down-some, down-none}
+use Rattle.rl_values.proofs.Sums.{top_fits, low_fits, up_fits, up_some, up_none, down_fits, down_some, down_none}
 
-ruleset laws = (top-fits, low_fits, up_fits, up-some, up_none, down_fits, down-some, down-none)
+ruleset laws = (top_fits, low_fits, up_fits, up_some, up_none, down_fits, down_some, down_none)
 
 sub-if2 : tie.Need-overflow-sub-if2
 sub-if2 c = search (laws, rules)

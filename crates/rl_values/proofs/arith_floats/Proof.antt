@@ -1,9 +1,9 @@
 use borrow.Author.Rules.{rules}
 use Rattle.rl_values.proofs.arith_floats.Statement.{statement}
 use Rattle.rl_values.proofs.arith_floats.Tie as tie
-use Rattle.rl_values.proofs.Laws.{floats-left, floats-right, floats-plus, floats-minus, floats-star, floats-zero, floats-slash}
+use Rattle.rl_values.proofs.Laws.{floats_left, floats_right, floats_plus, floats_minus, floats_star, floats_zero, floats_slash}
 
-ruleset laws = (floats-left, floats-right, floats-plus, floats-minus, floats-star, floats-zero, floats-slash)
+ruleset laws = (floats_left, floats_right, floats_plus, floats_minus, floats_star, floats_zero, floats_slash)
 
 returns : tie.Need-returns
 returns c = search (laws, rules)

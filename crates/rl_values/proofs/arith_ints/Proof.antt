@@ -1,9 +1,9 @@
 use borrow.Author.Rules.{rules}
 use Rattle.rl_values.proofs.arith_ints.Statement.{statement}
 use Rattle.rl_values.proofs.arith_ints.Tie as tie
-use Rattle.rl_values.proofs.Products.{ints-plus, ints-minus, ints-star, ints-slash}
+use Rattle.rl_values.proofs.Products.{ints_plus, ints_minus, ints_star, ints_slash}
 
-ruleset laws = (ints-plus, ints-minus, ints-star, ints-slash)
+ruleset laws = (ints_plus, ints_minus, ints_star, ints_slash)
 
 enum_told : tie.Need-enum-told
 enum_told c = search rules

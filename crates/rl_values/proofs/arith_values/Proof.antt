@@ -1,9 +1,9 @@
 use borrow.Author.Rules.{rules}
 use Rattle.rl_values.proofs.arith_values.Statement.{statement}
 use Rattle.rl_values.proofs.arith_values.Tie as tie
-use Rattle.rl_values.proofs.Products.{values-ints, values-mixed, values-float, values-int-str, values-int-bool, values-bool, values-str}
+use Rattle.rl_values.proofs.Products.{values_ints, values_mixed, values_float, values_int_str, values_int_bool, values_bool, values_str}
 
-ruleset laws = (values-ints, values-mixed, values-float, values-int-str, values-int-bool, values-bool, values-str)
+ruleset laws = (values_ints, values_mixed, values_float, values_int_str, values_int_bool, values_bool, values_str)
 
 enum-known-a : tie.Need-enum-known-a
 enum-known-a c = search rules

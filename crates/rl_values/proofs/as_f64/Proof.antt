@@ -1,9 +1,9 @@
 use borrow.Author.Rules.{rules}
 use Rattle.rl_values.proofs.as_f64.Statement.{statement}
 use Rattle.rl_values.proofs.as_f64.Tie as tie
-use Rattle.rl_values.proofs.Laws.{f64-int, f64-str, f64-bool}
+use Rattle.rl_values.proofs.Laws.{f64_int, f64_str, f64_bool}
 
-ruleset laws = (f64-int, f64-str, f64-bool)
+ruleset laws = (f64_int, f64_str, f64_bool)
 
 enum-known-v : tie.Need-enum-known-v
 enum-known-v c = search rules

@@ -1,9 +1,9 @@
 use borrow.Author.Rules.{rules}
 use Rattle.rl_values.proofs.bang.Statement.{statement}
 use Rattle.rl_values.proofs.bang.Tie as tie
-use Rattle.rl_values.proofs.Laws.{bang-int, bang-float, bang-str, bang-bool}
+use Rattle.rl_values.proofs.Laws.{bang_int, bang_float, bang_str, bang_bool}
 
-ruleset laws = (bang-int, bang-float, bang-str, bang-bool)
+ruleset laws = (bang_int, bang_float, bang_str, bang_bool)
 
 enum_told : tie.Need-enum-told
 enum_told c = search rules

@@ -1,9 +1,9 @@
 use borrow.Author.Rules.{rules}
 use Rattle.rl_values.proofs.cmp_i64.Statement.{statement}
 use Rattle.rl_values.proofs.cmp_i64.Tie as tie
-use Rattle.rl_values.proofs.Laws.{by-gt, by-ge, by-lt, by_le, by-eq, by-ne, lt-bits, le-bits, eq-bits, ne-bits}
+use Rattle.rl_values.proofs.Laws.{by_gt, by_ge, by_lt, by_le, by_eq, by_ne, lt_bits, le_bits, eq_bits, ne_bits}
 
-ruleset laws = (by-gt, by-ge, by-lt, by_le, by-eq, by-ne, lt-bits, le-bits, eq-bits, ne-bits)
+ruleset laws = (by_gt, by_ge, by_lt, by_le, by_eq, by_ne, lt_bits, le_bits, eq_bits, ne_bits)
 
 enum_told : tie.Need-enum-told
 enum_told c = search rules

@@ -1,9 +1,9 @@
 use borrow.Author.Rules.{rules}
 use Rattle.rl_values.proofs.compare_bools.Statement.{statement}
 use Rattle.rl_values.proofs.compare_bools.Tie as tie
-use Rattle.rl_values.proofs.Laws.{bools-gt, bools-ge, bools-lt, bools-le, bools-eq, bools-ne}
+use Rattle.rl_values.proofs.Laws.{bools_gt, bools_ge, bools_lt, bools_le, bools_eq, bools_ne}
 
-ruleset laws = (bools-gt, bools-ge, bools-lt, bools-le, bools-eq, bools-ne)
+ruleset laws = (bools_gt, bools_ge, bools_lt, bools_le, bools_eq, bools_ne)
 
 enum_told : tie.Need-enum-told
 enum_told c = search rules

@@ -1,9 +1,9 @@
 use borrow.Author.Rules.{rules}
 use Rattle.rl_values.proofs.compare_texts.Statement.{statement}
 use Rattle.rl_values.proofs.compare_texts.Tie as tie
-use Rattle.rl_values.proofs.Laws.{by-gt, by-ge, by-lt, by_le, by-eq, by-ne, not-above, other_text}
+use Rattle.rl_values.proofs.Laws.{by_gt, by_ge, by_lt, by_le, by_eq, by_ne, not_above, other_text}
 
-ruleset laws = (by-gt, by-ge, by-lt, by_le, by-eq, by-ne, not-above, other_text)
+ruleset laws = (by_gt, by_ge, by_lt, by_le, by_eq, by_ne, not_above, other_text)
 
 enum_told : tie.Need-enum-told
 enum_told c = search rules

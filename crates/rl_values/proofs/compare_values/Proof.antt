@@ -1,9 +1,9 @@
 use borrow.Author.Rules.{rules}
 use Rattle.rl_values.proofs.compare_values.Statement.{statement}
 use Rattle.rl_values.proofs.compare_values.Tie as tie
-use Rattle.rl_values.proofs.Laws.{int-int, int-float, float-any, str-str, bool-bool, int-str, str-int, int-bool, bool-int, str-float, bool-float, str-bool, bool-str}
+use Rattle.rl_values.proofs.Laws.{int_int, int_float, float_any, str_str, bool_bool, int_str, str_int, int_bool, bool_int, str_float, bool_float, str_bool, bool_str}
 
-ruleset laws = (int-int, int-float, float-any, str-str, bool-bool, int-str, str-int, int-bool, bool-int, str-float, bool-float, str-bool, bool-str)
+ruleset laws = (int_int, int_float, float_any, str_str, bool_bool, int_str, str_int, int_bool, bool_int, str_float, bool_float, str_bool, bool_str)
 
 enum-known-a : tie.Need-enum-known-a
 enum-known-a c = search rules

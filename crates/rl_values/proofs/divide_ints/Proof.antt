@@ -1,9 +1,9 @@
 use borrow.Author.Rules.{rules}
 use Rattle.rl_values.proofs.divide_ints.Statement.{statement}
 use Rattle.rl_values.proofs.divide_ints.Tie as tie
-use Rattle.rl_values.proofs.Sums.{div-zero, div-above, div-minus, div-fits, div-some}
+use Rattle.rl_values.proofs.Sums.{div_zero, div_above, div_minus, div_fits, div_some}
 
-ruleset laws = (div-zero, div-above, div-minus, div-fits, div-some)
+ruleset laws = (div_zero, div_above, div_minus, div_fits, div_some)
 
 returns : tie.Need-returns
 returns c = search (laws, rules)

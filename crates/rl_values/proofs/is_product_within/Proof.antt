@@ -1,9 +1,9 @@
 use borrow.Author.Rules.{rules}
 use Rattle.rl_values.proofs.is_product_within.Statement.{statement}
 use Rattle.rl_values.proofs.is_product_within.Tie as tie
-use Rattle.rl_values.proofs.Products.{within-zero, within-some}
+use Rattle.rl_values.proofs.Products.{within_zero, within_some}
 
-ruleset laws = (within-zero, within-some)
+ruleset laws = (within_zero, within_some)
 
 returns : tie.Need-returns
 returns c = search (laws, rules)

@@ -1,9 +1,9 @@
 use borrow.Author.Rules.{rules}
 use Rattle.rl_values.proofs.magnitude.Statement.{statement}
 use Rattle.rl_values.proofs.magnitude.Tie as tie
-use Rattle.rl_values.proofs.Products.{flip-fits, flip-whole, flip-cast, flip-add, flip-result, plain-whole, plain-cast}
+use Rattle.rl_values.proofs.Products.{flip_fits, flip_whole, flip_cast, flip_add, flip_result, plain_whole, plain_cast}
 
-ruleset laws = (flip-fits, flip-whole, flip-cast, flip-add, flip-result, plain-whole, plain-cast)
+ruleset laws = (flip_fits, flip_whole, flip_cast, flip_add, flip_result, plain_whole, plain_cast)
 
 sub-result : tie.Need-overflow-sub-result
 sub-result c = search (laws, rules)

@@ -1,9 +1,9 @@
 use borrow.Author.Rules.{rules}
 use Rattle.rl_values.proofs.multiply_ints.Statement.{statement}
 use Rattle.rl_values.proofs.multiply_ints.Tie as tie
-use Rattle.rl_values.proofs.Products.{times-fits, times-some, times_none}
+use Rattle.rl_values.proofs.Products.{times_fits, times_some, times_none}
 
-ruleset laws = (times-fits, times-some, times_none)
+ruleset laws = (times_fits, times_some, times_none)
 
 magnitude-requires : tie.Need-magnitude-requires
 magnitude-requires c κs = search rules

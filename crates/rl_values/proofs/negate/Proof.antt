@@ -1,9 +1,9 @@
 use borrow.Author.Rules.{rules}
 use Rattle.rl_values.proofs.negate.Statement.{statement}
 use Rattle.rl_values.proofs.negate.Tie as tie
-use Rattle.rl_values.proofs.Laws.{negate-int, negate-float, negate-str, negate-bool}
+use Rattle.rl_values.proofs.Laws.{negate_int, negate_float, negate_str, negate_bool}
 
-ruleset laws = (negate-int, negate-float, negate-str, negate-bool)
+ruleset laws = (negate_int, negate_float, negate_str, negate_bool)
 
 enum-known-v : tie.Need-enum-known-v
 enum-known-v c = search rules

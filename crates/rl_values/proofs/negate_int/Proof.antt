@@ -1,9 +1,9 @@
 use borrow.Author.Rules.{rules}
 use Rattle.rl_values.proofs.negate_int.Statement.{statement}
 use Rattle.rl_values.proofs.negate_int.Tie as tie
-use Rattle.rl_values.proofs.Laws.{neg-none, neg-fits, neg-some}
+use Rattle.rl_values.proofs.Laws.{neg_none, neg_fits, neg_some}
 
-ruleset laws = (neg-none, neg-fits, neg-some)
+ruleset laws = (neg_none, neg_fits, neg_some)
 
 returns : tie.Need-returns
 returns c = search (laws, rules)

@@ -1,9 +1,9 @@
 use borrow.Author.Rules.{rules}
 use Rattle.rl_values.proofs.product_most.Statement.{statement}
 use Rattle.rl_values.proofs.product_most.Tie as tie
-use Rattle.rl_values.proofs.Products.{most-like, most-unlike}
+use Rattle.rl_values.proofs.Products.{most_like, most_unlike}
 
-ruleset laws = (most-like, most-unlike)
+ruleset laws = (most_like, most_unlike)
 
 returns : tie.Need-returns
 returns c = search (laws, rules)

@@ -1,10 +1,10 @@
 use borrow.Author.Rules.{rules}
 use Rattle.rl_values.proofs.subtract_ints.Statement.{statement}
 use Rattle.rl_values.proofs.subtract_ints.Tie as tie
-use Rattle.rl_values.proofs.Sums.{less-fits, less-some, less_none, less-sum}
-use Rattle.rl_values.proofs.Laws.{neg-fits}
+use Rattle.rl_values.proofs.Sums.{less_fits, less_some, less_none, less_sum}
+use Rattle.rl_values.proofs.Laws.{neg_fits}
 
-ruleset laws = (less-fits, less-some, less_none, less-sum, neg-fits)
+ruleset laws = (less_fits, less_some, less_none, less_sum, neg_fits)
 
 sub-t5 : tie.Need-overflow-sub-t5
 sub-t5 c = search (laws, rules)

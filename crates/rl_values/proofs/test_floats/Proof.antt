@@ -1,9 +1,9 @@
 use borrow.Author.Rules.{rules}
 use Rattle.rl_values.proofs.test_floats.Statement.{statement}
 use Rattle.rl_values.proofs.test_floats.Tie as tie
-use Rattle.rl_values.proofs.Laws.{by-gt, by-ge, by-lt, by_le, by-eq, by-ne, le-floats, ne-floats}
+use Rattle.rl_values.proofs.Laws.{by_gt, by_ge, by_lt, by_le, by_eq, by_ne, le_floats, ne_floats}
 
-ruleset laws = (by-gt, by-ge, by-lt, by_le, by-eq, by-ne, le-floats, ne-floats)
+ruleset laws = (by_gt, by_ge, by_lt, by_le, by_eq, by_ne, le_floats, ne_floats)
 
 enum_told : tie.Need-enum-told
 enum_told c = search rules

@@ -1,9 +1,9 @@
 use borrow.Author.Rules.{rules}
 use Rattle.rl_values.proofs.verdict.Statement.{statement}
 use Rattle.rl_values.proofs.verdict.Tie as tie
-use Rattle.rl_values.proofs.Laws.{verdict-yes, verdict-no}
+use Rattle.rl_values.proofs.Laws.{verdict_yes, verdict_no}
 
-ruleset laws = (verdict-yes, verdict-no)
+ruleset laws = (verdict_yes, verdict_no)
 
 returns : tie.Need-returns
 returns c = search (laws, rules)

@@ -1,9 +1,9 @@
 use Rattle.rl_words.proofs.bits_of_float.Statement.{statement}
 use Rattle.rl_words.proofs.bits_of_float.Tie as tie
 use borrow.Author.Rules.{rules}
-use Rattle.rl_words.proofs.Laws.{pattern-nan, pattern-defined, pattern-is}
+use Rattle.rl_words.proofs.Laws.{pattern_nan, pattern_defined, pattern_is}
 
-ruleset laws = (pattern-nan, pattern-defined, pattern-is)
+ruleset laws = (pattern_nan, pattern_defined, pattern_is)
 
 returns : tie.Need-returns
 returns c = search (laws, rules)

@@ -1,9 +1,9 @@
 use borrow.Author.Rules.{rules}
 use Rattle.rl_words.proofs.payload_word.Statement.{statement}
 use Rattle.rl_words.proofs.payload_word.Tie as tie
-use Rattle.rl_words.proofs.Laws.{none-payload, none-back, int-payload, int-back, float-payload, float_back, str-payload, str-back, true-payload, true-back, false-payload, false-back}
+use Rattle.rl_words.proofs.Laws.{none_payload, none_back, int_payload, int_back, float_payload, float_back, str_payload, str_back, true_payload, true_back, false_payload, false_back}
 
-ruleset laws = (none-payload, none-back, int-payload, int-back, float-payload, float_back, str-payload, str-back, true-payload, true-back, false-payload, false-back)
+ruleset laws = (none_payload, none_back, int_payload, int_back, float_payload, float_back, str_payload, str_back, true_payload, true_back, false_payload, false_back)
 
 enum_told : tie.Need-enum-told
 enum_told c = search rules

@@ -1,9 +1,9 @@
 use borrow.Author.Rules.{rules}
 use Rattle.rl_words.proofs.words_value.Statement.{statement}
 use Rattle.rl_words.proofs.words_value.Tie as tie
-use Rattle.rl_words.proofs.Laws.{value-int, value-float, value-str, value-bool, value_none}
+use Rattle.rl_words.proofs.Laws.{value_int, value_float, value_str, value_bool, value_none}
 
-ruleset laws = (value-int, value-float, value-str, value-bool, value_none)
+ruleset laws = (value_int, value_float, value_str, value_bool, value_none)
 
 signed64-requires : tie.Need-signed64-requires
 signed64-requires c κs = search rules

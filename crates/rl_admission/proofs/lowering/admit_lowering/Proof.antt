@@ -1,9 +1,9 @@
-use Rattle.rl_admission.proofs.LoweringLaws.{no-function, too-high, too_short, all_hold}
+use Rattle.rl_admission.proofs.LoweringLaws.{no_function, too_high, too_short, all_hold}
 use borrow.Author.Rules.{rules}
 use Rattle.rl_admission.proofs.lowering.admit_lowering.Statement.{statement}
 use Rattle.rl_admission.proofs.lowering.admit_lowering.Tie as tie
 
-ruleset laws = (no-function, too-high, too_short, all_hold)
+ruleset laws = (no_function, too_high, too_short, all_hold)
 
 cast-functions : tie.Need-overflow-cast-functions
 cast-functions c = search (laws, rules)

@@ -1,11 +1,11 @@
 use Prim.Native.Nat.{◌-◌}
 use native.Mathlib.Omega.{arith}
-use Rattle.rl_admission.proofs.LoweringLaws.{Looking, looking-none, looking-over, looking-on, looking-all}
+use Rattle.rl_admission.proofs.LoweringLaws.{Looking, looking_none, looking_over, looking_on, looking_all}
 use borrow.Author.Rules.{rules}
 use Rattle.rl_admission.proofs.lowering.any_over.Statement.{statement}
 use Rattle.rl_admission.proofs.lowering.any_over.Tie as tie
 
-ruleset laws = (looking-none, looking-over, looking-on, looking-all)
+ruleset laws = (looking_none, looking_over, looking_on, looking_all)
 
 abbrev invariant-loop : tie.invariant-loop
 invariant-loop work from n most first count i₀ i = Looking work from n most i
@@ -32,7 +32,7 @@ loop-less : tie.Need-loop-smaller invariant-loop decreases-loop
 loop-less c = search (laws, rules)
 
 loop-again : tie.Need-loop-preserved invariant-loop decreases-loop
-loop-again c = looking-on _ _ _ _ _ c.before.before.before.loop.invariant _ c.before.word_at.ensures (omega arith) c.if1.false
+loop-again c = looking_on _ _ _ _ _ c.before.before.before.loop.invariant _ c.before.word_at.ensures (omega arith) c.if1.false
 
 returns-2 : tie.Need-returns-2 invariant-loop decreases-loop
 returns-2 c = search (laws, rules)

@@ -1,9 +1,9 @@
-use Rattle.rl_admission.proofs.LoweringLaws.{tall-expression, tall-statement}
+use Rattle.rl_admission.proofs.LoweringLaws.{tall_expression, tall_statement}
 use borrow.Author.Rules.{rules}
 use Rattle.rl_admission.proofs.lowering.too_tall.Statement.{statement}
 use Rattle.rl_admission.proofs.lowering.too_tall.Tie as tie
 
-ruleset laws = (tall-expression, tall-statement)
+ruleset laws = (tall_expression, tall_statement)
 
 any-over-requires : tie.Need-any-over-requires
 any-over-requires c κs = search (laws, rules)

@@ -1,7 +1,7 @@
 use borrow.Author.Rules.{rules}
 use Rattle.rl_admission.proofs.running.plain_has.Statement.{statement}
 use Rattle.rl_admission.proofs.running.plain_has.Tie as tie
-use Rattle.rl_admission.proofs.RunningLaws.{plain-text}
+use Rattle.rl_admission.proofs.RunningLaws.{plain_text}
 
 enum_told : tie.Need-enum-told
 enum_told c = search rules
@@ -31,7 +31,7 @@ returns-3 : tie.Need-returns-3
 returns-3 c = search rules
 
 returns-4 : tie.Need-returns-4
-returns-4 c = search (plain-text, rules)
+returns-4 c = search (plain_text, rules)
 
 returns-5 : tie.Need-returns-5
 returns-5 c = search rules

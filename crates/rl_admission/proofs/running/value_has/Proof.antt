@@ -1,7 +1,7 @@
 use borrow.Author.Rules.{rules}
 use Rattle.rl_admission.proofs.running.value_has.Statement.{statement}
 use Rattle.rl_admission.proofs.running.value_has.Tie as tie
-use Rattle.rl_admission.proofs.RunningLaws.{bare-has, ok-has, err-has}
+use Rattle.rl_admission.proofs.RunningLaws.{bare_has, ok_has, err_has}
 
 enum-known-v : tie.Need-enum-known-v
 enum-known-v c = search rules
@@ -22,13 +22,13 @@ plain-has-requires-3 : tie.Need-plain-has-requires-3
 plain-has-requires-3 c κs = search rules
 
 returns : tie.Need-returns
-returns c = search (bare-has, rules)
+returns c = search (bare_has, rules)
 
 returns-2 : tie.Need-returns-2
-returns-2 c = search (ok-has, rules)
+returns-2 c = search (ok_has, rules)
 
 returns-3 : tie.Need-returns-3
-returns-3 c = search (err-has, rules)
+returns-3 c = search (err_has, rules)
 
 pub value-has-spec : {M : Type 1} → statement M
 value-has-spec =

@@ -1,9 +1,9 @@
 use borrow.Author.Rules.{rules}
 use Rattle.rl_ast.proofs.reader.after_header.Statement.{statement}
 use Rattle.rl_ast.proofs.reader.after_header.Tie as tie
-use Rattle.rl_ast.proofs.ReaderLaws.{body-past, body-left, body_end, body-stop}
+use Rattle.rl_ast.proofs.ReaderLaws.{body_past, body_left_lem, body_end, body_stop}
 
-ruleset laws = (body-past, body-left, body_end, body-stop)
+ruleset laws = (body_past, body_left_lem, body_end, body_stop)
 
 cast-size : tie.Need-overflow-cast-size
 cast-size c = search rules

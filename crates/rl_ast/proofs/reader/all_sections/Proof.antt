@@ -1,17 +1,17 @@
 use Rattle.rl_spec.specs.Schema.{sections}
-use Rattle.rl_spec.specs.Read.{sectionsFrom}
+use Rattle.rl_spec.specs.Read.{sections_from}
 use lib.ListN.{length, drop}
 use mathlib.Core.Path.{◌≡◌, ◌∙◌}
 use Prim.Native.Nat.{◌-◌, ◌≤◌}
 use borrow.Author.Rules.{rules}
 use Rattle.rl_ast.proofs.reader.all_sections.Statement.{statement}
 use Rattle.rl_ast.proofs.reader.all_sections.Tie as tie
-use Rattle.rl_ast.proofs.ReaderLaws.{sections-end, sections-more, sections-stop, at_most}
+use Rattle.rl_ast.proofs.ReaderLaws.{sections_end_lem, sections_more, sections_stop, at_most}
 
-ruleset laws = (sections-end, sections-more, sections-stop, at_most)
+ruleset laws = (sections_end_lem, sections_more, sections_stop, at_most)
 
 abbrev invariant-loop : tie.invariant-loop
-invariant-loop s rows c start w₀ p₀ at₀ j₀ w p at j = (j ≤ 8) × ((length w ≡ length w₀) × ((length p ≡ length p₀) × (sectionsFrom s c sections start w₀ p₀ ≡ sectionsFrom s c (drop j sections) at w p)))
+invariant-loop s rows c start w₀ p₀ at₀ j₀ w p at j = (j ≤ 8) × ((length w ≡ length w₀) × ((length p ≡ length p₀) × (sections_from s c sections start w₀ p₀ ≡ sections_from s c (drop j sections) at w p)))
 
 abbrev decreases-loop : tie.decreases-loop
 decreases-loop s rows c start w₀ p₀ at₀ j₀ w p at j = 8 - j
@@ -50,7 +50,7 @@ loop-less : tie.Need-loop-smaller invariant-loop decreases-loop
 loop-less c = search (laws, rules)
 
 loop-again : tie.Need-loop-preserved invariant-loop decreases-loop
-loop-again c = (at_most _ _ c.before.before.before.before.before.before.before.before.before.before.before.before.loop-test.true, (c.before.before.before.before.before.before.before.section-records.auto.1.1.1.1.1.1.0 ∙ c.before.before.before.before.before.before.before.before.before.before.before.before.before.loop.invariant.1.0, (c.before.before.before.before.before.before.before.section-records.auto.1.1.1.1.1.1.1.0 ∙ c.before.before.before.before.before.before.before.before.before.before.before.before.before.loop.invariant.1.1.0, sections-more _ _ _ _ _ _ _ c.before.before.before.before.before.before.before.before.before.before.before.before.before.loop.invariant.1.1.1 c.before.before.before.before.before.before.before.before.before.before.before.before.loop-test.true _ c.before.before.before.before.before.before.before.before.before.before.before.section-at.ensures _ c.before.before.before.before.before.before.before.before.before.before.count-in.ensures _ _ _ c.before.before.before.before.before.before.before.section-records.ensures _ _ c.before.step.given.1)))
+loop-again c = (at_most _ _ c.before.before.before.before.before.before.before.before.before.before.before.before.loop-test.true, (c.before.before.before.before.before.before.before.section_records.auto.1.1.1.1.1.1.0 ∙ c.before.before.before.before.before.before.before.before.before.before.before.before.before.loop.invariant.1.0, (c.before.before.before.before.before.before.before.section_records.auto.1.1.1.1.1.1.1.0 ∙ c.before.before.before.before.before.before.before.before.before.before.before.before.before.loop.invariant.1.1.0, sections_more _ _ _ _ _ _ _ c.before.before.before.before.before.before.before.before.before.before.before.before.before.loop.invariant.1.1.1 c.before.before.before.before.before.before.before.before.before.before.before.before.loop-test.true _ c.before.before.before.before.before.before.before.before.before.before.before.section_at_lem.ensures _ c.before.before.before.before.before.before.before.before.before.before.count-in.ensures _ _ _ c.before.before.before.before.before.before.before.section_records.ensures _ _ c.before.step.given.1)))
 
 same-length-3 : tie.Need-same-length-3 invariant-loop decreases-loop
 same-length-3 c = search (laws, rules)

@@ -1,9 +1,9 @@
 use borrow.Author.Rules.{rules}
 use Rattle.rl_ast.proofs.reader.content.Statement.{statement}
 use Rattle.rl_ast.proofs.reader.content.Tie as tie
-use Rattle.rl_ast.proofs.ReaderLaws.{content-stop, content-more}
+use Rattle.rl_ast.proofs.ReaderLaws.{content_stop, content_more}
 
-ruleset laws = (content-stop, content-more)
+ruleset laws = (content_stop, content_more)
 
 header-requires : tie.Need-header-requires
 header-requires c κs = search rules

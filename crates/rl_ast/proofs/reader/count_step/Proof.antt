@@ -1,17 +1,17 @@
 use Rattle.rl_spec.specs.Schema.{limits}
-use Rattle.rl_spec.specs.Read.{countsFrom}
+use Rattle.rl_spec.specs.Read.{counts_from}
 use lib.ListN.{drop}
 use mathlib.Core.Path.{◌≡◌}
 use Prim.Native.Nat.{◌-◌, ◌+◌, ◌*◌, ◌≤◌}
 use borrow.Author.Rules.{rules}
 use Rattle.rl_ast.proofs.reader.count_step.Statement.{statement}
 use Rattle.rl_ast.proofs.reader.count_step.Tie as tie
-use Rattle.rl_ast.proofs.ReaderLaws.{count-end, count_past, count-over, count-more}
+use Rattle.rl_ast.proofs.ReaderLaws.{count_end, count_past, count_over, count_more}
 
-ruleset laws = (count-end, count_past, count-over, count-more)
+ruleset laws = (count_end, count_past, count_over, count_more)
 
 abbrev invariant-loop : tie.invariant-loop
-invariant-loop s at₀ j₀ at j = (j ≤ 9) × ((at ≡ 5 + j * 2) × (countsFrom s limits 5 ≡ countsFrom s (drop j limits) at))
+invariant-loop s at₀ j₀ at j = (j ≤ 9) × ((at ≡ 5 + j * 2) × (counts_from s limits 5 ≡ counts_from s (drop j limits) at))
 
 abbrev decreases-loop : tie.decreases-loop
 decreases-loop s at₀ j₀ at j = 9 - j
@@ -44,7 +44,7 @@ loop-less : tie.Need-loop-smaller invariant-loop decreases-loop
 loop-less c = search (laws, rules)
 
 loop-again : tie.Need-loop-preserved invariant-loop decreases-loop
-loop-again c = (search rules, (search rules, count-more _ _ _ _ c.before.before.before.before.before.before.loop.invariant.1.1 c.before.before.before.before.before.loop-test.true _ c.before.before.before.before.is-past.ensures c.before.before.before.if1.false _ _ c.before.before.limit-at.ensures c.before.u16-at.ensures c.if2.false))
+loop-again c = (search rules, (search rules, count_more _ _ _ _ c.before.before.before.before.before.before.loop.invariant.1.1 c.before.before.before.before.before.loop-test.true _ c.before.before.before.before.is-past.ensures c.before.before.before.if1.false _ _ c.before.before.limit-at.ensures c.before.u16-at.ensures c.if2.false))
 
 returns-3 : tie.Need-returns-3 invariant-loop decreases-loop
 returns-3 c = search (laws, rules)

@@ -1,9 +1,9 @@
 use borrow.Author.Rules.{rules}
 use Rattle.rl_ast.proofs.reader.header.Statement.{statement}
 use Rattle.rl_ast.proofs.reader.header.Tie as tie
-use Rattle.rl_ast.proofs.ReaderLaws.{header-past, header-kind, header-arena, header-counts}
+use Rattle.rl_ast.proofs.ReaderLaws.{header_past, header_kind, header_arena, header_counts}
 
-ruleset laws = (header-past, header-kind, header-arena, header-counts)
+ruleset laws = (header_past, header_kind, header_arena, header_counts)
 
 is-past-requires : tie.Need-is-past-requires
 is-past-requires c κs = search rules

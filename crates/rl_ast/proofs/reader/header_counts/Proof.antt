@@ -1,9 +1,9 @@
 use borrow.Author.Rules.{rules}
 use Rattle.rl_ast.proofs.reader.header_counts.Statement.{statement}
 use Rattle.rl_ast.proofs.reader.header_counts.Tie as tie
-use Rattle.rl_ast.proofs.ReaderLaws.{counts-are}
+use Rattle.rl_ast.proofs.ReaderLaws.{counts_are}
 
-ruleset laws = (counts-are)
+ruleset laws = (counts_are)
 
 u16-at-requires : tie.Need-u16-at-requires
 u16-at-requires c κs = search rules

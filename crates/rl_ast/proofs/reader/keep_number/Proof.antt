@@ -1,9 +1,9 @@
 use borrow.Author.Rules.{rules}
 use Rattle.rl_ast.proofs.reader.keep_number.Statement.{statement}
 use Rattle.rl_ast.proofs.reader.keep_number.Tie as tie
-use Rattle.rl_ast.proofs.ReaderLaws.{keep-is}
+use Rattle.rl_ast.proofs.ReaderLaws.{keep_is}
 
-ruleset laws = (keep-is)
+ruleset laws = (keep_is)
 
 cast-first : tie.Need-overflow-cast-first
 cast-first c = search rules

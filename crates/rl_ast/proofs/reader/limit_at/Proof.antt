@@ -1,5 +1,5 @@
 use Rattle.rl_spec.specs.Schema.{limits}
-use Rattle.rl_ast.proofs.ReaderLaws.{limit-rest}
+use Rattle.rl_ast.proofs.ReaderLaws.{limit_rest}
 use Rattle.rl_ast.proofs.reader.limit_at.Statement.{statement}
 use Rattle.rl_ast.proofs.reader.limit_at.Tie as tie
 
@@ -28,7 +28,7 @@ unfolding limits
 returns-6 c = rw c.match.keys6
 
 returns-7 : tie.Need-returns-7
-returns-7 c = limit-rest _ c.match.rest.0.0.0.0.0.1 c.match.rest.0.0.0.0.1 c.match.rest.0.0.0.1 c.match.rest.0.0.1 c.match.rest.0.1 c.match.rest.1
+returns-7 c = limit_rest _ c.match.rest.0.0.0.0.0.1 c.match.rest.0.0.0.0.1 c.match.rest.0.0.0.1 c.match.rest.0.0.1 c.match.rest.0.1 c.match.rest.1
 
 pub limit-at-spec : {M : Type 1} → statement M
 limit-at-spec = tie.close (tie.spec returns returns-2 returns-3 returns-4 returns-5 returns-6 returns-7)

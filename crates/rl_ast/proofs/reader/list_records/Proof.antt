@@ -1,16 +1,16 @@
-use Rattle.rl_ast.specs.Lists.{listsFrom}
+use Rattle.rl_ast.specs.Lists.{lists_from}
 use mathlib.Core.Path.{◌≡◌}
 use Prim.Native.Nat.{◌-◌, ◌≤◌}
 use borrow.Author.Rules.{rules}
 use Rattle.rl_ast.proofs.reader.list_records.Statement.{statement}
 use Rattle.rl_ast.proofs.reader.list_records.Tie as tie
-use Rattle.rl_ast.proofs.ListLaws.{lists-start, lists-end, lists-past, lists-kind, lists-short, lists-more, three-fit}
-use Rattle.rl_fields.proofs.RecordLaws.{byte-there, past_fits}
+use Rattle.rl_ast.proofs.ListLaws.{lists_start, lists_end, lists_past, lists_kind, lists_short, lists_more, three_fit}
+use Rattle.rl_fields.proofs.RecordLaws.{byte_there, past_fits}
 
-ruleset laws = (lists-start, lists-end, lists-past, lists-kind, lists-short, lists-more, three-fit, byte-there, past_fits)
+ruleset laws = (lists_start, lists_end, lists_past, lists_kind, lists_short, lists_more, three_fit, byte_there, past_fits)
 
 abbrev invariant-loop : tie.invariant-loop
-invariant-loop s count start at₀ i₀ at i = (i ≤ count) × (listsFrom s count start ≡ listsFrom s (count - i) at)
+invariant-loop s count start at₀ i₀ at i = (i ≤ count) × (lists_from s count start ≡ lists_from s (count - i) at)
 
 abbrev decreases-loop : tie.decreases-loop
 decreases-loop s count start at₀ i₀ at i = count - i
@@ -40,7 +40,7 @@ add-t16 : tie.Need-overflow-add-t16 invariant-loop decreases-loop
 add-t16 c = search (laws, rules)
 
 returns-3 : tie.Need-returns-3 invariant-loop decreases-loop
-returns-3 c = search (lists-short)
+returns-3 c = search (lists_short)
 
 add_at : tie.Need-overflow-add-at invariant-loop decreases-loop
 add_at c = search (laws, rules)

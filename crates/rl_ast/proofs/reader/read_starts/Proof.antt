@@ -1,7 +1,7 @@
 use mathlib.Core.Path.{◌≡◌, ◌∙◌}
 use native.Mathlib.Omega.{arith}
 use lib.ListN.{length}
-use Rattle.rl_ast.proofs.ReaderLaws.{cleared, read-long, read_short, read-stop, read-good}
+use Rattle.rl_ast.proofs.ReaderLaws.{cleared, read_long, read_short, read_stop, read_good}
 use borrow.Author.Rules.{rules}
 use Rattle.rl_ast.proofs.reader.read_starts.Statement.{statement}
 use Rattle.rl_ast.proofs.reader.read_starts.Tie as tie
@@ -18,7 +18,7 @@ same_length c = search rules
 returns : tie.Need-returns
 returns c =
     let z : length c.before.before.before.before.before.before.before.before.before.args.starts.now ≡ 6144 = search rules in
-    read-long _ _ c.if1.true _ _ c.before.before.before.before.before.clear.ensures (cleared c.before.before.before.before.before.before.before.before.before.args.starts.now _ _ c.before.clear2.ensures z)
+    read_long _ _ c.if1.true _ _ c.before.before.before.before.before.clear.ensures (cleared c.before.before.before.before.before.before.before.before.before.args.starts.now _ _ c.before.clear2.ensures z)
 
 same-length-2 : tie.Need-same-length-2
 same-length-2 c = search rules
@@ -62,8 +62,8 @@ same-length-3 c = search rules
 returns-3 : tie.Need-returns-3
 returns-3 c =
     let z : length c.before.before.before.before.before.before.before.before.before.before.before.before.before.before.before.before.before.before.before.before.before.before.args.starts.now ≡ 6144 = search rules in
-    read-good _ _ c.before.before.before.before.before.before.before.before.before.before.before.before.before.if1.false (omega (arith, c.before.before.before.before.before.before.before.before.before.before.before.before.before.before.before.before.before.before.clear.auto.0, c.before.before.before.before.before.before.before.before.before.before.before.before.if2.false)) _ _ _ _ _ c.before.before.before.before.before.before.before.before.before.before.before.before.before.before.before.before.before.before.clear.ensures
-    (cleared c.before.before.before.before.before.before.before.before.before.before.before.before.before.before.before.before.before.before.before.before.before.before.args.starts.now _ _ c.before.before.before.before.before.before.before.before.before.before.before.before.before.before.clear2.ensures z) c.before.before.before.before.before.before.before.content.ensures _ _ c.before.before.before.all.given.1 _ c.before.u32-at.ensures _ c.header-counts.ensures
+    read_good _ _ c.before.before.before.before.before.before.before.before.before.before.before.before.before.if1.false (omega (arith, c.before.before.before.before.before.before.before.before.before.before.before.before.before.before.before.before.before.before.clear.auto.0, c.before.before.before.before.before.before.before.before.before.before.before.before.if2.false)) _ _ _ _ _ c.before.before.before.before.before.before.before.before.before.before.before.before.before.before.before.before.before.before.clear.ensures
+    (cleared c.before.before.before.before.before.before.before.before.before.before.before.before.before.before.before.before.before.before.before.before.before.before.args.starts.now _ _ c.before.before.before.before.before.before.before.before.before.before.before.before.before.before.clear2.ensures z) c.before.before.before.before.before.before.before.content.ensures _ _ c.before.before.before.all.given.1 _ c.before.u32-at.ensures _ c.header_counts.ensures
 
 same-length-4 : tie.Need-same-length-4
 same-length-4 c = search rules
@@ -71,7 +71,7 @@ same-length-4 c = search rules
 returns-4 : tie.Need-returns-4
 returns-4 c =
     let z : length c.before.before.before.before.before.before.before.before.before.before.before.before.before.before.before.before.before.before.before.before.before.before.before.before.before.before.args.starts.now ≡ 6144 = search rules in
-    read-stop _ _ c.before.before.before.before.before.before.before.before.before.before.before.before.before.before.before.before.before.if1.false (omega (arith, c.before.before.before.before.before.before.before.before.before.before.before.before.before.before.before.before.before.before.before.before.before.before.clear.auto.0, c.before.before.before.before.before.before.before.before.before.before.before.before.before.before.before.before.if2.false)) _ _ _ _ _ c.before.before.before.before.before.before.before.before.before.before.before.before.before.before.before.before.before.before.before.before.before.before.clear.ensures
+    read_stop _ _ c.before.before.before.before.before.before.before.before.before.before.before.before.before.before.before.before.before.if1.false (omega (arith, c.before.before.before.before.before.before.before.before.before.before.before.before.before.before.before.before.before.before.before.before.before.before.clear.auto.0, c.before.before.before.before.before.before.before.before.before.before.before.before.before.before.before.before.if2.false)) _ _ _ _ _ c.before.before.before.before.before.before.before.before.before.before.before.before.before.before.before.before.before.before.before.before.before.before.clear.ensures
     (cleared c.before.before.before.before.before.before.before.before.before.before.before.before.before.before.before.before.before.before.before.before.before.before.before.before.before.before.args.starts.now _ _ c.before.before.before.before.before.before.before.before.before.before.before.before.before.before.before.before.before.before.clear2.ensures z) c.before.before.before.before.before.before.before.before.before.before.before.content.ensures _ _ c.before.before.before.before.before.before.before.all2.given.1 _ _
     (cleared c.before.before.before.before.before.before.before.before.before.before.before.content.new.1.1.0 _ _ c.before.before.before.before.clear3.ensures (c.before.before.before.before.before.before.before.before.before.before.before.content.auto.1.1.0 ∙ c.before.before.before.before.before.before.before.before.before.before.before.before.before.before.before.before.before.before.before.before.before.before.clear.auto.0))
     (cleared c.before.before.before.before.before.before.before.before.before.before.before.content.new.1.1.1.0 _ _ c.clear4.ensures (c.before.before.before.before.before.before.before.before.before.before.before.content.auto.1.1.1.0 ∙ c.before.before.before.before.before.before.before.before.before.before.before.before.before.before.before.before.before.before.clear2.auto.0 ∙ z))

@@ -1,16 +1,16 @@
-use Rattle.rl_spec.specs.Read.{recordsFrom}
+use Rattle.rl_spec.specs.Read.{records_from}
 use lib.ListN.{length}
 use mathlib.Core.Path.{◌≡◌, ◌∙◌}
 use Prim.Native.Nat.{◌-◌, ◌≤◌}
 use borrow.Author.Rules.{rules}
 use Rattle.rl_ast.proofs.reader.records.Statement.{statement}
 use Rattle.rl_ast.proofs.reader.records.Tie as tie
-use Rattle.rl_ast.proofs.ReaderLaws.{records-start, records-end, records-more, records-stop, start_fits, length-keep, next_fits, at_most}
+use Rattle.rl_ast.proofs.ReaderLaws.{records_start, records_end, records_more, records_stop, start_fits, length_keep, next_fits, at_most}
 
-ruleset laws = (records-start, records-end, records-more, records-stop, start_fits, length-keep, next_fits, at_most)
+ruleset laws = (records_start, records_end, records_more, records_stop, start_fits, length_keep, next_fits, at_most)
 
 abbrev invariant-loop : tie.invariant-loop
-invariant-loop s rows c own count start w₀ p₀ at₀ i₀ w p at i = (i ≤ count) × ((length w ≡ length w₀) × ((length p ≡ length p₀) × (recordsFrom s c own count 0 start w₀ p₀ ≡ recordsFrom s c own (count - i) i at w p)))
+invariant-loop s rows c own count start w₀ p₀ at₀ i₀ w p at i = (i ≤ count) × ((length w ≡ length w₀) × ((length p ≡ length p₀) × (records_from s c own count 0 start w₀ p₀ ≡ records_from s c own (count - i) i at w p)))
 
 abbrev decreases-loop : tie.decreases-loop
 decreases-loop s rows c own count start w₀ p₀ at₀ i₀ w p at i = count - i
@@ -55,7 +55,7 @@ loop-less : tie.Need-loop-smaller invariant-loop decreases-loop
 loop-less c = search (laws, rules)
 
 loop-again : tie.Need-loop-preserved invariant-loop decreases-loop
-loop-again c = (at_most _ _ c.before.before.before.before.before.before.before.before.before.before.before.before.before.before.before.loop-test.true, (c.before.before.before.before.before.before.keep-number.auto.1.1.1.1.0 ∙ c.before.before.before.before.before.before.before.before.before.before.before.before.before.before.before.before.loop.invariant.1.0, (c.before.before.keep-number2.auto.1.1.1.1.0 ∙ c.before.before.before.before.before.before.before.before.before.before.before.before.before.before.before.before.loop.invariant.1.1.0, records-more _ _ _ _ _ _ _ _ _ c.before.before.before.before.before.before.before.before.before.before.before.before.before.before.before.before.loop.invariant.1.1.1 c.before.before.before.before.before.before.before.before.before.before.before.before.before.before.before.loop-test.true _ c.before.before.before.before.before.before.before.before.before.before.before.before.seen_by.ensures _ c.before.before.before.before.before.before.before.before.before.before.before.before.before.before.before.before.before.before.before.before.before.requires.1 _ c.before.before.before.before.before.before.before.before.before.before.before.«record».ensures _ _ c.before.before.before.before.before.before.before.before.before.step.given.1 _ _ c.before.before.before.before.before.before.keep-number.ensures c.before.before.keep-number2.ensures)))
+loop-again c = (at_most _ _ c.before.before.before.before.before.before.before.before.before.before.before.before.before.before.before.loop-test.true, (c.before.before.before.before.before.before.keep-number.auto.1.1.1.1.0 ∙ c.before.before.before.before.before.before.before.before.before.before.before.before.before.before.before.before.loop.invariant.1.0, (c.before.before.keep-number2.auto.1.1.1.1.0 ∙ c.before.before.before.before.before.before.before.before.before.before.before.before.before.before.before.before.loop.invariant.1.1.0, records_more _ _ _ _ _ _ _ _ _ c.before.before.before.before.before.before.before.before.before.before.before.before.before.before.before.before.loop.invariant.1.1.1 c.before.before.before.before.before.before.before.before.before.before.before.before.before.before.before.loop-test.true _ c.before.before.before.before.before.before.before.before.before.before.before.before.seen_by.ensures _ c.before.before.before.before.before.before.before.before.before.before.before.before.before.before.before.before.before.before.before.before.before.requires.1 _ c.before.before.before.before.before.before.before.before.before.before.before.«record».ensures _ _ c.before.before.before.before.before.before.before.before.before.step.given.1 _ _ c.before.before.before.before.before.before.keep-number.ensures c.before.before.keep-number2.ensures)))
 
 same-length-3 : tie.Need-same-length-3 invariant-loop decreases-loop
 same-length-3 c = search (laws, rules)

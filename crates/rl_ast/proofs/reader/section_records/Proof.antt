@@ -1,10 +1,10 @@
 use borrow.Author.Rules.{rules}
 use Rattle.rl_ast.proofs.reader.section_records.Statement.{statement}
 use Rattle.rl_ast.proofs.reader.section_records.Tie as tie
-use Rattle.rl_ast.proofs.ListLaws.{lists-section}
-use Rattle.rl_ast.proofs.ReaderLaws.{section-same}
+use Rattle.rl_ast.proofs.ListLaws.{lists_section}
+use Rattle.rl_ast.proofs.ReaderLaws.{section_same}
 
-ruleset laws = (lists-section, section-same)
+ruleset laws = (lists_section, section_same)
 
 enum_told : tie.Need-enum-told
 enum_told c = search rules

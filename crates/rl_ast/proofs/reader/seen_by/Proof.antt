@@ -1,9 +1,9 @@
 use borrow.Author.Rules.{rules}
 use Rattle.rl_ast.proofs.reader.seen_by.Statement.{statement}
 use Rattle.rl_ast.proofs.reader.seen_by.Tie as tie
-use Rattle.rl_ast.proofs.ReaderLaws.{seen-is}
+use Rattle.rl_ast.proofs.ReaderLaws.{seen_is}
 
-ruleset laws = (seen-is)
+ruleset laws = (seen_is)
 
 enum_told : tie.Need-enum-told
 enum_told c = search rules

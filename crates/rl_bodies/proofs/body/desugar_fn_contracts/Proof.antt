@@ -2,7 +2,7 @@ use mathlib.Core.Path.{refl, ◌∙◌}
 use native.Mathlib.Omega.{arith}
 use borrow.Author.Rules.{rules}
 use Rattle.rl_spec.specs.Tree.{ascii}
-use Rattle.rl_bodies.proofs.NewBody.{required-inside, ready, body-inside, desugared}
+use Rattle.rl_bodies.proofs.NewBody.{required_inside, ready, body_inside, desugared}
 use Rattle.rl_bodies.proofs.body.desugar_fn_contracts.Statement.{statement}
 use Rattle.rl_bodies.proofs.body.desugar_fn_contracts.Tie as tie
 
@@ -51,8 +51,8 @@ returns c rows there long well fresh =
     let f = refined.before.before.before.before.function-at in
     desugared _ _ _ _ _ fresh _ _ f.result f.ensures _ _ _
     (refined.refinement-guards.ensures _ _ (omega (arith, long)) refl)
-    (required.clause-guards.ensures rows (required-inside _ _ _ _ there well _ f.ensures))
-    (rest.rest.ensures (ready _ _ _ _ there well _ f.ensures _ rows) (body-inside _ _ _ _ there well _ f.ensures))
+    (required.clause-guards.ensures rows (required_inside _ _ _ _ there well _ f.ensures))
+    (rest.rest.ensures (ready _ _ _ _ there well _ f.ensures _ rows) (body_inside _ _ _ _ there well _ f.ensures))
 
 pub desugar-fn-contracts-spec : {M : Type 1} → statement M
 desugar-fn-contracts-spec =

@@ -1,7 +1,7 @@
 use borrow.Author.Rules.{rules}
 use mathlib.Core.Path.{sym, ◌∙◌}
 use native.Mathlib.Omega.{arith}
-use Rattle.rl_bodies.proofs.Ensured.{plain_done, bare-done, waits-low, waits-lower}
+use Rattle.rl_bodies.proofs.Ensured.{plain_done, bare_done, waits_low, waits_lower}
 use Rattle.rl_bodies.proofs.body.ensured_body.Statement.{statement}
 use Rattle.rl_bodies.proofs.body.ensured_body.Tie as tie
 
@@ -58,10 +58,10 @@ returns c r fit =
     let done = count.before.before.before.before in
     let aside = done.before.before.before in
     let value = aside.before in
-    bare-done _ _ _ _ _ _ r fit _ _ _ _ (search rules) _ _ _ _ _ aside.with-waiting.ensures back.with-waiting2.ensures
+    bare_done _ _ _ _ _ _ r fit _ _ _ _ (search rules) _ _ _ _ _ aside.with-waiting.ensures back.with-waiting2.ensures
     (done.transform-returns.ensures r (omega arith)) _ count.at-most-all.ensures _ _ _ _ _ (value.before.ends-bare.ensures fit)
-    test.if1.true (value.last-value.ensures fit) fewer.less_one.ensures (wrapped.wrap-return.ensures r.rows_are r.conditions)
-    (pushed.push-first.ensures _ _ (waits-lower _ _ _ _ fewer.less_one.ensures count.at-most-all.ensures
+    test.if1.true (value.last_value.ensures fit) fewer.less_one.ensures (wrapped.wrap-return.ensures r.rows_are r.conditions)
+    (pushed.push-first.ensures _ _ (waits_lower _ _ _ _ fewer.less_one.ensures count.at-most-all.ensures
     (sym (done.transform-returns.auto.1.1.1.1.1.1.1.1.1.0 ∙ search rules))))
 
 slice-aggregate-push-first-2 : tie.Need-slice-aggregate-push-first-2
@@ -87,7 +87,7 @@ returns-2 c r fit =
     plain_done _ _ _ _ _ _ r fit _ _ _ _ (search rules) _ _ _ _ _ aside.with-waiting.ensures back.with-waiting2.ensures
     (done.transform-returns.ensures r (omega arith)) _ count.at-most-all.ensures _ _ (aside.before.before.ends-bare.ensures fit)
     test.if1.false
-    (pushed.push-first2.ensures _ _ (waits-low _ _ _ count.at-most-all.ensures (sym (done.transform-returns.auto.1.1.1.1.1.1.1.1.1.0 ∙ search rules))))
+    (pushed.push-first2.ensures _ _ (waits_low _ _ _ count.at-most-all.ensures (sym (done.transform-returns.auto.1.1.1.1.1.1.1.1.1.0 ∙ search rules))))
 
 pub ensured-body-spec : {M : Type 1} → statement M
 ensured-body-spec =

@@ -1,6 +1,6 @@
 use mathlib.Core.Path.{refl}
 use borrow.Author.Rules.{rules}
-use Rattle.rl_bodies.proofs.NewBody.{body-done}
+use Rattle.rl_bodies.proofs.NewBody.{body_done}
 use Rattle.rl_bodies.proofs.body.new_body.Statement.{statement}
 use Rattle.rl_bodies.proofs.body.new_body.Tie as tie
 
@@ -21,7 +21,7 @@ same-length-3 c = search rules
 
 returns : tie.Need-returns
 returns c rows there long well fresh =
-    body-done _ _ _ _ _ _ _ _ _ refl (c.before.before.before.before.before.before.before.before.before.before.before.desugar-fn-contracts.ensures rows there long well fresh) c.before.before.new-list.ensures
+    body_done _ _ _ _ _ _ _ _ _ refl (c.before.before.before.before.before.before.before.before.before.before.before.desugar-fn-contracts.ensures rows there long well fresh) c.before.before.new-list.ensures
 
 pub new-body-spec : {M : Type 1} → statement M
 new-body-spec =

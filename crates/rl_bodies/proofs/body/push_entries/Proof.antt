@@ -6,7 +6,7 @@ use lib.ListN.{length}
 use borrow.Author.Rules.{rules}
 use Rattle.rl_spec.specs.Image.{Image}
 use Rattle.rl_context.specs.Does.{at}
-use Rattle.rl_bodies.proofs.Pushing.{Entered, entered-none, entered-more, entered_all}
+use Rattle.rl_bodies.proofs.Pushing.{Entered, entered_none, entered_more, entered_all}
 use Rattle.rl_bodies.proofs.body.push_entries.Statement.{statement}
 use Rattle.rl_bodies.proofs.body.push_entries.Tie as tie
 
@@ -19,7 +19,7 @@ abbrev decreases-loop : tie.decreases-loop
 decreases-loop image counts list waiting₀ next₀ i₀ waiting next i = list.count - i
 
 loop-holds : tie.Need-loop-init invariant-loop decreases-loop
-loop-holds c = (omega arith, (refl, λ im p s. entered-none _ _ _ _ _ _))
+loop-holds c = (omega arith, (refl, λ im p s. entered_none _ _ _ _ _ _))
 
 cast-entry-at : tie.Need-overflow-cast-entry-at invariant-loop decreases-loop
 cast-entry-at c = search rules
@@ -47,7 +47,7 @@ loop-again c = (
   search rules,
   (
     search rules,
-    λ im p s. entered-more _ _ _ _ _ _ _ _ (c.before.before.before.before.before.before.before.before.loop.invariant.1.1 im p s) _ _ (c.before.before.before.before.entry_at.ensures p) (c.before.before.push.ensures s),
+    λ im p s. entered_more _ _ _ _ _ _ _ _ (c.before.before.before.before.before.before.before.before.loop.invariant.1.1 im p s) _ _ (c.before.before.before.before.entry_at.ensures p) (c.before.before.push.ensures s),
   ),
 )
 

@@ -6,7 +6,7 @@ use lib.ListN.{length}
 use borrow.Author.Rules.{rules}
 use Rattle.rl_spec.specs.Image.{Image}
 use Rattle.rl_context.specs.Does.{at}
-use Rattle.rl_bodies.proofs.Pushing.{First, first-none, first_more, first-all}
+use Rattle.rl_bodies.proofs.Pushing.{First, first_none, first_more, first_all}
 use Rattle.rl_bodies.proofs.body.push_first.Statement.{statement}
 use Rattle.rl_bodies.proofs.body.push_first.Tie as tie
 
@@ -19,7 +19,7 @@ abbrev decreases-loop : tie.decreases-loop
 decreases-loop other count waiting₀ next₀ i₀ waiting next i = count - i
 
 loop-holds : tie.Need-loop-init invariant-loop decreases-loop
-loop-holds c = (omega arith, (refl, λ im s h. first-none _ _ _))
+loop-holds c = (omega arith, (refl, λ im s h. first_none _ _ _))
 
 cast-word-at : tie.Need-overflow-cast-word-at invariant-loop decreases-loop
 cast-word-at c = search rules
@@ -49,7 +49,7 @@ same_length : tie.Need-same-length invariant-loop decreases-loop
 same_length c = search rules
 
 returns : tie.Need-returns invariant-loop decreases-loop
-returns c = λ im s h. first-all _ _ _ _ _ (c.before.loop.invariant.1.1 im s h) _ c.before.loop.invariant.0 c.loop-test.false
+returns c = λ im s h. first_all _ _ _ _ _ (c.before.loop.invariant.1.1 im s h) _ c.before.loop.invariant.0 c.loop-test.false
 
 pub push-first-spec : {M : Type 1} → statement M
 push-first-spec =

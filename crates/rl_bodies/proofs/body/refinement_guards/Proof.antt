@@ -5,16 +5,16 @@ use native.Mathlib.Omega.{arith}
 use lib.ListN.{length}
 use borrow.Author.Rules.{rules}
 use Rattle.rl_spec.specs.Image.{Image}
-use Rattle.rl_spec.specs.Found.{imageFound}
+use Rattle.rl_spec.specs.Found.{image_found}
 use Rattle.rl_context.specs.Does.{at}
-use Rattle.rl_bodies.proofs.Pushing.{Guarded, guards_none, guards_more, guards-all}
+use Rattle.rl_bodies.proofs.Pushing.{Guarded, guards_none, guards_more, guards_all}
 use Rattle.rl_bodies.proofs.body.refinement_guards.Statement.{statement}
 use Rattle.rl_bodies.proofs.body.refinement_guards.Tie as tie
 
 abbrev invariant-loop : tie.invariant-loop
 invariant-loop image counts function text₀ scratch₀ waiting₀ params next₀ i₀ text scratch waiting next i =
     (i ≤ params.count) × ((length text ≡ length text₀) × ((length scratch ≡ length scratch₀) × ((length waiting ≡ length waiting₀) ×
-    ((im : Image) (p : List ℕ) → 16385 ≤ length text₀ → im ≡ imageFound image p counts → Guarded im params (at next₀ scratch₀ waiting₀) (at next scratch waiting) i))))
+    ((im : Image) (p : List ℕ) → 16385 ≤ length text₀ → im ≡ image_found image p counts → Guarded im params (at next₀ scratch₀ waiting₀) (at next scratch waiting) i))))
 
 abbrev decreases-loop : tie.decreases-loop
 decreases-loop image counts function text₀ scratch₀ waiting₀ params next₀ i₀ text scratch waiting next i = params.count - i
@@ -64,7 +64,7 @@ same-length-3 : tie.Need-same-length-3 invariant-loop decreases-loop
 same-length-3 c = search rules
 
 returns : tie.Need-returns invariant-loop decreases-loop
-returns c = λ im p h e. guards-all _ _ _ _ _ e (ap (λ z. z.params) (c.before.before.before.before.function-at.ensures p)) _ _ (c.before.before.loop.invariant.1.1.1.1 im p h e) c.if1.false
+returns c = λ im p h e. guards_all _ _ _ _ _ e (ap (λ z. z.params) (c.before.before.before.before.function-at.ensures p)) _ _ (c.before.before.loop.invariant.1.1.1.1 im p h e) c.if1.false
 
 pub refinement-guards-spec : {M : Type 1} → statement M
 refinement-guards-spec =

@@ -1,5 +1,5 @@
 use borrow.Author.Rules.{rules}
-use Rattle.rl_bodies.proofs.NewBody.{rest_plain, rest-ensured}
+use Rattle.rl_bodies.proofs.NewBody.{rest_plain, rest_ensured}
 use Rattle.rl_bodies.proofs.body.rest.Statement.{statement}
 use Rattle.rl_bodies.proofs.body.rest.Tie as tie
 
@@ -22,7 +22,7 @@ same-length-3 : tie.Need-same-length-3
 same-length-3 c = search rules
 
 returns-2 : tie.Need-returns-2
-returns-2 c r fit = rest-ensured _ _ _ _ _ c.before.before.before.before.before.before.before.if1.false (c.before.before.before.before.ensured-body.ensures r fit)
+returns-2 c r fit = rest_ensured _ _ _ _ _ c.before.before.before.before.before.before.before.if1.false (c.before.before.before.before.ensured-body.ensures r fit)
 
 pub rest-spec : {M : Type 1} → statement M
 rest-spec =

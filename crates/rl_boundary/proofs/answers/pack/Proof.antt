@@ -1,9 +1,9 @@
 use borrow.Author.Rules.{rules}
 use Rattle.rl_boundary.proofs.answers.pack.Statement.{statement}
 use Rattle.rl_boundary.proofs.answers.pack.Tie as tie
-use Rattle.rl_boundary.proofs.AnswerLaws.{high_fits, both-fit}
+use Rattle.rl_boundary.proofs.AnswerLaws.{high_fits, both_fit}
 
-ruleset laws = (high_fits, both-fit)
+ruleset laws = (high_fits, both_fit)
 
 number-of-requires : tie.Need-number-of-requires
 number-of-requires c κs = search rules

@@ -1,9 +1,9 @@
 use borrow.Author.Rules.{rules}
 use Rattle.rl_boundary.proofs.answers.pack_lowered.Statement.{statement}
 use Rattle.rl_boundary.proofs.answers.pack_lowered.Tie as tie
-use Rattle.rl_boundary.proofs.AnswerLaws.{lowered-near, lowered-packed}
+use Rattle.rl_boundary.proofs.AnswerLaws.{lowered_near, lowered_packed}
 
-ruleset laws = (lowered-near, lowered-packed)
+ruleset laws = (lowered_near, lowered_packed)
 
 enum-known-answer : tie.Need-enum-known-answer
 enum-known-answer c = search rules

@@ -1,9 +1,9 @@
 use borrow.Author.Rules.{rules}
 use Rattle.rl_boundary.proofs.answers.pack_message.Statement.{statement}
 use Rattle.rl_boundary.proofs.answers.pack_message.Tie as tie
-use Rattle.rl_boundary.proofs.AnswerLaws.{message-near, message-packed}
+use Rattle.rl_boundary.proofs.AnswerLaws.{message_near, message_packed_lem}
 
-ruleset laws = (message-near, message-packed)
+ruleset laws = (message_near, message_packed_lem)
 
 enum-known-answer : tie.Need-enum-known-answer
 enum-known-answer c = search rules

@@ -1,9 +1,9 @@
 use borrow.Author.Rules.{rules}
 use Rattle.rl_boundary.proofs.answers.pack_pages.Statement.{statement}
 use Rattle.rl_boundary.proofs.answers.pack_pages.Tie as tie
-use Rattle.rl_boundary.proofs.AnswerLaws.{pages-near, pages-packed}
+use Rattle.rl_boundary.proofs.AnswerLaws.{pages_near, pages_packed_lem}
 
-ruleset laws = (pages-near, pages-packed)
+ruleset laws = (pages_near, pages_packed_lem)
 
 enum-known-answer : tie.Need-enum-known-answer
 enum-known-answer c = search rules

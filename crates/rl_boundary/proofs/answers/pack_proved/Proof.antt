@@ -1,9 +1,9 @@
 use borrow.Author.Rules.{rules}
 use Rattle.rl_boundary.proofs.answers.pack_proved.Statement.{statement}
 use Rattle.rl_boundary.proofs.answers.pack_proved.Tie as tie
-use Rattle.rl_boundary.proofs.AnswerLaws.{refused-near, refused-packed}
+use Rattle.rl_boundary.proofs.AnswerLaws.{refused_near, refused_packed}
 
-ruleset laws = (refused-near, refused-packed)
+ruleset laws = (refused_near, refused_packed)
 
 enum-known-answer : tie.Need-enum-known-answer
 enum-known-answer c = search rules

@@ -1,9 +1,9 @@
 use borrow.Author.Rules.{rules}
 use Rattle.rl_boundary.proofs.answers.pack_read.Statement.{statement}
 use Rattle.rl_boundary.proofs.answers.pack_read.Tie as tie
-use Rattle.rl_boundary.proofs.AnswerLaws.{accepted-packed, read-near, read-packed}
+use Rattle.rl_boundary.proofs.AnswerLaws.{accepted_packed, read_near, read_packed}
 
-ruleset laws = (accepted-packed, read-near, read-packed)
+ruleset laws = (accepted_packed, read_near, read_packed)
 
 enum-known-answer : tie.Need-enum-known-answer
 enum-known-answer c = search rules

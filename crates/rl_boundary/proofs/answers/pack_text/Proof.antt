@@ -1,9 +1,9 @@
 use borrow.Author.Rules.{rules}
 use Rattle.rl_boundary.proofs.answers.pack_text.Statement.{statement}
 use Rattle.rl_boundary.proofs.answers.pack_text.Tie as tie
-use Rattle.rl_boundary.proofs.AnswerLaws.{text-packed, text-near, no-text-packed}
+use Rattle.rl_boundary.proofs.AnswerLaws.{text_packed_lem, text_near, no_text_packed}
 
-ruleset laws = (text-packed, text-near, no-text-packed)
+ruleset laws = (text_packed_lem, text_near, no_text_packed)
 
 enum-known-answer : tie.Need-enum-known-answer
 enum-known-answer c = search rules

@@ -1,16 +1,16 @@
 use Prim.Native.Nat.{◌-◌, ◌≤◌}
 use mathlib.Core.Path.{◌≡◌}
 use lib.ListN.{length, drop}
-use Rattle.rl_spec.specs.Boundary.{areValues}
+use Rattle.rl_spec.specs.Boundary.{are_values}
 use borrow.Author.Rules.{rules}
 use Rattle.rl_boundary.proofs.values.are_values.Statement.{statement}
 use Rattle.rl_boundary.proofs.values.are_values.Tie as tie
-use Rattle.rl_boundary.proofs.ValueLaws.{values-bad, values-more, values-end}
+use Rattle.rl_boundary.proofs.ValueLaws.{values_bad, values_more, values_end}
 
-ruleset laws = (values-bad, values-more, values-end)
+ruleset laws = (values_bad, values_more, values_end)
 
 abbrev invariant-loop : tie.invariant-loop
-invariant-loop words i₀ i = (i ≤ length words) × (areValues words ≡ areValues (drop i words))
+invariant-loop words i₀ i = (i ≤ length words) × (are_values words ≡ are_values (drop i words))
 
 abbrev decreases-loop : tie.decreases-loop
 decreases-loop words i₀ i = length words - i

@@ -4,16 +4,16 @@ use mathlib.Core.Path.{◌≡◌, refl, ◌∙◌}
 use mathlib.Core.List.{map}
 use lib.ListN.{length, take, length-set}
 use Rattle.rl_spec.specs.Ranges.{up_from}
-use Rattle.rl_spec.specs.Boundary.{argumentAt}
+use Rattle.rl_spec.specs.Boundary.{argument_at}
 use borrow.Author.Rules.{rules}
 use Rattle.rl_boundary.proofs.values.arguments_of.Statement.{statement}
 use Rattle.rl_boundary.proofs.values.arguments_of.Tie as tie
-use Rattle.rl_boundary.proofs.ValueLaws.{none_yet, argument-next, arguments-given}
+use Rattle.rl_boundary.proofs.ValueLaws.{none_yet, argument_next, arguments_given}
 
-ruleset laws = (arguments-given)
+ruleset laws = (arguments_given)
 
 abbrev invariant-loop : tie.invariant-loop
-invariant-loop words values₀ i₀ values i = (i ≤ 16) × ((length values ≡ 16) × (take i values ≡ map (argumentAt words) (up_from 0 i)))
+invariant-loop words values₀ i₀ values i = (i ≤ 16) × ((length values ≡ 16) × (take i values ≡ map (argument_at words) (up_from 0 i)))
 
 abbrev decreases-loop : tie.decreases-loop
 decreases-loop words values₀ i₀ values i = 16 - i
@@ -54,7 +54,7 @@ loop-less c = search (laws, rules)
 loop-again : tie.Need-loop-preserved invariant-loop decreases-loop
 loop-again c =
     let l = c.before.before.before.before.loop in
-    (omega arith, (length-set l.values l.i (record { value = c.value-of-words.result }) ∙ l.invariant.1.0, argument-next c.before.before.before.before.before.before.args.words.now _ _ l.invariant.1.0 (omega arith) l.invariant.1.1 _ _ _ c.before.before.long-at.ensures c.before.long-at2.ensures c.value-of-words.ensures))
+    (omega arith, (length-set l.values l.i (record { value = c.value-of-words.result }) ∙ l.invariant.1.0, argument_next c.before.before.before.before.before.before.args.words.now _ _ l.invariant.1.0 (omega arith) l.invariant.1.1 _ _ _ c.before.before.long-at.ensures c.before.long-at2.ensures c.value-of-words.ensures))
 
 count-of-words-requires : tie.Need-count-of-words-requires invariant-loop decreases-loop
 count-of-words-requires c κs = search (laws, rules)

@@ -1,9 +1,9 @@
 use borrow.Author.Rules.{rules}
 use Rattle.rl_boundary.proofs.values.count_of_words.Statement.{statement}
 use Rattle.rl_boundary.proofs.values.count_of_words.Tie as tie
-use Rattle.rl_boundary.proofs.ValueLaws.{count-few, count_none, count-many}
+use Rattle.rl_boundary.proofs.ValueLaws.{count_few, count_none, count_many}
 
-ruleset laws = (count-few, count_none, count-many)
+ruleset laws = (count_few, count_none, count_many)
 
 are-values-requires : tie.Need-are-values-requires
 are-values-requires c κs = search rules

@@ -1,9 +1,9 @@
 use borrow.Author.Rules.{rules}
 use Rattle.rl_boundary.proofs.values.is_plain.Statement.{statement}
 use Rattle.rl_boundary.proofs.values.is_plain.Tie as tie
-use Rattle.rl_boundary.proofs.ValueLaws.{plain-null, plain-truth, plain_other}
+use Rattle.rl_boundary.proofs.ValueLaws.{plain_null, plain_truth, plain_other}
 
-ruleset laws = (plain-null, plain-truth, plain_other)
+ruleset laws = (plain_null, plain_truth, plain_other)
 
 returns : tie.Need-returns
 returns c = search (laws, rules)

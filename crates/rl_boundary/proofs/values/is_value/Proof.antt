@@ -1,9 +1,9 @@
 use borrow.Author.Rules.{rules}
 use Rattle.rl_boundary.proofs.values.is_value.Statement.{statement}
 use Rattle.rl_boundary.proofs.values.is_value.Tie as tie
-use Rattle.rl_boundary.proofs.ValueLaws.{value-bare, value-ok, value-err}
+use Rattle.rl_boundary.proofs.ValueLaws.{value_bare, value_ok, value_err}
 
-ruleset laws = (value-bare, value-ok, value-err)
+ruleset laws = (value_bare, value_ok, value_err)
 
 is-plain-requires : tie.Need-is-plain-requires
 is-plain-requires c κs = search rules

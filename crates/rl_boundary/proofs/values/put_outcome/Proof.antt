@@ -1,9 +1,9 @@
 use borrow.Author.Rules.{rules}
 use Rattle.rl_boundary.proofs.values.put_outcome.Statement.{statement}
 use Rattle.rl_boundary.proofs.values.put_outcome.Tie as tie
-use Rattle.rl_boundary.proofs.ValueLaws.{outcome-returned, outcome-stopped, outcome-fault, outcome-spent}
+use Rattle.rl_boundary.proofs.ValueLaws.{outcome_returned, outcome_stopped, outcome_fault, outcome_spent}
 
-ruleset laws = (outcome-returned, outcome-stopped, outcome-fault, outcome-spent)
+ruleset laws = (outcome_returned, outcome_stopped, outcome_fault, outcome_spent)
 
 enum-known-o : tie.Need-enum-known-o
 enum-known-o c = search rules

@@ -1,9 +1,9 @@
 use borrow.Author.Rules.{rules}
 use Rattle.rl_boundary.proofs.values.put_words.Statement.{statement}
 use Rattle.rl_boundary.proofs.values.put_words.Tie as tie
-use Rattle.rl_boundary.proofs.ValueLaws.{put_four}
+use Rattle.rl_boundary.proofs.ValueLaws.{put_four_lem}
 
-ruleset laws = (put_four)
+ruleset laws = (put_four_lem)
 
 clear-requires : tie.Need-clear-requires
 clear-requires c κs = search rules

@@ -1,9 +1,9 @@
 use borrow.Author.Rules.{rules}
 use Rattle.rl_checker.proofs.folding.fold.Statement.{statement}
 use Rattle.rl_checker.proofs.folding.fold.Tie as tie
-use Rattle.rl_checker.proofs.FoldLaws.{fold-unread, fold-unread-work, fold-other, fold-other-work, fold-missing, fold-missing-work, fold-found, fold-found-work}
+use Rattle.rl_checker.proofs.FoldLaws.{fold_unread, fold_unread_work, fold_other, fold_other_work, fold_missing, fold_missing_work, fold_found, fold_found_work}
 
-ruleset laws = (fold-unread, fold-unread-work, fold-other, fold-other-work, fold-missing, fold-missing-work, fold-found, fold-found-work)
+ruleset laws = (fold_unread, fold_unread_work, fold_other, fold_other_work, fold_missing, fold_missing_work, fold_found, fold_found_work)
 
 read-starts-requires : tie.Need-read-starts-requires
 read-starts-requires c κs = search rules

@@ -1,9 +1,9 @@
 use borrow.Author.Rules.{rules}
 use Rattle.rl_checker.proofs.folding.fold_node.Statement.{statement}
 use Rattle.rl_checker.proofs.folding.fold_node.Tie as tie
-use Rattle.rl_checker.proofs.FoldLaws.{fold-alone}
+use Rattle.rl_checker.proofs.FoldLaws.{fold_alone}
 
-ruleset laws = (fold-alone)
+ruleset laws = (fold_alone)
 
 slice-aggregate-const-eval : tie.Need-slice-aggregate-const-eval
 slice-aggregate-const-eval c = search rules

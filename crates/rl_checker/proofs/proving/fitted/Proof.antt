@@ -1,10 +1,10 @@
 use borrow.Author.Rules.{rules}
 use Rattle.rl_checker.proofs.proving.fitted.Statement.{statement}
 use Rattle.rl_checker.proofs.proving.fitted.Tie as tie
-use Rattle.rl_prover.proofs.ShownLaws.{kept-none, kept-all}
-use Rattle.rl_checker.proofs.AnswerLaws.{fitted_short, fitted-all}
+use Rattle.rl_prover.proofs.ShownLaws.{kept_none, kept_all}
+use Rattle.rl_checker.proofs.AnswerLaws.{fitted_short, fitted_all}
 
-ruleset laws = (fitted_short, kept-none, fitted-all, kept-all)
+ruleset laws = (fitted_short, kept_none, fitted_all, kept_all)
 
 clear-entries-requires : tie.Need-clear-entries-requires
 clear-entries-requires c κs = search rules

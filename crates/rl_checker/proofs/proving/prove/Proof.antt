@@ -3,9 +3,9 @@ use lib.ListN.{length}
 use borrow.Author.Rules.{rules}
 use Rattle.rl_checker.proofs.proving.prove.Statement.{statement}
 use Rattle.rl_checker.proofs.proving.prove.Tie as tie
-use Rattle.rl_checker.proofs.AnswerLaws.{prove-unread, prove-unread-slice, prove-unread-work, prove-missing, prove-missing-slice, prove-missing-work, prove-found, prove-found-slice, prove-found-work}
+use Rattle.rl_checker.proofs.AnswerLaws.{prove_unread, prove_unread_slice, prove_unread_work, prove_missing, prove_missing_slice, prove_missing_work, prove_found, prove_found_slice, prove_found_work}
 
-ruleset laws = (prove-unread, prove-unread-slice, prove-unread-work, prove-missing, prove-missing-slice, prove-missing-work, prove-found, prove-found-slice, prove-found-work)
+ruleset laws = (prove_unread, prove_unread_slice, prove_unread_work, prove_missing, prove_missing_slice, prove_missing_work, prove_found, prove_found_slice, prove_found_work)
 
 clear-entries-requires : tie.Need-clear-entries-requires
 clear-entries-requires c κs = search rules
@@ -41,10 +41,10 @@ returns c =
     let z = c.before.before.before.before.before.before.before.before.before.before.before.before.before.before.before.before.clear-entries.ensures in
     let f = c.before.before.before.before.before.before.before.answer2.given.1 in
     let h = c.before.before.before.before.if1.true in (
-      prove-missing s k room _ e _ z _ _ f a.call h,
+      prove_missing s k room _ e _ z _ _ f a.call h,
       (
-        prove-missing-slice s k room _ e _ z _ _ f a.call h,
-        prove-missing-work s k room _ e _ z _ _ f a.call h c.before.before.before.before.before.before.before.before.before.before.before.read-starts.new.1.0 _ c.before.before.before.before.before.before.before.before.before.before.before.read-starts.auto.1.0 c.before.before.clear.ensures,
+        prove_missing_slice s k room _ e _ z _ _ f a.call h,
+        prove_missing_work s k room _ e _ z _ _ f a.call h c.before.before.before.before.before.before.before.before.before.before.before.read-starts.new.1.0 _ c.before.before.before.before.before.before.before.before.before.before.before.read-starts.auto.1.0 c.before.before.clear.ensures,
       ),
     )
 
@@ -86,10 +86,10 @@ returns-3 c =
     let h = c.before.before.before.before.before.before.before.before.before.before.before.before.if1.false in
     let o = c.before.before.before.before.before.before.before.before.before.prove-one in
     let g = c.before.before.before.before.fitted.ensures in (
-      prove-found s k room _ e _ z _ _ f bytes _ r.ensures.1.1 a.call h _ _ o.ensures.0 o.auto.1.1.1.1.0 _ g.0,
+      prove_found s k room _ e _ z _ _ f bytes _ r.ensures.1.1 a.call h _ _ o.ensures.0 o.auto.1.1.1.1.0 _ g.0,
       (
-        prove-found-slice s k room _ e _ z _ _ f bytes _ r.ensures.1.1 a.call h _ _ o.ensures.0 o.auto.1.1.1.1.0 _ g.1.0,
-        prove-found-work s k room _ e _ z _ _ f bytes _ r.ensures.1.1 a.call h _ _ o.ensures.0 o.auto.1.1.1.1.0 _ _ r.ensures.1.0 r.auto.1.0 g.1.1,
+        prove_found_slice s k room _ e _ z _ _ f bytes _ r.ensures.1.1 a.call h _ _ o.ensures.0 o.auto.1.1.1.1.0 _ g.1.0,
+        prove_found_work s k room _ e _ z _ _ f bytes _ r.ensures.1.1 a.call h _ _ o.ensures.0 o.auto.1.1.1.1.0 _ _ r.ensures.1.0 r.auto.1.0 g.1.1,
       ),
     )
 

@@ -2,9 +2,9 @@ use lib.ListN.{length}
 use borrow.Author.Rules.{rules}
 use Rattle.rl_checker.proofs.proving.prove_all.Statement.{statement}
 use Rattle.rl_checker.proofs.proving.prove_all.Tie as tie
-use Rattle.rl_checker.proofs.AnswerLaws.{all-unread, all-unread-slice, all-unread-work, all_found, all-found-slice, all-found-work}
+use Rattle.rl_checker.proofs.AnswerLaws.{all_unread, all_unread_slice, all_unread_work, all_found, all_found_slice, all_found_work}
 
-ruleset laws = (all-unread, all-unread-slice, all-unread-work, all_found, all-found-slice, all-found-work)
+ruleset laws = (all_unread, all_unread_slice, all_unread_work, all_found, all_found_slice, all_found_work)
 
 clear-entries-requires : tie.Need-clear-entries-requires
 clear-entries-requires c κs = search rules
@@ -54,8 +54,8 @@ returns-2 c =
     let g = c.before.before.before.before.fitted.ensures in (
       all_found s k room _ e _ z _ _ f bytes _ r.ensures.1.1 _ _ o.ensures.0 o.auto.1.1.1.0 _ g.0,
       (
-        all-found-slice s k room _ e _ z _ _ f bytes _ r.ensures.1.1 _ _ o.ensures.0 o.auto.1.1.1.0 _ g.1.0,
-        all-found-work s k room _ e _ z _ _ f bytes _ r.ensures.1.1 _ _ o.ensures.0 o.auto.1.1.1.0 _ _ r.ensures.1.0 r.auto.1.0 g.1.1,
+        all_found_slice s k room _ e _ z _ _ f bytes _ r.ensures.1.1 _ _ o.ensures.0 o.auto.1.1.1.0 _ g.1.0,
+        all_found_work s k room _ e _ z _ _ f bytes _ r.ensures.1.1 _ _ o.ensures.0 o.auto.1.1.1.0 _ _ r.ensures.1.0 r.auto.1.0 g.1.1,
       ),
     )
 

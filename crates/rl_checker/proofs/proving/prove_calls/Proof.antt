@@ -1,15 +1,15 @@
 use Prim.Native.Nat.{◌-◌}
-use Rattle.rl_spec.specs.Found.{imageFound}
+use Rattle.rl_spec.specs.Found.{image_found}
 use Rattle.rl_checker.proofs.proving.prove_calls.Statement.{statement}
 use Rattle.rl_checker.proofs.proving.prove_calls.Tie as tie
 use borrow.Author.Rules.{rules}
-use Rattle.rl_checker.proofs.ProveLaws.{Each, each_start, each-end, each-bound, each_next}
+use Rattle.rl_checker.proofs.ProveLaws.{Each, each_start, each_end, each_bound, each_next}
 
-ruleset laws = (each_start, each-end, each-bound, each_next)
+ruleset laws = (each_start, each_end, each_bound, each_next)
 
 abbrev invariant-loop : tie.invariant-loop
 invariant-loop image starts counts classes names₀ memory₀ reports₀ most at₀ call₀ names memory reports at call =
-    Each (imageFound image starts counts) counts classes names₀ memory₀ reports₀ most names memory reports at call
+    Each (image_found image starts counts) counts classes names₀ memory₀ reports₀ most names memory reports at call
 
 abbrev decreases-loop : tie.decreases-loop
 decreases-loop image starts counts classes names₀ memory₀ reports₀ most at₀ call₀ names memory reports at call = most - call

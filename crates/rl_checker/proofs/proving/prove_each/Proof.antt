@@ -1,10 +1,10 @@
 use borrow.Author.Rules.{rules}
 use Rattle.rl_checker.proofs.proving.prove_each.Statement.{statement}
 use Rattle.rl_checker.proofs.proving.prove_each.Tie as tie
-use Rattle.rl_prover.proofs.ShownLaws.{part-size}
-use Rattle.rl_checker.proofs.ProveLaws.{all-prove}
+use Rattle.rl_prover.proofs.ShownLaws.{part_size}
+use Rattle.rl_checker.proofs.ProveLaws.{all_prove}
 
-ruleset laws = (all-prove)
+ruleset laws = (all_prove)
 
 slice-aggregate-text-classes : tie.Need-slice-aggregate-text-classes
 slice-aggregate-text-classes c = search rules
@@ -28,7 +28,7 @@ array-borrow-prefix-memory : tie.Need-array-borrow-prefix-memory
 array-borrow-prefix-memory c = search rules
 
 slice-aggregate-prove-calls-3 : tie.Need-slice-aggregate-prove-calls-3
-slice-aggregate-prove-calls-3 c = part-size c.before.before.before.memory-size.result 8192 c.before.before.before.memory-size.ensures
+slice-aggregate-prove-calls-3 c = part_size c.before.before.before.memory-size.result 8192 c.before.before.before.memory-size.ensures
 
 prove-calls-requires : tie.Need-prove-calls-requires
 prove-calls-requires c κs = search rules

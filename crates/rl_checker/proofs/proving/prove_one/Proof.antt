@@ -1,10 +1,10 @@
 use borrow.Author.Rules.{rules}
 use Rattle.rl_checker.proofs.proving.prove_one.Statement.{statement}
 use Rattle.rl_checker.proofs.proving.prove_one.Tie as tie
-use Rattle.rl_prover.proofs.ShownLaws.{part-size}
-use Rattle.rl_checker.proofs.ProveLaws.{one-proves}
+use Rattle.rl_prover.proofs.ShownLaws.{part_size}
+use Rattle.rl_checker.proofs.ProveLaws.{one_proves}
 
-ruleset laws = (one-proves)
+ruleset laws = (one_proves)
 
 slice-aggregate-text-classes : tie.Need-slice-aggregate-text-classes
 slice-aggregate-text-classes c = search rules
@@ -28,7 +28,7 @@ array-borrow-prefix-memory : tie.Need-array-borrow-prefix-memory
 array-borrow-prefix-memory c = search rules
 
 slice-aggregate-prove-call-3 : tie.Need-slice-aggregate-prove-call-3
-slice-aggregate-prove-call-3 c = part-size c.before.before.before.before.memory-size.result 8192 c.before.before.before.before.memory-size.ensures
+slice-aggregate-prove-call-3 c = part_size c.before.before.before.before.memory-size.result 8192 c.before.before.before.before.memory-size.ensures
 
 prove-call-requires : tie.Need-prove-call-requires
 prove-call-requires c κs = search rules

@@ -1,5 +1,5 @@
 use Rattle.std.proofs.Common.{rules}
-use Rattle.rl_context.proofs.GuardLaws.{clause-does}
+use Rattle.rl_context.proofs.GuardLaws.{clause_does}
 use Rattle.rl_context.proofs.Ctx.clause_guard.Statement.{statement}
 use Rattle.rl_context.proofs.Ctx.clause_guard.Tie as tie
 
@@ -16,7 +16,7 @@ same-length-2 : tie.Need-same-length-2
 same-length-2 c = search rules
 
 returns : tie.Need-returns
-returns c q h = clause-does c.before.before.before.before.before.before.before.before.before.before.before.before.before.before.before.before.before.args.default.now c.before.before.before.before.before.before.before.before.before.before.before.before.before.before.before.before.before.args.clause (c.before.before.before.before.before.before.before.before.before.msg-expr.ensures _ 0 _) (c.before.before.before.before.guard.ensures q h)
+returns c q h = clause_does c.before.before.before.before.before.before.before.before.before.before.before.before.before.before.before.before.before.args.default.now c.before.before.before.before.before.before.before.before.before.before.before.before.before.before.before.before.before.args.clause (c.before.before.before.before.before.before.before.before.before.msg-expr.ensures _ 0 _) (c.before.before.before.before.guard.ensures q h)
 
 pub clause-guard-spec : {M : Type 1} → statement M
 clause-guard-spec =

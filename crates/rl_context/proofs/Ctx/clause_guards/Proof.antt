@@ -1,15 +1,15 @@
 use Rattle.std.proofs.Common.{◌-◌, ◌∙◌, rules}
-use Rattle.rl_context.proofs.GuardLaws.{Guarding, guarding-none, guarding-more, guarding-all}
+use Rattle.rl_context.proofs.GuardLaws.{Guarding, guarding_none, guarding_more, guarding_all}
 use Rattle.rl_context.specs.Does.{at}
-use Rattle.rl_spec.specs.Found.{imageFound}
+use Rattle.rl_spec.specs.Found.{image_found}
 use Rattle.rl_context.proofs.Ctx.clause_guards.Statement.{statement}
 use Rattle.rl_context.proofs.Ctx.clause_guards.Tie as tie
 
-ruleset laws = (guarding-none, guarding-more, guarding-all)
+ruleset laws = (guarding_none, guarding_more, guarding_all)
 
 abbrev invariant-loop : tie.invariant-loop
 invariant-loop image starts counts rows scratch₀ waiting₀ default clauses next₀ i₀ scratch waiting next i =
-    Guarding (imageFound image starts counts) default clauses rows counts.expressions (at next₀ scratch₀ waiting₀) i (at next scratch waiting)
+    Guarding (image_found image starts counts) default clauses rows counts.expressions (at next₀ scratch₀ waiting₀) i (at next scratch waiting)
 
 abbrev decreases-loop : tie.decreases-loop
 decreases-loop image starts counts rows scratch₀ waiting₀ default clauses next₀ i₀ scratch waiting next i =
@@ -43,7 +43,7 @@ loop-less : tie.Need-loop-smaller invariant-loop decreases-loop
 loop-less c = search (laws, rules)
 
 loop-again : tie.Need-loop-preserved invariant-loop decreases-loop
-loop-again c = guarding-more _ _ _ _ _ _ _ _ _ _ _ _ c.before.before.before.before.before.before.before.before.before.before.before.before.before.if1.true c.before.before.before.before.before.before.before.before.before.before.before.before.before.before.before.loop.invariant (c.before.before.before.before.before.before.before.before.before.before.before.clause-at.ensures _) c.before.before.before.before.before.before.before.before.clause-guard.ensures (c.before.before.push.ensures _) c.before.before.before.before.before.before.before.before.clause-guard.auto.1.1.1.1.1.0 (c.before.before.push.auto.1.0 ∙ c.before.before.before.before.before.before.before.before.clause-guard.auto.1.1.1.1.1.1.0)
+loop-again c = guarding_more _ _ _ _ _ _ _ _ _ _ _ _ c.before.before.before.before.before.before.before.before.before.before.before.before.before.if1.true c.before.before.before.before.before.before.before.before.before.before.before.before.before.before.before.loop.invariant (c.before.before.before.before.before.before.before.before.before.before.before.clause-at.ensures _) c.before.before.before.before.before.before.before.before.clause-guard.ensures (c.before.before.push.ensures _) c.before.before.before.before.before.before.before.before.clause-guard.auto.1.1.1.1.1.0 (c.before.before.push.auto.1.0 ∙ c.before.before.before.before.before.before.before.before.clause-guard.auto.1.1.1.1.1.1.0)
 
 same_length : tie.Need-same-length invariant-loop decreases-loop
 same_length c = search (laws, rules)

@@ -1,6 +1,6 @@
 use Rattle.std.proofs.Common.{rules}
-use Rattle.rl_context.proofs.Rows.{row-declaration}
-use Rattle.rl_context.proofs.StatementsMade.{declare-does}
+use Rattle.rl_context.proofs.Rows.{row_declaration}
+use Rattle.rl_context.proofs.StatementsMade.{declare_does}
 use Rattle.rl_context.proofs.Ctx.declare.Statement.{statement}
 use Rattle.rl_context.proofs.Ctx.declare.Tie as tie
 
@@ -23,7 +23,7 @@ same_length : tie.Need-same-length
 same_length c = search rules
 
 returns : tie.Need-returns
-returns c im k w = declare-does _ _ (c.before.before.before.before.before.before.before.before.before.before.new-text.ensures im k w) (c.before.before.new-statement.ensures im k w row-declaration)
+returns c im k w = declare_does _ _ (c.before.before.before.before.before.before.before.before.before.before.new-text.ensures im k w) (c.before.before.new-statement.ensures im k w row_declaration)
 
 pub declare-spec : {M : Type 1} → statement M
 declare-spec =

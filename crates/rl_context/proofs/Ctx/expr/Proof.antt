@@ -1,5 +1,5 @@
 use Rattle.std.proofs.Common.{rules}
-use Rattle.rl_context.proofs.NodesMade.{expr-does}
+use Rattle.rl_context.proofs.NodesMade.{expr_does}
 use Rattle.rl_context.proofs.Ctx.expr.Statement.{statement}
 use Rattle.rl_context.proofs.Ctx.expr.Tie as tie
 
@@ -25,7 +25,7 @@ same_length : tie.Need-same-length
 same_length c = search rules
 
 returns : tie.Need-returns
-returns c im k w cs e f = expr-does _ _ cs (search rules) f (c.before.before.new-expression.ensures im k w e)
+returns c im k w cs e f = expr_does _ _ cs (search rules) f (c.before.before.new-expression.ensures im k w e)
 
 pub expr-spec : {M : Type 1} → statement M
 expr-spec =

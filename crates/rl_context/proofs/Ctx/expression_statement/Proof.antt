@@ -1,6 +1,6 @@
 use Rattle.std.proofs.Common.{rules}
-use Rattle.rl_context.proofs.Rows.{row-expression}
-use Rattle.rl_context.proofs.StatementsMade.{expression-does}
+use Rattle.rl_context.proofs.Rows.{row_expression}
+use Rattle.rl_context.proofs.StatementsMade.{expression_does}
 use Rattle.rl_context.proofs.Ctx.expression_statement.Statement.{statement}
 use Rattle.rl_context.proofs.Ctx.expression_statement.Tie as tie
 
@@ -17,7 +17,7 @@ same_length : tie.Need-same-length
 same_length c = search rules
 
 returns : tie.Need-returns
-returns c im k w = expression-does _ (c.before.before.new-statement.ensures im k w row-expression)
+returns c im k w = expression_does _ (c.before.before.new-statement.ensures im k w row_expression)
 
 pub expression-statement-spec : {M : Type 1} → statement M
 expression-statement-spec =

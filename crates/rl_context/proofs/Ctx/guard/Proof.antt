@@ -1,5 +1,5 @@
 use Rattle.std.proofs.Common.{rules}
-use Rattle.rl_context.proofs.GuardLaws.{guard-does}
+use Rattle.rl_context.proofs.GuardLaws.{guard_does}
 use Rattle.rl_context.proofs.Ctx.guard.Statement.{statement}
 use Rattle.rl_context.proofs.Ctx.guard.Tie as tie
 
@@ -16,7 +16,7 @@ same-length-2 : tie.Need-same-length-2
 same-length-2 c = search rules
 
 returns : tie.Need-returns
-returns c q h = guard-does _ _ (c.before.before.before.before.before.before.before.before.before.before.before.deep-clone-expr.ensures q h) (c.before.before.before.before.guarded.ensures _)
+returns c q h = guard_does _ _ (c.before.before.before.before.before.before.before.before.before.before.before.deep-clone-expr.ensures q h) (c.before.before.before.before.guarded.ensures _)
 
 pub guard-spec : {M : Type 1} → statement M
 guard-spec =

@@ -1,5 +1,5 @@
 use Rattle.std.proofs.Common.{rules}
-use Rattle.rl_context.proofs.GuardLaws.{guarded-does}
+use Rattle.rl_context.proofs.GuardLaws.{guarded_does}
 use Rattle.rl_context.proofs.Ctx.guarded.Statement.{statement}
 use Rattle.rl_context.proofs.Ctx.guarded.Tie as tie
 
@@ -19,7 +19,7 @@ same-length-2 : tie.Need-same-length-2
 same-length-2 c = search rules
 
 returns : tie.Need-returns
-returns c im = guarded-does _ _ (c.before.before.before.before.before.before.before.before.before.before.before.before.before.before.before.before.negated.ensures im 0 _) (c.before.before.before.before.before.before.before.before.before.before.before.violation.ensures im) (c.before.before.before.before.only_if.ensures im)
+returns c im = guarded_does _ _ (c.before.before.before.before.before.before.before.before.before.before.before.before.before.before.before.before.negated.ensures im 0 _) (c.before.before.before.before.before.before.before.before.before.before.before.violation.ensures im) (c.before.before.before.before.only_if.ensures im)
 
 pub guarded-spec : {M : Type 1} → statement M
 guarded-spec =

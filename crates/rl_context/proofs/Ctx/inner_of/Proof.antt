@@ -1,5 +1,5 @@
 use Rattle.std.proofs.Common.{rules}
-use Rattle.rl_context.proofs.WrapLaws.{inner-unwrapped, inner-plain}
+use Rattle.rl_context.proofs.WrapLaws.{inner_unwrapped, inner_plain}
 use Rattle.rl_context.proofs.Ctx.inner_of.Statement.{statement}
 use Rattle.rl_context.proofs.Ctx.inner_of.Tie as tie
 
@@ -16,13 +16,13 @@ same-length-2 : tie.Need-same-length-2
 same-length-2 c = search rules
 
 returns : tie.Need-returns
-returns c im = inner-unwrapped _ _ (c.before.before.before.before.before.before.before.before.before.before.ident.ensures im 0 _) c.before.before.before.before.before.before.before.if1.true (c.before.before.before.before.unwrap-call.ensures im 0)
+returns c im = inner_unwrapped _ _ (c.before.before.before.before.before.before.before.before.before.before.ident.ensures im 0 _) c.before.before.before.before.before.before.before.if1.true (c.before.before.before.before.unwrap-call.ensures im 0)
 
 same-length-3 : tie.Need-same-length-3
 same-length-3 c = search rules
 
 returns-2 : tie.Need-returns-2
-returns-2 c im = inner-plain _ _ (c.before.before.before.ident.ensures im 0 _) c.if1.false
+returns-2 c im = inner_plain _ _ (c.before.before.before.ident.ensures im 0 _) c.if1.false
 
 pub inner-of-spec : {M : Type 1} → statement M
 inner-of-spec =

@@ -1,5 +1,5 @@
 use Rattle.std.proofs.Common.{rules}
-use Rattle.rl_context.proofs.NodesMade.{is-err-does}
+use Rattle.rl_context.proofs.NodesMade.{is_err_does}
 use Rattle.rl_context.proofs.Ctx.is_err_call.Statement.{statement}
 use Rattle.rl_context.proofs.Ctx.is_err_call.Tie as tie
 
@@ -16,7 +16,7 @@ same-length-2 : tie.Need-same-length-2
 same-length-2 c = search rules
 
 returns : tie.Need-returns
-returns c im k = is-err-does _ (c.before.before.before.before.res-call.ensures im k)
+returns c im k = is_err_does _ (c.before.before.before.before.res-call.ensures im k)
 
 pub is-err-call-spec : {M : Type 1} → statement M
 is-err-call-spec =

@@ -1,5 +1,5 @@
 use Rattle.std.proofs.Common.{rules}
-use Rattle.rl_context.proofs.NodesMade.{list-of-does}
+use Rattle.rl_context.proofs.NodesMade.{list_of_does}
 use Rattle.rl_context.proofs.Ctx.list_of.Statement.{statement}
 use Rattle.rl_context.proofs.Ctx.list_of.Tie as tie
 
@@ -16,7 +16,7 @@ same-length-2 : tie.Need-same-length-2
 same-length-2 c = search rules
 
 returns : tie.Need-returns
-returns c im k = list-of-does _ (c.before.before.before.before.before.before.before.push.ensures _) c.before.before.new-list.ensures
+returns c im k = list_of_does _ (c.before.before.before.before.before.before.before.push.ensures _) c.before.before.new-list.ensures
 
 pub list-of-spec : {M : Type 1} → statement M
 list-of-spec =

@@ -1,5 +1,5 @@
 use Rattle.std.proofs.Common.{rules}
-use Rattle.rl_context.proofs.GuardLaws.{message-default, message-own}
+use Rattle.rl_context.proofs.GuardLaws.{message_default, message_own}
 use Rattle.rl_context.proofs.Ctx.msg_expr.Statement.{statement}
 use Rattle.rl_context.proofs.Ctx.msg_expr.Tie as tie
 
@@ -13,13 +13,13 @@ str-lit-requires : tie.Need-str-lit-requires
 str-lit-requires c κs = search rules
 
 returns : tie.Need-returns
-returns c im k w = message-own c.before.before.before.before.before.args.clause _ _ c.before.message.given.1
+returns c im k w = message_own c.before.before.before.before.before.args.clause _ _ c.before.message.given.1
 
 same_length : tie.Need-same-length
 same_length c = search rules
 
 returns-2 : tie.Need-returns-2
-returns-2 c im k w = message-default c.before.before.before.before.before.before.before.before.args.clause _ c.before.before.before.before.enum_told.given.1 (c.before.before.str-lit.ensures im k w)
+returns-2 c im k w = message_default c.before.before.before.before.before.before.before.before.args.clause _ c.before.before.before.before.enum_told.given.1 (c.before.before.str-lit.ensures im k w)
 
 pub msg-expr-spec : {M : Type 1} → statement M
 msg-expr-spec =

@@ -1,7 +1,7 @@
 use Rattle.std.proofs.Common.{rules}
-use Rattle.rl_encode.specs.Words.{wordFields}
-use Rattle.rl_spec.specs.Schema.{sortOf}
-use Rattle.rl_context.proofs.Rows.{row-unary, fields-unary}
+use Rattle.rl_encode.specs.Words.{word_fields}
+use Rattle.rl_spec.specs.Schema.{sort_of}
+use Rattle.rl_context.proofs.Rows.{row_unary, fields_unary}
 use Rattle.rl_context.proofs.Ctx.negated.Statement.{statement}
 use Rattle.rl_context.proofs.Ctx.negated.Tie as tie
 
@@ -12,8 +12,8 @@ same_length : tie.Need-same-length
 same_length c = search rules
 
 returns : tie.Need-returns
-unfolding wordFields sortOf
-returns c im k w = c.before.before.expr.ensures im k w _ row-unary fields-unary
+unfolding word_fields sort_of
+returns c im k w = c.before.before.expr.ensures im k w _ row_unary fields_unary
 
 pub negated-spec : {M : Type 1} → statement M
 negated-spec = tie.close (tie.spec expr-requires same_length returns)

@@ -1,12 +1,12 @@
 use Rattle.std.proofs.Common.{arith, rules}
 use Rattle.rl_context.proofs.Limits.{within}
-use Rattle.rl_context.proofs.Appends.{expression-full, expression-less, expression-short, expression-many}
-use Rattle.rl_context.proofs.Making.{expression-made}
-use Rattle.rl_context.proofs.Sizes.{record-room, record-ends}
+use Rattle.rl_context.proofs.Appends.{expression_full, expression_less, expression_short, expression_many}
+use Rattle.rl_context.proofs.Making.{expression_made}
+use Rattle.rl_context.proofs.Sizes.{record_room, record_ends}
 use Rattle.rl_context.proofs.Ctx.new_expression.Statement.{statement}
 use Rattle.rl_context.proofs.Ctx.new_expression.Tie as tie
 
-ruleset laws = (expression-full, expression-less, expression-short, expression-many, expression-made, record-room)
+ruleset laws = (expression_full, expression_less, expression_short, expression_many, expression_made, record_room)
 
 cast-used : tie.Need-overflow-cast-used
 cast-used c = search rules
@@ -54,7 +54,7 @@ sub_self : tie.Need-overflow-sub-self
 sub_self c = search rules
 
 cast-self : tie.Need-overflow-cast-self
-cast-self c = omega (arith, record-ends c.before.before.before.before.before.before.before.before.before.before.before.before.args.kind c.before.before.before.before.before.before.before.before.before.before.before.before.args.row c.before.before.before.before.before.before.before.before.before.before.before.before.args.words.now 38912 c.before.before.before.before.before.before.before.before.before.before.before.before.args.self.expression_bytes _ c.before.before.before.before.before.before.before.if2.false c.before.before.put_record.ensures.0)
+cast-self c = omega (arith, record_ends c.before.before.before.before.before.before.before.before.before.before.before.before.args.kind c.before.before.before.before.before.before.before.before.before.before.before.before.args.row c.before.before.before.before.before.before.before.before.before.before.before.before.args.words.now 38912 c.before.before.before.before.before.before.before.before.before.before.before.before.args.self.expression_bytes _ c.before.before.before.before.before.before.before.if2.false c.before.before.put_record.ensures.0)
 
 cast-t16 : tie.Need-overflow-cast-t16
 cast-t16 c = omega (arith, within c.before.before.before.before.before.before.before.before.before.before.before.before.args.self.expressions 1 4096 _ c.before.before.before.before.before.passes.ensures c.before.before.before.before.if4.false)

@@ -1,10 +1,10 @@
 use Rattle.std.proofs.Common.{◌-◌, arith, rules}
 use Rattle.rl_context.proofs.Limits.{within}
-use Rattle.rl_context.proofs.Listing.{list_full, list-order, list-short, list-waiting, list-many, list-made}
+use Rattle.rl_context.proofs.Listing.{list_full, list_order, list_short, list_waiting, list_many, list_made}
 use Rattle.rl_context.proofs.Ctx.new_list.Statement.{statement}
 use Rattle.rl_context.proofs.Ctx.new_list.Tie as tie
 
-ruleset laws = (list_full, list-order, list-short, list-waiting, list-many, list-made)
+ruleset laws = (list_full, list_order, list_short, list_waiting, list_many, list_made)
 
 without-list-requires : tie.Need-without-list-requires
 without-list-requires c κs = search rules

@@ -1,12 +1,12 @@
 use Rattle.std.proofs.Common.{arith, rules}
 use Rattle.rl_context.proofs.Limits.{within}
-use Rattle.rl_context.proofs.Appends.{statement-full, statement_less, statement-short, statement-many}
-use Rattle.rl_context.proofs.Making.{statement-made}
-use Rattle.rl_context.proofs.Sizes.{record-room, record-ends}
+use Rattle.rl_context.proofs.Appends.{statement_full, statement_less, statement_short, statement_many}
+use Rattle.rl_context.proofs.Making.{statement_made}
+use Rattle.rl_context.proofs.Sizes.{record_room, record_ends}
 use Rattle.rl_context.proofs.Ctx.new_statement.Statement.{statement}
 use Rattle.rl_context.proofs.Ctx.new_statement.Tie as tie
 
-ruleset laws = (statement-full, statement_less, statement-short, statement-many, statement-made, record-room)
+ruleset laws = (statement_full, statement_less, statement_short, statement_many, statement_made, record_room)
 
 cast-used : tie.Need-overflow-cast-used
 cast-used c = search rules
@@ -54,7 +54,7 @@ sub_self : tie.Need-overflow-sub-self
 sub_self c = search rules
 
 cast-self : tie.Need-overflow-cast-self
-cast-self c = omega (arith, record-ends c.before.before.before.before.before.before.before.before.before.before.before.before.args.kind c.before.before.before.before.before.before.before.before.before.before.before.before.args.row c.before.before.before.before.before.before.before.before.before.before.before.before.args.words.now 137216 c.before.before.before.before.before.before.before.before.before.before.before.before.args.self.statement_bytes _ c.before.before.before.before.before.before.before.if2.false c.before.before.put_record.ensures.0)
+cast-self c = omega (arith, record_ends c.before.before.before.before.before.before.before.before.before.before.before.before.args.kind c.before.before.before.before.before.before.before.before.before.before.before.before.args.row c.before.before.before.before.before.before.before.before.before.before.before.before.args.words.now 137216 c.before.before.before.before.before.before.before.before.before.before.before.before.args.self.statement_bytes _ c.before.before.before.before.before.before.before.if2.false c.before.before.put_record.ensures.0)
 
 cast-t16 : tie.Need-overflow-cast-t16
 cast-t16 c = omega (arith, within c.before.before.before.before.before.before.before.before.before.before.before.before.args.self.statements 1 2048 _ c.before.before.before.before.before.passes.ensures c.before.before.before.before.if4.false)

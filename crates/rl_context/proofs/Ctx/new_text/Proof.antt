@@ -1,11 +1,11 @@
 use Rattle.std.proofs.Common.{length, arith, rules}
 use Rattle.rl_context.proofs.Limits.{within}
-use Rattle.rl_context.proofs.Appends.{text-full, text-short, text-bytes, text-texts}
-use Rattle.rl_context.proofs.TextMade.{text-made, text-record-room}
+use Rattle.rl_context.proofs.Appends.{text_full, text_short, text_bytes_lem, text_texts}
+use Rattle.rl_context.proofs.TextMade.{text_made, text_record_room}
 use Rattle.rl_context.proofs.Ctx.new_text.Statement.{statement}
 use Rattle.rl_context.proofs.Ctx.new_text.Tie as tie
 
-ruleset laws = (text-full, text-short, text-bytes, text-texts, text-made)
+ruleset laws = (text_full, text_short, text_bytes_lem, text_texts, text_made)
 
 stopped-requires : tie.Need-stopped-requires
 stopped-requires c κs = search rules
@@ -69,7 +69,7 @@ add-put-number-3 c = omega (arith, within c.before.before.before.before.before.b
 
 put-number-requires : tie.Need-put-number-requires
 put-number-requires c κs =
-    text-record-room c.before.before.before.before.before.before.before.before.before.before.before.before.before.args.scratch.now c.before.before.before.before.before.before.before.before.before.before.before.before.before.args.text.now _ c.before.before.before.before.before.before.before.before.before.before.before.before.before.args.self.bytes c.before.before.before.before.before.before.before.before.before.before.before.before.before.args.self.texts c.before.before.before.before.before.before.before.before.before.if2.false (within c.before.before.before.before.before.before.before.before.before.before.before.before.before.args.self.bytes (length c.before.before.before.before.before.before.before.before.before.before.before.before.before.args.text.now) 16384 _ c.before.before.before.before.before.before.before.before.passes.ensures c.before.before.before.before.before.before.before.if3.false) (within c.before.before.before.before.before.before.before.before.before.before.before.before.before.args.self.texts 1 2048 _ c.before.before.before.before.before.before.passes2.ensures c.before.before.before.before.before.if4.false) c.before.before.before.put-text.ensures.1
+    text_record_room c.before.before.before.before.before.before.before.before.before.before.before.before.before.args.scratch.now c.before.before.before.before.before.before.before.before.before.before.before.before.before.args.text.now _ c.before.before.before.before.before.before.before.before.before.before.before.before.before.args.self.bytes c.before.before.before.before.before.before.before.before.before.before.before.before.before.args.self.texts c.before.before.before.before.before.before.before.before.before.if2.false (within c.before.before.before.before.before.before.before.before.before.before.before.before.before.args.self.bytes (length c.before.before.before.before.before.before.before.before.before.before.before.before.before.args.text.now) 16384 _ c.before.before.before.before.before.before.before.before.passes.ensures c.before.before.before.before.before.before.before.if3.false) (within c.before.before.before.before.before.before.before.before.before.before.before.before.before.args.self.texts 1 2048 _ c.before.before.before.before.before.before.passes2.ensures c.before.before.before.before.before.if4.false) c.before.before.before.put-text.ensures.1
 
 cast-self : tie.Need-overflow-cast-self
 cast-self c = omega (arith, within c.before.before.before.before.before.before.before.before.before.before.before.before.before.before.before.before.args.self.bytes (length c.before.before.before.before.before.before.before.before.before.before.before.before.before.before.before.before.args.text.now) 16384 _ c.before.before.before.before.before.before.before.before.before.before.before.passes.ensures c.before.before.before.before.before.before.before.before.before.before.if3.false)

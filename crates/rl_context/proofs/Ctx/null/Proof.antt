@@ -1,6 +1,6 @@
 use Rattle.std.proofs.Common.{rules}
-use Rattle.rl_encode.specs.Words.{wordFields}
-use Rattle.rl_context.proofs.Rows.{row-null, fields-null}
+use Rattle.rl_encode.specs.Words.{word_fields}
+use Rattle.rl_context.proofs.Rows.{row_null, fields_null}
 use Rattle.rl_context.proofs.Ctx.null.Statement.{statement}
 use Rattle.rl_context.proofs.Ctx.null.Tie as tie
 
@@ -11,8 +11,8 @@ same_length : tie.Need-same-length
 same_length c = search rules
 
 returns : tie.Need-returns
-unfolding wordFields
-returns c im k w = c.before.before.expr.ensures im k w _ row-null fields-null
+unfolding word_fields
+returns c im k w = c.before.before.expr.ensures im k w _ row_null fields_null
 
 pub null-spec : {M : Type 1} → statement M
 null-spec = tie.close (tie.spec expr-requires same_length returns)

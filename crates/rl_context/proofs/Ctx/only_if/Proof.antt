@@ -1,6 +1,6 @@
 use Rattle.std.proofs.Common.{◌∙◌, rules}
-use Rattle.rl_context.proofs.Rows.{row-branch, row-conditional}
-use Rattle.rl_context.proofs.StatementsMade.{only-if-does}
+use Rattle.rl_context.proofs.Rows.{row_branch, row_conditional}
+use Rattle.rl_context.proofs.StatementsMade.{only_if_does}
 use Rattle.rl_context.proofs.Ctx.only_if.Statement.{statement}
 use Rattle.rl_context.proofs.Ctx.only_if.Tie as tie
 
@@ -44,7 +44,7 @@ same-length-2 : tie.Need-same-length-2
 same-length-2 c = c.before.before.before.before.before.before.before.before.before.before.before.before.before.before.before.before.before.before.before.before.before.list_of.auto.1.1.0
 
 returns : tie.Need-returns
-returns c im = only-if-does _ _ c.before.before.before.before.before.before.before.before.before.before.before.before.before.before.before.before.before.before.before.before.before.list_of.result.list _ _ (c.before.before.before.before.before.before.before.before.before.before.before.before.before.before.before.before.before.before.before.before.before.list_of.ensures im 0) c.before.before.before.before.before.before.before.before.before.before.before.before.before.before.list-word.ensures c.before.before.before.before.before.before.before.optional-word.ensures (c.before.before.before.before.before.before.before.before.before.before.before.new-statement.ensures im 0 _ row-branch) (c.before.before.new-statement2.ensures im 0 _ row-conditional)
+returns c im = only_if_does _ _ c.before.before.before.before.before.before.before.before.before.before.before.before.before.before.before.before.before.before.before.before.before.list_of.result.list _ _ (c.before.before.before.before.before.before.before.before.before.before.before.before.before.before.before.before.before.before.before.before.before.list_of.ensures im 0) c.before.before.before.before.before.before.before.before.before.before.before.before.before.before.list_word.ensures c.before.before.before.before.before.before.before.optional-word.ensures (c.before.before.before.before.before.before.before.before.before.before.before.new-statement.ensures im 0 _ row_branch) (c.before.before.new-statement2.ensures im 0 _ row_conditional)
 
 pub only-if-spec : {M : Type 1} → statement M
 only-if-spec =

@@ -1,5 +1,5 @@
 use Rattle.std.proofs.Common.{rules}
-use Rattle.rl_context.proofs.Operands.{integer-made, str-made, true-made, false-made, named-made}
+use Rattle.rl_context.proofs.Operands.{integer_made, str_made, true_made, false_made, named_made}
 use Rattle.rl_context.proofs.Ctx.operand_of.Statement.{statement}
 use Rattle.rl_context.proofs.Ctx.operand_of.Tie as tie
 
@@ -22,7 +22,7 @@ enum-known-operand-3 : tie.Need-enum-known-operand-3
 enum-known-operand-3 c = search rules
 
 returns : tie.Need-returns
-returns c im p w = true-made _ _ _ _ c.before.before.operand3.given.1 c.if1.true
+returns c im p w = true_made _ _ _ _ c.before.before.operand3.given.1 c.if1.true
 
 enum-known-operand-4 : tie.Need-enum-known-operand-4
 enum-known-operand-4 c = search rules
@@ -34,22 +34,22 @@ text-operand-requires-2 : tie.Need-text-operand-requires-2
 text-operand-requires-2 c κs = search rules
 
 returns-2 : tie.Need-returns-2
-returns-2 c im p w = integer-made _ _ _ _ _ c.before.before.operand.given.1 (search rules) c.bits-of-int.ensures.0
+returns-2 c im p w = integer_made _ _ _ _ _ c.before.before.operand.given.1 (search rules) c.bits-of-int.ensures.0
 
 same_length : tie.Need-same-length
 same_length c = search rules
 
 returns-3 : tie.Need-returns-3
-returns-3 c im p w = str-made _ _ _ _ _ c.before.before.before.before.before.before.operand2.given.1 (c.before.before.before.text_at.ensures p) (c.before.before.text-operand.ensures.0, (c.before.before.text-operand.ensures.1.0, c.before.before.text-operand.ensures.1.1 im w))
+returns-3 c im p w = str_made _ _ _ _ _ c.before.before.before.before.before.before.operand2.given.1 (c.before.before.before.text_at.ensures p) (c.before.before.text_operand.ensures.0, (c.before.before.text_operand.ensures.1.0, c.before.before.text_operand.ensures.1.1 im w))
 
 returns-4 : tie.Need-returns-4
-returns-4 c im p w = false-made _ _ _ _ c.before.before.operand3.given.1 c.if1.false
+returns-4 c im p w = false_made _ _ _ _ c.before.before.operand3.given.1 c.if1.false
 
 same-length-2 : tie.Need-same-length-2
 same-length-2 c = search rules
 
 returns-5 : tie.Need-returns-5
-returns-5 c im p w = named-made _ _ _ _ _ c.before.before.before.before.before.before.operand4.given.1 (c.before.before.before.text-at2.ensures p) (c.before.before.text-operand2.ensures.0, (c.before.before.text-operand2.ensures.1.0, c.before.before.text-operand2.ensures.1.1 im w))
+returns-5 c im p w = named_made _ _ _ _ _ c.before.before.before.before.before.before.operand4.given.1 (c.before.before.before.text-at2.ensures p) (c.before.before.text-operand2.ensures.0, (c.before.before.text-operand2.ensures.1.0, c.before.before.text-operand2.ensures.1.1 im w))
 
 pub operand-of-spec : {M : Type 1} → statement M
 operand-of-spec =

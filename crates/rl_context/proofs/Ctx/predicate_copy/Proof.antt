@@ -1,8 +1,8 @@
 use Rattle.std.proofs.Common.{rules}
-use Rattle.rl_encode.specs.Words.{wordFields}
-use Rattle.rl_spec.specs.Schema.{sortOf}
-use Rattle.rl_context.proofs.Rows.{row-identifier, row-binary, fields-identifier, fields-binary}
-use Rattle.rl_context.proofs.Operands.{leaf-made, copy_does}
+use Rattle.rl_encode.specs.Words.{word_fields}
+use Rattle.rl_spec.specs.Schema.{sort_of}
+use Rattle.rl_context.proofs.Rows.{row_identifier, row_binary, fields_identifier, fields_binary}
+use Rattle.rl_context.proofs.Operands.{leaf_made, copy_does}
 use Rattle.rl_context.proofs.Ctx.predicate_copy.Statement.{statement}
 use Rattle.rl_context.proofs.Ctx.predicate_copy.Tie as tie
 
@@ -31,8 +31,8 @@ same_length : tie.Need-same-length
 same_length c = search rules
 
 returns : tie.Need-returns
-unfolding wordFields sortOf
-returns c im w leaf row = copy_does (_, _) _ _ (c.before.before.before.before.before.before.before.before.before.before.before.before.before.expr.ensures im 0 w _ row-identifier fields-identifier) (leaf-made _ _ leaf (λ cs f. c.before.before.before.before.before.before.before.before.before.expr2.ensures im 0 w cs row f)) (c.before.before.expr3.ensures im 0 w _ row-binary fields-binary)
+unfolding word_fields sort_of
+returns c im w leaf row = copy_does (_, _) _ _ (c.before.before.before.before.before.before.before.before.before.before.before.before.before.expr.ensures im 0 w _ row_identifier fields_identifier) (leaf_made _ _ leaf (λ cs f. c.before.before.before.before.before.before.before.before.before.expr2.ensures im 0 w cs row f)) (c.before.before.expr3.ensures im 0 w _ row_binary fields_binary)
 
 pub predicate-copy-spec : {M : Type 1} → statement M
 predicate-copy-spec =

@@ -1,9 +1,9 @@
 use Rattle.std.proofs.Common.{rules}
-use Rattle.rl_context.proofs.Waits.{push-full, push-many, push-made}
+use Rattle.rl_context.proofs.Waits.{push_full, push_many, push_made}
 use Rattle.rl_context.proofs.Ctx.push.Statement.{statement}
 use Rattle.rl_context.proofs.Ctx.push.Tie as tie
 
-ruleset laws = (push-full, push-many, push-made)
+ruleset laws = (push_full, push_many, push_made)
 
 returns : tie.Need-returns
 returns c s = search (laws, rules)

@@ -1,5 +1,5 @@
 use Rattle.std.proofs.Common.{rules}
-use Rattle.rl_context.proofs.Composed.{does-push}
+use Rattle.rl_context.proofs.Composed.{does_push}
 use Rattle.rl_context.proofs.Ctx.push_text.Statement.{statement}
 use Rattle.rl_context.proofs.Ctx.push_text.Tie as tie
 
@@ -16,7 +16,7 @@ same-length-2 : tie.Need-same-length-2
 same-length-2 c = search rules
 
 returns : tie.Need-returns
-returns c im k = does-push (c.before.before.before.before.before.before.new-text.ensures im k _) (c.before.before.push.ensures _)
+returns c im k = does_push (c.before.before.before.before.before.before.new-text.ensures im k _) (c.before.before.push.ensures _)
 
 pub push-text-spec : {M : Type 1} → statement M
 push-text-spec =

@@ -1,9 +1,9 @@
 use Rattle.std.proofs.Common.{◌∙◌, rules}
-use Rattle.rl_encode.specs.Words.{wordFields}
-use Rattle.rl_spec.specs.Schema.{sortOf}
-use Rattle.rl_context.proofs.Rows.{row-identifier, row-binary, fields-identifier, fields-binary}
-use Rattle.rl_context.proofs.Operands.{leaf-made}
-use Rattle.rl_context.proofs.RefinementLaws.{predicate-does}
+use Rattle.rl_encode.specs.Words.{word_fields}
+use Rattle.rl_spec.specs.Schema.{sort_of}
+use Rattle.rl_context.proofs.Rows.{row_identifier, row_binary, fields_identifier, fields_binary}
+use Rattle.rl_context.proofs.Operands.{leaf_made}
+use Rattle.rl_context.proofs.RefinementLaws.{predicate_does}
 use mir.Facts.{Fits-8_64}
 use Rattle.rl_context.proofs.Ctx.refine_predicate.Statement.{statement}
 use Rattle.rl_context.proofs.Ctx.refine_predicate.Tie as tie
@@ -45,8 +45,8 @@ same_length : tie.Need-same-length
 same_length c = c.before.before.before.expr3.auto.1.0 ∙ c.before.before.before.before.before.before.before.before.before.expr2.auto.1.0 ∙ c.before.before.before.before.before.before.before.before.before.before.before.before.before.new-text.auto.1.0 ∙ c.before.before.before.before.before.before.before.before.before.before.before.before.before.before.before.before.before.before.expr.auto.1.0 ∙ c.before.before.before.before.before.before.before.before.before.before.before.before.before.before.before.before.before.before.before.before.before.before.operand-of.auto.1.1.1.0
 
 returns : tie.Need-returns
-unfolding wordFields sortOf
-returns c im p w = let o = c.before.before.before.before.before.before.before.before.before.before.before.before.before.before.before.before.before.before.before.before.before.before.operand-of.ensures im p w in predicate-does _ _ _ _ _ c.before.before.before.before.before.before.before.before.before.before.before.before.before.before.before.before.before.before.before.before.before.before.before.before.token-of.ensures (c.before.before.before.before.before.before.before.before.before.before.before.before.before.before.text_at.ensures p) o.leaf o.row o.does (leaf-made _ _ o.leaf (λ cs f. c.before.before.before.before.before.before.before.before.before.before.before.before.before.before.before.before.before.before.expr.ensures im 0 w cs o.row f)) (c.before.before.before.before.before.before.before.before.before.before.before.before.before.new-text.ensures im 0 w) (c.before.before.before.before.before.before.before.before.before.expr2.ensures im 0 w _ row-identifier fields-identifier) (c.before.before.before.expr3.ensures im 0 w _ row-binary fields-binary)
+unfolding word_fields sort_of
+returns c im p w = let o = c.before.before.before.before.before.before.before.before.before.before.before.before.before.before.before.before.before.before.before.before.before.before.operand-of.ensures im p w in predicate_does _ _ _ _ _ c.before.before.before.before.before.before.before.before.before.before.before.before.before.before.before.before.before.before.before.before.before.before.before.before.token-of.ensures (c.before.before.before.before.before.before.before.before.before.before.before.before.before.before.text_at.ensures p) o.leaf o.row o.does (leaf_made _ _ o.leaf (λ cs f. c.before.before.before.before.before.before.before.before.before.before.before.before.before.before.before.before.before.before.expr.ensures im 0 w cs o.row f)) (c.before.before.before.before.before.before.before.before.before.before.before.before.before.new-text.ensures im 0 w) (c.before.before.before.before.before.before.before.before.before.expr2.ensures im 0 w _ row_identifier fields_identifier) (c.before.before.before.expr3.ensures im 0 w _ row_binary fields_binary)
 
 pub refine-predicate-spec : {M : Type 1} → statement M
 refine-predicate-spec =

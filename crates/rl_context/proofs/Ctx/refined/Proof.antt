@@ -1,5 +1,5 @@
 use Rattle.std.proofs.Common.{◌∙◌, rules}
-use Rattle.rl_context.proofs.RefinementLaws.{refined-does}
+use Rattle.rl_context.proofs.RefinementLaws.{refined_does}
 use Rattle.rl_context.proofs.Ctx.refined.Statement.{statement}
 use Rattle.rl_context.proofs.Ctx.refined.Tie as tie
 
@@ -25,7 +25,7 @@ same-length-2 : tie.Need-same-length-2
 same-length-2 c = search rules
 
 returns : tie.Need-returns
-returns c im p = let m = c.before.before.before.before.before.before.before.before.before.before.before.before.before.before.before.before.before.before.before.before.before.refine-predicate.ensures im p _ in refined-does _ _ _ _ _ _ m (c.before.before.before.before.before.before.before.before.before.before.before.before.before.before.before.before.before.str-lit.ensures im 0 _) (c.before.before.before.before.before.before.before.before.before.before.before.before.before.predicate-copy.ensures im _ m.leaf m.row) (c.before.before.before.before.before.before.before.before.guarded.ensures im) (c.before.before.push.ensures _)
+returns c im p = let m = c.before.before.before.before.before.before.before.before.before.before.before.before.before.before.before.before.before.before.before.before.before.refine-predicate.ensures im p _ in refined_does _ _ _ _ _ _ m (c.before.before.before.before.before.before.before.before.before.before.before.before.before.before.before.before.before.str-lit.ensures im 0 _) (c.before.before.before.before.before.before.before.before.before.before.before.before.before.predicate-copy.ensures im _ m.leaf m.row) (c.before.before.before.before.before.before.before.before.guarded.ensures im) (c.before.before.push.ensures _)
 
 pub refined-spec : {M : Type 1} → statement M
 refined-spec =

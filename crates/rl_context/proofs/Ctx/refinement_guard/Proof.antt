@@ -1,5 +1,5 @@
 use Rattle.std.proofs.Common.{rules}
-use Rattle.rl_context.proofs.RefinementLaws.{unrefined-done, refinement-done}
+use Rattle.rl_context.proofs.RefinementLaws.{unrefined_done, refinement_done}
 use Rattle.rl_context.proofs.Ctx.refinement_guard.Statement.{statement}
 use Rattle.rl_context.proofs.Ctx.refinement_guard.Tie as tie
 
@@ -31,7 +31,7 @@ refined-requires : tie.Need-refined-requires
 refined-requires c κs = search rules
 
 returns : tie.Need-returns
-returns c im p h = unrefined-done _ _ _ _ _ (c.before.before.before.before.before.function-at.ensures p) (c.before.before.param-at.ensures p) im _ c.enum_told.given.1
+returns c im p h = unrefined_done _ _ _ _ _ (c.before.before.before.before.before.function-at.ensures p) (c.before.before.param-at.ensures p) im _ c.enum_told.given.1
 
 same_length : tie.Need-same-length
 same_length c = search rules
@@ -43,7 +43,7 @@ same-length-3 : tie.Need-same-length-3
 same-length-3 c = search rules
 
 returns-2 : tie.Need-returns-2
-returns-2 c im p h = refinement-done _ _ _ _ _ (c.before.before.before.before.before.before.before.before.before.before.before.before.before.before.before.before.before.before.before.function-at.ensures p) (c.before.before.before.before.before.before.before.before.before.before.before.before.before.before.before.before.param-at.ensures p) _ _ _ _ _ _ c.before.before.before.before.before.before.before.before.before.before.before.before.before.before.refinement.given.1 h (c.before.before.before.before.before.before.before.before.before.before.before.default-text.ensures.0 p) (c.before.before.before.before.before.before.before.before.before.before.before.default-text.ensures.1 p) c.before.before.before.before.before.part.ensures (c.before.before.before.before.refined.ensures im p)
+returns-2 c im p h = refinement_done _ _ _ _ _ (c.before.before.before.before.before.before.before.before.before.before.before.before.before.before.before.before.before.before.before.function-at.ensures p) (c.before.before.before.before.before.before.before.before.before.before.before.before.before.before.before.before.param-at.ensures p) _ _ _ _ _ _ c.before.before.before.before.before.before.before.before.before.before.before.before.before.before.refinement.given.1 h (c.before.before.before.before.before.before.before.before.before.before.before.default-text.ensures.0 p) (c.before.before.before.before.before.before.before.before.before.before.before.default-text.ensures.1 p) c.before.before.before.before.before.part.ensures (c.before.before.before.before.refined.ensures im p)
 
 pub refinement-guard-spec : {M : Type 1} → statement M
 refinement-guard-spec =

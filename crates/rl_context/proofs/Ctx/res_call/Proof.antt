@@ -1,8 +1,8 @@
 use Rattle.std.proofs.Common.{rules}
-use Rattle.rl_encode.specs.Words.{wordFields}
-use Rattle.rl_spec.specs.Schema.{sortOf}
-use Rattle.rl_context.proofs.Rows.{row-call, fields-call}
-use Rattle.rl_context.proofs.NodesMade.{call-does}
+use Rattle.rl_encode.specs.Words.{word_fields}
+use Rattle.rl_spec.specs.Schema.{sort_of}
+use Rattle.rl_context.proofs.Rows.{row_call, fields_call}
+use Rattle.rl_context.proofs.NodesMade.{call_does}
 use Rattle.rl_context.proofs.Ctx.res_call.Statement.{statement}
 use Rattle.rl_context.proofs.Ctx.res_call.Tie as tie
 
@@ -28,8 +28,8 @@ same-length-2 : tie.Need-same-length-2
 same-length-2 c = search rules
 
 returns : tie.Need-returns
-unfolding wordFields sortOf
-returns c im k = call-does _ _ c.before.before.before.before.before.before.before.before.before.before.before.before.before.before.before.before.before.res-path.result.list c.before.before.before.before.before.before.before.before.before.before.list_of.result.list _ _ (c.before.before.before.before.before.before.before.before.before.before.before.before.before.before.before.before.before.res-path.ensures im k) (c.before.before.before.before.before.before.before.before.before.before.list_of.ensures im k) c.before.before.before.before.before.list-word.ensures c.before.before.before.before.list-word2.ensures (c.before.before.expr.ensures im k _ _ row-call fields-call)
+unfolding word_fields sort_of
+returns c im k = call_does _ _ c.before.before.before.before.before.before.before.before.before.before.before.before.before.before.before.before.before.res-path.result.list c.before.before.before.before.before.before.before.before.before.before.list_of.result.list _ _ (c.before.before.before.before.before.before.before.before.before.before.before.before.before.before.before.before.before.res-path.ensures im k) (c.before.before.before.before.before.before.before.before.before.before.list_of.ensures im k) c.before.before.before.before.before.list_word.ensures c.before.before.before.before.list-word2.ensures (c.before.before.expr.ensures im k _ _ row_call fields_call)
 
 pub res-call-spec : {M : Type 1} → statement M
 res-call-spec =

@@ -1,5 +1,5 @@
 use Rattle.std.proofs.Common.{◌∙◌, rules}
-use Rattle.rl_context.proofs.NodesMade.{path-does}
+use Rattle.rl_context.proofs.NodesMade.{path_does}
 use Rattle.rl_context.proofs.Ctx.res_path.Statement.{statement}
 use Rattle.rl_context.proofs.Ctx.res_path.Tie as tie
 
@@ -28,7 +28,7 @@ same-length-2 : tie.Need-same-length-2
 same-length-2 c = c.before.before.before.before.before.before.before.before.before.push-text3.auto.1.1.0 ∙ c.before.before.before.before.before.before.before.before.before.before.before.before.before.before.before.before.push-text2.auto.1.1.0 ∙ c.before.before.before.before.before.before.before.before.before.before.before.before.before.before.before.before.before.before.before.before.before.before.before.before.push-text.auto.1.1.0
 
 returns : tie.Need-returns
-returns c im k = path-does _ (c.before.before.before.before.before.before.before.before.before.before.before.before.before.before.before.before.before.before.before.before.before.before.before.before.push-text.ensures im k) (c.before.before.before.before.before.before.before.before.before.before.before.before.before.before.before.before.push-text2.ensures im k) (c.before.before.before.before.before.before.before.before.before.push-text3.ensures im k) c.before.before.new-list.ensures
+returns c im k = path_does _ (c.before.before.before.before.before.before.before.before.before.before.before.before.before.before.before.before.before.before.before.before.before.before.before.before.push-text.ensures im k) (c.before.before.before.before.before.before.before.before.before.before.before.before.before.before.before.before.push-text2.ensures im k) (c.before.before.before.before.before.before.before.before.before.push-text3.ensures im k) c.before.before.new-list.ensures
 
 pub res-path-spec : {M : Type 1} → statement M
 res-path-spec =

@@ -1,6 +1,6 @@
 use Rattle.std.proofs.Common.{rules}
-use Rattle.rl_context.proofs.Rows.{row-return}
-use Rattle.rl_context.proofs.StatementsMade.{return-does}
+use Rattle.rl_context.proofs.Rows.{row_return}
+use Rattle.rl_context.proofs.StatementsMade.{return_does}
 use Rattle.rl_context.proofs.Ctx.return_statement.Statement.{statement}
 use Rattle.rl_context.proofs.Ctx.return_statement.Tie as tie
 
@@ -17,7 +17,7 @@ same_length : tie.Need-same-length
 same_length c = search rules
 
 returns : tie.Need-returns
-returns c im k w = return-does _ (c.before.before.new-statement.ensures im k w row-return)
+returns c im k w = return_does _ (c.before.before.new-statement.ensures im k w row_return)
 
 pub return-statement-spec : {M : Type 1} → statement M
 return-statement-spec =

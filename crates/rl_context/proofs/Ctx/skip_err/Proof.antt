@@ -1,5 +1,5 @@
 use Rattle.std.proofs.Common.{◌∙◌, rules}
-use Rattle.rl_context.proofs.WrapLaws.{skip-err-does}
+use Rattle.rl_context.proofs.WrapLaws.{skip_err_does}
 use Rattle.rl_context.proofs.Ctx.skip_err.Statement.{statement}
 use Rattle.rl_context.proofs.Ctx.skip_err.Tie as tie
 
@@ -25,7 +25,7 @@ same-length-2 : tie.Need-same-length-2
 same-length-2 c = c.before.before.push.auto.1.0 ∙ c.before.before.before.before.before.before.before.before.only_if.auto.1.1.0 ∙ c.before.before.before.before.before.before.before.before.before.before.before.before.before.before.before.before.before.before.before.is-err-call.auto.1.1.0
 
 returns : tie.Need-returns
-returns c im = skip-err-does _ (c.before.before.before.before.before.before.before.before.before.before.before.before.before.before.before.before.before.before.before.before.before.before.before.before.ident.ensures im 0 _) (c.before.before.before.before.before.before.before.before.before.before.before.before.before.before.before.before.before.before.before.is-err-call.ensures im 0) (c.before.before.before.before.before.before.before.before.before.before.before.before.before.Return-of.ensures im _) (c.before.before.before.before.before.before.before.before.only_if.ensures im) (c.before.before.push.ensures _)
+returns c im = skip_err_does _ (c.before.before.before.before.before.before.before.before.before.before.before.before.before.before.before.before.before.before.before.before.before.before.before.before.ident.ensures im 0 _) (c.before.before.before.before.before.before.before.before.before.before.before.before.before.before.before.before.before.before.before.is-err-call.ensures im 0) (c.before.before.before.before.before.before.before.before.before.before.before.before.before.Return-of.ensures im _) (c.before.before.before.before.before.before.before.before.only_if.ensures im) (c.before.before.push.ensures _)
 
 pub skip-err-spec : {M : Type 1} → statement M
 skip-err-spec =

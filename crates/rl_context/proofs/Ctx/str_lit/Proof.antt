@@ -1,8 +1,8 @@
 use Rattle.std.proofs.Common.{rules}
-use Rattle.rl_encode.specs.Words.{wordFields}
-use Rattle.rl_spec.specs.Schema.{sortOf}
-use Rattle.rl_context.proofs.Rows.{row-string, fields-string}
-use Rattle.rl_context.proofs.NodesMade.{str-does}
+use Rattle.rl_encode.specs.Words.{word_fields}
+use Rattle.rl_spec.specs.Schema.{sort_of}
+use Rattle.rl_context.proofs.Rows.{row_string, fields_string}
+use Rattle.rl_context.proofs.NodesMade.{str_does}
 use Rattle.rl_context.proofs.Ctx.str_lit.Statement.{statement}
 use Rattle.rl_context.proofs.Ctx.str_lit.Tie as tie
 
@@ -19,8 +19,8 @@ same_length : tie.Need-same-length
 same_length c = search rules
 
 returns : tie.Need-returns
-unfolding wordFields sortOf
-returns c im k w = str-does _ (c.before.before.before.before.before.before.before.new-text.ensures im k w) (c.before.before.expr.ensures im k w _ row-string fields-string)
+unfolding word_fields sort_of
+returns c im k w = str_does _ (c.before.before.before.before.before.before.before.new-text.ensures im k w) (c.before.before.expr.ensures im k w _ row_string fields_string)
 
 pub str-lit-spec : {M : Type 1} → statement M
 str-lit-spec = tie.close (tie.spec new-text-requires cast-index expr-requires same_length returns)

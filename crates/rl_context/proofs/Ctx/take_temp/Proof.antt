@@ -1,9 +1,9 @@
 use Rattle.std.proofs.Common.{rules}
-use Rattle.rl_context.proofs.Temporaries.{temp-full, temp-many, temp-taken}
+use Rattle.rl_context.proofs.Temporaries.{temp_full, temp_many, temp_taken}
 use Rattle.rl_context.proofs.Ctx.take_temp.Statement.{statement}
 use Rattle.rl_context.proofs.Ctx.take_temp.Tie as tie
 
-ruleset laws = (temp-full, temp-many, temp-taken)
+ruleset laws = (temp_full, temp_many, temp_taken)
 
 returns : tie.Need-returns
 returns c im s w = search (laws, rules)

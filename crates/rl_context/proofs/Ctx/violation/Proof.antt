@@ -1,5 +1,5 @@
 use Rattle.std.proofs.Common.{rules}
-use Rattle.rl_context.proofs.StatementsMade.{violation-returns, violation-aborts}
+use Rattle.rl_context.proofs.StatementsMade.{violation_returns, violation_aborts}
 use Rattle.rl_context.proofs.Ctx.violation.Statement.{statement}
 use Rattle.rl_context.proofs.Ctx.violation.Tie as tie
 
@@ -13,7 +13,7 @@ same_length : tie.Need-same-length
 same_length c = search rules
 
 returns : tie.Need-returns
-returns c im = violation-returns _ (c.before.before.before.before.before.before.before.before.err-lit.ensures im 0 _) c.before.before.before.before.if1.true (c.before.before.return-statement.ensures im 0 _)
+returns c im = violation_returns _ (c.before.before.before.before.before.before.before.before.err-lit.ensures im 0 _) c.before.before.before.before.if1.true (c.before.before.return-statement.ensures im 0 _)
 
 unwrap-call-requires : tie.Need-unwrap-call-requires
 unwrap-call-requires c κs = search rules
@@ -28,7 +28,7 @@ same-length-3 : tie.Need-same-length-3
 same-length-3 c = search rules
 
 returns-2 : tie.Need-returns-2
-returns-2 c im = violation-aborts _ (c.before.before.before.before.before.before.before.before.before.before.before.before.before.before.before.err-lit.ensures im 0 _) c.before.before.before.before.before.before.before.before.before.before.before.if1.false (c.before.before.before.before.before.before.before.before.unwrap-call.ensures im 0) (c.before.before.expression-statement.ensures im 0 _)
+returns-2 c im = violation_aborts _ (c.before.before.before.before.before.before.before.before.before.before.before.before.before.before.before.err-lit.ensures im 0 _) c.before.before.before.before.before.before.before.before.before.before.before.if1.false (c.before.before.before.before.before.before.before.before.unwrap-call.ensures im 0) (c.before.before.expression-statement.ensures im 0 _)
 
 pub violation-spec : {M : Type 1} → statement M
 violation-spec =

@@ -1,5 +1,5 @@
 use Rattle.std.proofs.Common.{◌∙◌, rules}
-use Rattle.rl_context.proofs.WrapLaws.{wrap-does}
+use Rattle.rl_context.proofs.WrapLaws.{wrap_does}
 use Rattle.rl_spec.specs.Tree.{ascii}
 use Rattle.rl_context.proofs.Ctx.wrap_as.Statement.{statement}
 use Rattle.rl_context.proofs.Ctx.wrap_as.Tie as tie
@@ -45,7 +45,7 @@ same-length-2 c = c.before.before.push3.auto.1.0 ∙ c.before.before.before.befo
 
 returns : tie.Need-returns
 unfolding ascii
-returns c q h = wrap-does _ _ _ _ (c.before.before.before.before.before.before.before.before.before.before.before.before.before.before.before.before.before.before.before.before.before.before.before.before.before.before.before.before.before.before.before.before.before.before.before.before.before.before.before.before.before.before.before.before.before.declare.ensures _ 1 _) (c.before.before.before.before.before.before.before.before.before.before.before.before.before.before.before.before.before.before.before.before.before.before.before.before.before.before.before.before.before.before.before.before.before.before.before.before.before.before.before.before.before.push.ensures _) (c.before.before.before.before.before.before.before.before.before.before.before.before.before.before.before.before.before.before.before.before.before.before.before.before.before.before.before.before.before.before.before.before.before.before.before.before.skip-of.ensures _) (c.before.before.before.before.before.before.before.before.before.before.before.before.before.before.before.before.before.before.before.before.before.before.before.before.before.before.before.before.before.inner_of.ensures _) (c.before.before.before.before.before.before.before.before.before.before.before.before.before.before.before.before.before.before.before.before.before.before.declare2.ensures _ 0 _) (c.before.before.before.before.before.before.before.before.before.before.before.before.before.before.before.before.before.before.push2.ensures _) (c.before.before.before.before.before.before.before.before.before.before.before.before.clause-guards.ensures q h) (c.before.before.before.before.before.before.Return-of.ensures _ _) (c.before.before.push3.ensures _)
+returns c q h = wrap_does _ _ _ _ (c.before.before.before.before.before.before.before.before.before.before.before.before.before.before.before.before.before.before.before.before.before.before.before.before.before.before.before.before.before.before.before.before.before.before.before.before.before.before.before.before.before.before.before.before.before.declare.ensures _ 1 _) (c.before.before.before.before.before.before.before.before.before.before.before.before.before.before.before.before.before.before.before.before.before.before.before.before.before.before.before.before.before.before.before.before.before.before.before.before.before.before.before.before.before.push.ensures _) (c.before.before.before.before.before.before.before.before.before.before.before.before.before.before.before.before.before.before.before.before.before.before.before.before.before.before.before.before.before.before.before.before.before.before.before.before.skip-of.ensures _) (c.before.before.before.before.before.before.before.before.before.before.before.before.before.before.before.before.before.before.before.before.before.before.before.before.before.before.before.before.before.inner_of.ensures _) (c.before.before.before.before.before.before.before.before.before.before.before.before.before.before.before.before.before.before.before.before.before.before.declare2.ensures _ 0 _) (c.before.before.before.before.before.before.before.before.before.before.before.before.before.before.before.before.before.before.push2.ensures _) (c.before.before.before.before.before.before.before.before.before.before.before.before.clause-guards.ensures q h) (c.before.before.before.before.before.before.Return-of.ensures _ _) (c.before.before.push3.ensures _)
 
 pub wrap-as-spec : {M : Type 1} → statement M
 wrap-as-spec =

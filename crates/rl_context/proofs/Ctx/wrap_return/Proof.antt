@@ -1,6 +1,6 @@
 use Rattle.std.proofs.Common.{refl, rules}
-use Rattle.rl_context.proofs.TempName.{temp-name}
-use Rattle.rl_context.proofs.WrapLaws.{wrap-return-does}
+use Rattle.rl_context.proofs.TempName.{temp_name}
+use Rattle.rl_context.proofs.WrapLaws.{wrap_return_does}
 use Rattle.rl_context.proofs.Ctx.wrap_return.Statement.{statement}
 use Rattle.rl_context.proofs.Ctx.wrap_return.Tie as tie
 
@@ -41,7 +41,7 @@ same-length-2 : tie.Need-same-length-2
 same-length-2 c = search rules
 
 returns : tie.Need-returns
-returns c q h = wrap-return-does _ _ _ (temp-name _ _ _ _ _ _ _ refl c.before.before.before.before.before.before.before.before.before.before.before.before.before.before.before.put-text.ensures.0 c.before.before.before.before.before.before.before.before.before.before.before.before.before.before.before.put-text.ensures.1 c.before.before.before.before.before.before.before.before.before.before.before.put-number.ensures.0 c.before.before.before.before.before.before.before.before.before.before.before.put-number.ensures.1 c.before.before.before.before.before.part.ensures) (c.before.before.before.before.before.before.before.before.before.take-temp.ensures _ _ _) (c.before.before.before.before.wrap-as.ensures q h)
+returns c q h = wrap_return_does _ _ _ (temp_name _ _ _ _ _ _ _ refl c.before.before.before.before.before.before.before.before.before.before.before.before.before.before.before.put-text.ensures.0 c.before.before.before.before.before.before.before.before.before.before.before.before.before.before.before.put-text.ensures.1 c.before.before.before.before.before.before.before.before.before.before.before.put-number.ensures.0 c.before.before.before.before.before.before.before.before.before.before.before.put-number.ensures.1 c.before.before.before.before.before.part.ensures) (c.before.before.before.before.before.before.before.before.before.take-temp.ensures _ _ _) (c.before.before.before.before.wrap-as.ensures q h)
 
 pub wrap-return-spec : {M : Type 1} → statement M
 wrap-return-spec =

@@ -1,12 +1,12 @@
 use Rattle.std.proofs.Common.{◌≡◌, ℕ, ◌+◌, ◌-◌, ◌*◌, ◌^◌, ◌<◌, ◌≤◌, length, sym, refl, ap, ◌∙◌, arith, rules}
 use Rattle.rl_spec.specs.Schema.{width_of}
-use Rattle.rl_spec.specs.Lower.{isLambda}
+use Rattle.rl_spec.specs.Lower.{is_lambda}
 use Rattle.rl_schema.specs.Codes.{codes, table}
-use Rattle.rl_schema.proofs.Rows.{row-codes}
+use Rattle.rl_schema.proofs.Rows.{row_codes}
 use Rattle.rl_arena.proofs.Laws.{width_small}
 use Rattle.rl_context.specs.Does.{at}
-use Rattle.rl_context.proofs.Copying.{Copying, kind-in, codes-few, small-left, as-made, few-left, place-left, place-fits, j-fits, still-eight, copies-full, copies-lambda, copies-record, not-lambda, copying-none, copying-field, copying-more, copying-all, copying-whole}
-use Rattle.rl_context.proofs.CopiedEntries.{CopyingEntries, entries_none, entries-more, entries-all, entry-before, entry-copied, entry_kept, field_shared, field-kept, field-copied, field-listed, list-fits}
+use Rattle.rl_context.proofs.Copying.{Copying, kind_in, codes_few, small_left, as_made, few_left, place_left, place_fits, j_fits, still_eight, copies_full, copies_lambda, copies_record, not_lambda, copying_none, copying_field, copying_more, copying_all, copying_whole}
+use Rattle.rl_context.proofs.CopiedEntries.{CopyingEntries, entries_none, entries_more, entries_all, entry_before, entry_copied, entry_kept, field_shared, field_kept, field_copied, field_listed, list_fits}
 use borrow.Fn.Kinds.{In}
 use borrow.Fn.PlainCycle.{Measures, is, falls, and}
 use Rattle.rl_context.proofs.copy.clone_entries.Reads as clone-entries
@@ -148,7 +148,7 @@ clone-entries-loop-again t c = (
     search rules,
     (
       search rules,
-      λ r h. entries-more _ _ _ _ _ _ _ _ _ _ _ _ _ (c.before.before.before.before.before.before.before.before.before.loop.invariant.1.1.1 r h) c.before.before.before.before.before.before.before.before.loop-test.true _ _ (c.before.before.before.before.before.before.before.entry_at.ensures _) (c.before.before.before.before.clone-entry.ensures r h),
+      λ r h. entries_more _ _ _ _ _ _ _ _ _ _ _ _ _ (c.before.before.before.before.before.before.before.before.before.loop.invariant.1.1.1 r h) c.before.before.before.before.before.before.before.before.loop-test.true _ _ (c.before.before.before.before.before.before.before.entry_at.ensures _) (c.before.before.before.before.clone-entry.ensures r h),
     ),
   ),
 )
@@ -160,7 +160,7 @@ clone-entries-same-length-2 : (t : ℕ) → clone-entries-lts.Need-same-length-2
 clone-entries-same-length-2 t c = search rules
 
 clone-entries-returns : (t : ℕ) → clone-entries-lts.Need-returns (clone-entries-calls t) (clone-entries-at t) clone-entries.Post clone-entries-Inv-loop clone-entries-μ-loop
-clone-entries-returns t c = λ r h k. entries-all _ _ _ _ _ _ _ _ _ _ _ _ _ (c.before.loop.invariant.1.1.1 r h) c.loop-test.false
+clone-entries-returns t c = λ r h k. entries_all _ _ _ _ _ _ _ _ _ _ _ _ _ (c.before.loop.invariant.1.1.1 r h) c.loop-test.false
 
 abbrev clone-entry-calls : ℕ → clone-entry-lts.Claims
 clone-entry-calls t = (
@@ -178,7 +178,7 @@ clone-entry-is-copied-requires : (t : ℕ) → clone-entry-lts.Need-is-copied-re
 clone-entry-is-copied-requires t c κs = search rules
 
 clone-entry-deep-clone-expr-requires : (t : ℕ) → clone-entry-lts.Need-deep-clone-expr-requires (clone-entry-calls t) (clone-entry-at t) clone-entry.Post
-clone-entry-deep-clone-expr-requires t c κs = (omega (arith, c.before.before.before.before.before.before.before.before.before.requires.0, entry-before c.before.before.before.before.before.before.before.before.before.args.id c.before.before.before.before.before.before.before.before.before.args.target c.before.before.before.before.before.before.before.before.before.args.n _ c.before.before.before.is-copied.ensures c.before.before.if1.true), tt)
+clone-entry-deep-clone-expr-requires t c κs = (omega (arith, c.before.before.before.before.before.before.before.before.before.requires.0, entry_before c.before.before.before.before.before.before.before.before.before.args.id c.before.before.before.before.before.before.before.before.before.args.target c.before.before.before.before.before.before.before.before.before.args.n _ c.before.before.before.is-copied.ensures c.before.before.if1.true), tt)
 
 clone-entry-pushed-requires : (t : ℕ) → clone-entry-lts.Need-pushed-requires (clone-entry-calls t) (clone-entry-at t) clone-entry.Post
 clone-entry-pushed-requires t c κs = search rules
@@ -190,7 +190,7 @@ clone-entry-same-length-2 : (t : ℕ) → clone-entry-lts.Need-same-length-2 (cl
 clone-entry-same-length-2 t c = search rules
 
 clone-entry-returns : (t : ℕ) → clone-entry-lts.Need-returns (clone-entry-calls t) (clone-entry-at t) clone-entry.Post
-clone-entry-returns t c = λ r h. entry-copied _ _ c.before.before.before.before.before.before.before.before.before.before.before.before.before.before.before.before.before.before.args.target _ _ _ c.before.before.before.before.before.before.before.before.before.before.before.before.is-copied.ensures _ _ _ c.before.before.before.before.before.before.before.before.before.before.before.if1.true (c.before.before.before.before.before.before.before.before.deep-clone-expr.ensures r (omega (arith, entry-before c.before.before.before.before.before.before.before.before.before.before.before.before.before.before.before.before.before.before.args.id c.before.before.before.before.before.before.before.before.before.before.before.before.before.before.before.before.before.before.args.target c.before.before.before.before.before.before.before.before.before.before.before.before.before.before.before.before.before.before.args.n _ c.before.before.before.before.before.before.before.before.before.before.before.before.is-copied.ensures c.before.before.before.before.before.before.before.before.before.before.before.if1.true, h))) (c.before.before.pushed.ensures _)
+clone-entry-returns t c = λ r h. entry_copied _ _ c.before.before.before.before.before.before.before.before.before.before.before.before.before.before.before.before.before.before.args.target _ _ _ c.before.before.before.before.before.before.before.before.before.before.before.before.is-copied.ensures _ _ _ c.before.before.before.before.before.before.before.before.before.before.before.if1.true (c.before.before.before.before.before.before.before.before.deep-clone-expr.ensures r (omega (arith, entry_before c.before.before.before.before.before.before.before.before.before.before.before.before.before.before.before.before.before.before.args.id c.before.before.before.before.before.before.before.before.before.before.before.before.before.before.before.before.before.before.args.target c.before.before.before.before.before.before.before.before.before.before.before.before.before.before.before.before.before.before.args.n _ c.before.before.before.before.before.before.before.before.before.before.before.before.is-copied.ensures c.before.before.before.before.before.before.before.before.before.before.before.if1.true, h))) (c.before.before.pushed.ensures _)
 
 clone-entry-push-requires : (t : ℕ) → clone-entry-lts.Need-push-requires (clone-entry-calls t) (clone-entry-at t) clone-entry.Post
 clone-entry-push-requires t c κs = search rules
@@ -271,7 +271,7 @@ clone-field-as-list-requires : (t : ℕ) → clone-field-lts.Need-as-list-requir
 clone-field-as-list-requires t c κs = search rules
 
 clone-field-returns-2 : (t : ℕ) → clone-field-lts.Need-returns-2 (clone-field-calls t) (clone-field-at t) clone-field.Post
-clone-field-returns-2 t c = λ r h k. field-kept _ _ _ _ _ _ _ _ c.before.before.before.before.sort-of.ensures c.before.before.before.plan-of.ensures _ _ _ _ _ c.before.enum_told.given.1 c.as-it-is.ensures.0 c.as-it-is.ensures.1
+clone-field-returns-2 t c = λ r h k. field_kept _ _ _ _ _ _ _ _ c.before.before.before.before.sort-of.ensures c.before.before.before.plan-of.ensures _ _ _ _ _ c.before.enum_told.given.1 c.as_it_is.ensures.0 c.as_it_is.ensures.1
 
 clone-field-same-length : (t : ℕ) → clone-field-lts.Need-same-length (clone-field-calls t) (clone-field-at t) clone-field.Post
 clone-field-same-length t c = search rules
@@ -281,7 +281,7 @@ clone-field-same-length-2 t c = search rules
 
 clone-field-returns-3 : (t : ℕ) → clone-field-lts.Need-returns-3 (clone-field-calls t) (clone-field-at t) clone-field.Post
 clone-field-returns-3 t c = λ r h k.
-    field-copied _ _ _ _ _ _ _ _ c.before.before.before.before.before.before.before.before.before.before.before.before.before.sort-of.ensures c.before.before.before.before.before.before.before.before.before.before.before.before.plan-of.ensures _ c.before.before.before.before.before.before.before.before.before.before.enum-told2.given.1 c.before.before.before.before.before.before.before.before.before.u16-at.ensures _ _ _ _ _ _ _ c.before.before.before.before.before.before.before.before.if1.false
+    field_copied _ _ _ _ _ _ _ _ c.before.before.before.before.before.before.before.before.before.before.before.before.before.sort-of.ensures c.before.before.before.before.before.before.before.before.before.before.before.before.plan-of.ensures _ c.before.before.before.before.before.before.before.before.before.before.enum-told2.given.1 c.before.before.before.before.before.before.before.before.before.u16-at.ensures _ _ _ _ _ _ _ c.before.before.before.before.before.before.before.before.if1.false
     (c.before.before.before.before.before.deep-clone-expr.ensures r (omega (arith, c.before.before.before.before.before.before.before.before.if1.false, h))) c.as-node.ensures.0 c.as-node.ensures.1
 
 clone-field-same-length-3 : (t : ℕ) → clone-field-lts.Need-same-length-3 (clone-field-calls t) (clone-field-at t) clone-field.Post
@@ -292,8 +292,8 @@ clone-field-same-length-4 t c = search rules
 
 clone-field-returns-4 : (t : ℕ) → clone-field-lts.Need-returns-4 (clone-field-calls t) (clone-field-at t) clone-field.Post
 clone-field-returns-4 t c = λ r h k.
-    field-listed _ _ _ _ _ _ _ _ c.before.before.before.before.before.before.before.before.before.before.before.before.before.before.before.before.before.before.sort-of.ensures c.before.before.before.before.before.before.before.before.before.before.before.before.before.before.before.before.before.plan-of.ensures _ _ c.before.before.before.before.before.before.before.before.before.before.before.before.before.before.before.plan.given.1 _ _ c.before.before.before.before.before.before.before.before.before.before.before.before.before.u16-at2.ensures c.before.before.before.before.before.before.before.before.before.before.before.before.second-u16.ensures _ _ _ _ _ _ k refl
-    (c.before.before.before.before.before.before.before.before.before.clone-entries.ensures r h (list-fits _ _ _ _ _ _ _ _ c.before.before.before.before.before.before.before.before.before.before.before.before.before.before.before.before.before.before.sort-of.ensures c.before.before.before.before.before.before.before.before.before.before.before.before.before.before.before.before.before.plan-of.ensures _ _ c.before.before.before.before.before.before.before.before.before.before.before.before.before.before.before.plan.given.1 _ _ c.before.before.before.before.before.before.before.before.before.before.before.before.before.u16-at2.ensures c.before.before.before.before.before.before.before.before.before.before.before.before.second-u16.ensures k))
+    field_listed _ _ _ _ _ _ _ _ c.before.before.before.before.before.before.before.before.before.before.before.before.before.before.before.before.before.before.sort-of.ensures c.before.before.before.before.before.before.before.before.before.before.before.before.before.before.before.before.before.plan-of.ensures _ _ c.before.before.before.before.before.before.before.before.before.before.before.before.before.before.before.plan.given.1 _ _ c.before.before.before.before.before.before.before.before.before.before.before.before.before.u16-at2.ensures c.before.before.before.before.before.before.before.before.before.before.before.before.second-u16.ensures _ _ _ _ _ _ k refl
+    (c.before.before.before.before.before.before.before.before.before.clone-entries.ensures r h (list_fits _ _ _ _ _ _ _ _ c.before.before.before.before.before.before.before.before.before.before.before.before.before.before.before.before.before.before.sort-of.ensures c.before.before.before.before.before.before.before.before.before.before.before.before.before.before.before.before.before.plan-of.ensures _ _ c.before.before.before.before.before.before.before.before.before.before.before.before.before.before.before.plan.given.1 _ _ c.before.before.before.before.before.before.before.before.before.before.before.before.before.u16-at2.ensures c.before.before.before.before.before.before.before.before.before.before.before.before.second-u16.ensures k))
     c.before.before.as-list.ensures.1 c.before.before.as-list.ensures.2
 
 abbrev deep-clone-expr-Inv-loop : deep-clone-expr-lts.invariant-loop
@@ -331,7 +331,7 @@ deep-clone-expr-stopped-requires : (t : ℕ) → deep-clone-expr-lts.Need-stoppe
 deep-clone-expr-stopped-requires t c κs = search rules
 
 deep-clone-expr-returns : (t : ℕ) → deep-clone-expr-lts.Need-returns (deep-clone-expr-calls t) (deep-clone-expr-at t) deep-clone-expr.Post deep-clone-expr-Inv-loop deep-clone-expr-μ-loop
-deep-clone-expr-returns t c = λ r h. copies-full _ _ _ _ _ _ h refl refl _ _ _ c.before.if1.true c.stopped.ensures
+deep-clone-expr-returns t c = λ r h. copies_full _ _ _ _ _ _ h refl refl _ _ _ c.before.if1.true c.stopped.ensures
 
 deep-clone-expr-expression-start-requires :
     (t : ℕ) → deep-clone-expr-lts.Need-expression-start-requires (deep-clone-expr-calls t) (deep-clone-expr-at t) deep-clone-expr.Post deep-clone-expr-Inv-loop deep-clone-expr-μ-loop
@@ -341,10 +341,10 @@ deep-clone-expr-kind-at-requires : (t : ℕ) → deep-clone-expr-lts.Need-kind-a
 deep-clone-expr-kind-at-requires t c κs = search rules
 
 deep-clone-expr-returns-2 : (t : ℕ) → deep-clone-expr-lts.Need-returns-2 (deep-clone-expr-calls t) (deep-clone-expr-at t) deep-clone-expr.Post deep-clone-expr-Inv-loop deep-clone-expr-μ-loop
-deep-clone-expr-returns-2 t c = λ r h. copies-lambda _ _ _ _ _ _ h c.before.before.expression-start.ensures (c.before.kind_at.ensures ∙ kind-in _ _) _ (ap isLambda c.if2.true)
+deep-clone-expr-returns-2 t c = λ r h. copies_lambda _ _ _ _ _ _ h c.before.before.expression-start.ensures (c.before.kind_at.ensures ∙ kind_in _ _) _ (ap is_lambda c.if2.true)
 
 deep-clone-expr-returns-3 : (t : ℕ) → deep-clone-expr-lts.Need-returns-3 (deep-clone-expr-calls t) (deep-clone-expr-at t) deep-clone-expr.Post deep-clone-expr-Inv-loop deep-clone-expr-μ-loop
-deep-clone-expr-returns-3 t c = λ r h. copies-lambda _ _ _ _ _ _ h c.before.before.before.expression-start.ensures (c.before.before.kind_at.ensures ∙ kind-in _ _) _ (ap isLambda c.if3.true)
+deep-clone-expr-returns-3 t c = λ r h. copies_lambda _ _ _ _ _ _ h c.before.before.before.expression-start.ensures (c.before.before.kind_at.ensures ∙ kind_in _ _) _ (ap is_lambda c.if3.true)
 
 deep-clone-expr-row-of-requires : (t : ℕ) → deep-clone-expr-lts.Need-row-of-requires (deep-clone-expr-calls t) (deep-clone-expr-at t) deep-clone-expr.Post deep-clone-expr-Inv-loop deep-clone-expr-μ-loop
 deep-clone-expr-row-of-requires t c κs = search rules
@@ -363,12 +363,12 @@ deep-clone-expr-loop-holds t c = (
     (
       search rules,
       (
-        codes-few _,
+        codes_few _,
         (
           omega arith,
           (
             refl,
-            λ r h. copying-none _ _ _ _ _ _ _ _ _ refl (search rules) (omega arith) h (row-codes _ _ _ r c.row_of.ensures) _ refl c.before.before.before.before.expression-start.ensures (c.before.before.before.kind_at.ensures ∙ kind-in _ _),
+            λ r h. copying_none _ _ _ _ _ _ _ _ _ refl (search rules) (omega arith) h (row_codes _ _ _ r c.row_of.ensures) _ refl c.before.before.before.before.expression-start.ensures (c.before.before.before.kind_at.ensures ∙ kind_in _ _),
           ),
         ),
       ),
@@ -396,10 +396,10 @@ deep-clone-expr-width-of-requires : (t : ℕ) → deep-clone-expr-lts.Need-width
 deep-clone-expr-width-of-requires t c κs = search rules
 
 deep-clone-expr-add-place-2 : (t : ℕ) → deep-clone-expr-lts.Need-overflow-add-place-2 (deep-clone-expr-calls t) (deep-clone-expr-at t) deep-clone-expr.Post deep-clone-expr-Inv-loop deep-clone-expr-μ-loop
-deep-clone-expr-add-place-2 t c = place-fits _ _ _ _ c.before.before.before.before.before.before.before.before.before.before.before.before.before.before.loop.invariant.1.1.1.0 c.before.before.before.before.before.before.before.before.before.before.before.before.before.before.loop.invariant.1.1.1.1.0 (width_small _ _ c.before.sort-of.ensures _ c.width_of_lem.ensures)
+deep-clone-expr-add-place-2 t c = place_fits _ _ _ _ c.before.before.before.before.before.before.before.before.before.before.before.before.before.before.loop.invariant.1.1.1.0 c.before.before.before.before.before.before.before.before.before.before.before.before.before.before.loop.invariant.1.1.1.1.0 (width_small _ _ c.before.sort-of.ensures _ c.width_of_lem.ensures)
 
 deep-clone-expr-add-j : (t : ℕ) → deep-clone-expr-lts.Need-overflow-add-j (deep-clone-expr-calls t) (deep-clone-expr-at t) deep-clone-expr.Post deep-clone-expr-Inv-loop deep-clone-expr-μ-loop
-deep-clone-expr-add-j t c = j-fits _ _ c.before.before.before.before.before.before.before.before.before.before.before.before.before.before.loop.invariant.1.1.1.0
+deep-clone-expr-add-j t c = j_fits _ _ c.before.before.before.before.before.before.before.before.before.before.before.before.before.before.loop.invariant.1.1.1.0
 
 deep-clone-expr-loop-less : (t : ℕ) → deep-clone-expr-lts.Need-loop-smaller (deep-clone-expr-calls t) (deep-clone-expr-at t) deep-clone-expr.Post deep-clone-expr-Inv-loop deep-clone-expr-μ-loop
 deep-clone-expr-loop-less t c = search rules
@@ -410,14 +410,14 @@ deep-clone-expr-loop-again t c = (
   (
     search rules,
     (
-      small-left _ c.before.before.before.before.before.before.before.before.before.before.before.before.before.before.loop.invariant.1.1.0,
+      small_left _ c.before.before.before.before.before.before.before.before.before.before.before.before.before.before.loop.invariant.1.1.0,
       (
-        few-left _ _ c.before.before.before.before.before.before.before.before.before.before.before.before.before.before.loop.invariant.1.1.0 c.before.before.before.before.before.before.before.before.before.before.before.before.before.before.loop.invariant.1.1.1.0 c.before.before.before.before.before.before.before.before.before.before.before.before.before.loop-test.true,
+        few_left _ _ c.before.before.before.before.before.before.before.before.before.before.before.before.before.before.loop.invariant.1.1.0 c.before.before.before.before.before.before.before.before.before.before.before.before.before.before.loop.invariant.1.1.1.0 c.before.before.before.before.before.before.before.before.before.before.before.before.before.loop-test.true,
         (
-          place-left _ _ _ c.before.before.before.before.before.before.before.before.before.before.before.before.before.before.loop.invariant.1.1.1.1.0 (width_small _ _ c.before.sort-of.ensures _ c.width_of_lem.ensures),
+          place_left _ _ _ c.before.before.before.before.before.before.before.before.before.before.before.before.before.before.loop.invariant.1.1.1.1.0 (width_small _ _ c.before.sort-of.ensures _ c.width_of_lem.ensures),
           (
-            still-eight c.before.before.before.before.before.before.before.before.before.before.before.before.before.before.loop.words _ c.before.before.before.before.before.before.before.before.before.before.before.before.before.before.loop.j c.before.before.before.before.before.before.before.before.before.before.clone-field.result.word c.before.before.before.before.before.before.before.before.before.before.before.before.before.before.loop.invariant.1.1.1.1.1.0 c.before.before.before.put-long.ensures,
-            λ r h. copying-more _ _ _ _ _ _ _ _ _ _ _ _ (c.before.before.before.before.before.before.before.before.before.before.before.before.before.before.loop.invariant.1.1.1.1.1.1 r h) c.before.before.before.before.before.before.before.before.before.before.before.before.before.loop-test.true _ _ _ _ (c.before.before.before.before.before.before.before.before.before.before.clone-field.ensures r h (copying-field _ _ _ _ _ _ _ _ _ _ _ _ (c.before.before.before.before.before.before.before.before.before.before.before.before.before.before.loop.invariant.1.1.1.1.1.1 r h) c.before.before.before.before.before.before.before.before.before.before.before.before.before.loop-test.true)) (c.width_of_lem.ensures ∙ ap width_of c.before.sort-of.ensures) c.before.before.before.put-long.ensures,
+            still_eight c.before.before.before.before.before.before.before.before.before.before.before.before.before.before.loop.words _ c.before.before.before.before.before.before.before.before.before.before.before.before.before.before.loop.j c.before.before.before.before.before.before.before.before.before.before.clone-field.result.word c.before.before.before.before.before.before.before.before.before.before.before.before.before.before.loop.invariant.1.1.1.1.1.0 c.before.before.before.put-long.ensures,
+            λ r h. copying_more _ _ _ _ _ _ _ _ _ _ _ _ (c.before.before.before.before.before.before.before.before.before.before.before.before.before.before.loop.invariant.1.1.1.1.1.1 r h) c.before.before.before.before.before.before.before.before.before.before.before.before.before.loop-test.true _ _ _ _ (c.before.before.before.before.before.before.before.before.before.before.clone-field.ensures r h (copying_field _ _ _ _ _ _ _ _ _ _ _ _ (c.before.before.before.before.before.before.before.before.before.before.before.before.before.before.loop.invariant.1.1.1.1.1.1 r h) c.before.before.before.before.before.before.before.before.before.before.before.before.before.loop-test.true)) (c.width_of_lem.ensures ∙ ap width_of c.before.sort-of.ensures) c.before.before.before.put-long.ensures,
           ),
         ),
       ),
@@ -441,9 +441,9 @@ deep-clone-expr-same-length-2 t c = search rules
 
 deep-clone-expr-returns-4 : (t : ℕ) → deep-clone-expr-lts.Need-returns-4 (deep-clone-expr-calls t) (deep-clone-expr-at t) deep-clone-expr.Post deep-clone-expr-Inv-loop deep-clone-expr-μ-loop
 deep-clone-expr-returns-4 t c = λ r h.
-    copies-record _ _ _ _ _ _ h c.before.before.before.before.before.before.before.before.before.before.before.expression-start.ensures (c.before.before.before.before.before.before.before.before.before.before.kind_at.ensures ∙ kind-in _ _) _ _ _ _ _ (not-lambda _ c.before.before.before.before.before.before.before.before.before.if2.false c.before.before.before.before.before.before.before.before.if3.false)
-    (copying-whole _ _ _ _ _ _ _ (row-codes _ _ _ r c.before.before.before.before.before.before.before.row_of.ensures) _ _ _ (copying-all _ _ _ _ _ _ _ _ _ _ _ _ (c.before.before.before.before.before.before.loop.invariant.1.1.1.1.1.1 r h) c.before.before.before.before.before.loop-test.false))
-    (as-made _ _ _ _ _ _ (c.before.before.new-expression.ensures _ _ _ (row-codes _ _ _ r c.before.before.before.before.before.before.before.row_of.ensures)))
+    copies_record _ _ _ _ _ _ h c.before.before.before.before.before.before.before.before.before.before.before.expression-start.ensures (c.before.before.before.before.before.before.before.before.before.before.kind_at.ensures ∙ kind_in _ _) _ _ _ _ _ (not_lambda _ c.before.before.before.before.before.before.before.before.before.if2.false c.before.before.before.before.before.before.before.before.if3.false)
+    (copying_whole _ _ _ _ _ _ _ (row_codes _ _ _ r c.before.before.before.before.before.before.before.row_of.ensures) _ _ _ (copying_all _ _ _ _ _ _ _ _ _ _ _ _ (c.before.before.before.before.before.before.loop.invariant.1.1.1.1.1.1 r h) c.before.before.before.before.before.loop-test.false))
+    (as_made _ _ _ _ _ _ (c.before.before.new-expression.ensures _ _ _ (row_codes _ _ _ r c.before.before.before.before.before.before.before.row_of.ensures)))
 
 pub +clone-entries-clone-entry-clone-field-deep-clone-expr-spec : {M : Type 1} → statement M
 +clone-entries-clone-entry-clone-field-deep-clone-expr-spec =

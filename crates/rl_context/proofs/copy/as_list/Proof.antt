@@ -1,5 +1,5 @@
 use Rattle.std.proofs.Common.{rules}
-use Rattle.rl_context.proofs.FieldWords.{two-words}
+use Rattle.rl_context.proofs.FieldWords.{two_words}
 use Rattle.rl_context.proofs.copy.as_list.Statement.{statement}
 use Rattle.rl_context.proofs.copy.as_list.Tie as tie
 
@@ -22,7 +22,7 @@ same_length : tie.Need-same-length
 same_length c = search rules
 
 returns : tie.Need-returns
-returns c = (_, c.before.before.before.before.before.before.new-list.ensures, two-words _ _ (search rules))
+returns c = (_, c.before.before.before.before.before.before.new-list.ensures, two_words _ _ (search rules))
 
 pub as-list-spec : {M : Type 1} → statement M
 as-list-spec =

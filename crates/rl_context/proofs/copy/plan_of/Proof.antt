@@ -1,9 +1,9 @@
 use Rattle.std.proofs.Common.{rules}
-use Rattle.rl_context.proofs.FieldWords.{plan-list, plan-keep}
+use Rattle.rl_context.proofs.FieldWords.{plan_list, plan_keep}
 use Rattle.rl_context.proofs.copy.plan_of.Statement.{statement}
 use Rattle.rl_context.proofs.copy.plan_of.Tie as tie
 
-ruleset laws = (plan-list, plan-keep)
+ruleset laws = (plan_list, plan_keep)
 
 enum-known-sort : tie.Need-enum-known-sort
 enum-known-sort c = search rules
@@ -21,7 +21,7 @@ has-nodes-requires : tie.Need-has-nodes-requires
 has-nodes-requires c κs = search rules
 
 returns-2 : tie.Need-returns-2
-returns-2 c = plan-list _ _ _ _ c.before.before.before.sort2.given.1 _ c.before.has-nodes.ensures c.if2.true
+returns-2 c = plan_list _ _ _ _ c.before.before.before.sort2.given.1 _ c.before.has-nodes.ensures c.if2.true
 
 enum_told : tie.Need-enum-told
 enum_told c = search rules
@@ -51,7 +51,7 @@ returns-3 : tie.Need-returns-3
 returns-3 c = search rules
 
 returns-4 : tie.Need-returns-4
-returns-4 c = plan-keep _ _ _ _ c.before.before.before.sort2.given.1 _ c.before.has-nodes.ensures c.if2.false
+returns-4 c = plan_keep _ _ _ _ c.before.before.before.sort2.given.1 _ c.before.has-nodes.ensures c.if2.false
 
 returns-5 : tie.Need-returns-5
 returns-5 c = search rules

@@ -1,10 +1,10 @@
 use Rattle.std.proofs.Common.{rules}
 use Rattle.rl_arena.proofs.Laws.{width_fits}
-use Rattle.rl_context.proofs.FieldWords.{word-pair, word_number}
+use Rattle.rl_context.proofs.FieldWords.{word_pair, word_number}
 use Rattle.rl_context.proofs.copy.word_of.Statement.{statement}
 use Rattle.rl_context.proofs.copy.word_of.Tie as tie
 
-ruleset laws = (word-pair, word_number, width_fits)
+ruleset laws = (word_pair, word_number, width_fits)
 
 sort-of-requires : tie.Need-sort-of-requires
 sort-of-requires c κs = search rules
@@ -32,7 +32,7 @@ add-result c = search rules
 
 returns : tie.Need-returns
 returns c =
-    word-pair _ _ _ _ c.before.before.before.before.sort-of.ensures _ c.before.before.before.is-pair.ensures _ _ c.before.before.if1.true (search rules) c.before.u16-at.ensures c.second-u16.ensures
+    word_pair _ _ _ _ c.before.before.before.before.sort-of.ensures _ c.before.before.before.is-pair.ensures _ _ c.before.before.if1.true (search rules) c.before.u16-at.ensures c.second-u16.ensures
 
 width-of-requires : tie.Need-width-of-requires
 width-of-requires c κs = search rules

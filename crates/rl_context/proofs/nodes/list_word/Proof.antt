@@ -1,5 +1,5 @@
 use Rattle.std.proofs.Common.{refl, rules}
-use Rattle.rl_context.proofs.NodesMade.{list-word}
+use Rattle.rl_context.proofs.NodesMade.{list_word}
 use Rattle.rl_context.proofs.nodes.list_word.Statement.{statement}
 use Rattle.rl_context.proofs.nodes.list_word.Tie as tie
 
@@ -16,7 +16,7 @@ add-result : tie.Need-overflow-add-result
 add-result c = search rules
 
 returns : tie.Need-returns
-returns c = list-word c.before.before.args.list _ (search rules) refl
+returns c = list_word c.before.before.args.list _ (search rules) refl
 
 pub list-word-spec : {M : Type 1} → statement M
 list-word-spec = tie.close (tie.spec cast-result cast-result-2 mul-result add-result returns)

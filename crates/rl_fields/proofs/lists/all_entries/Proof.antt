@@ -1,9 +1,9 @@
 use borrow.Author.Rules.{rules}
 use Rattle.rl_fields.proofs.lists.all_entries.Statement.{statement}
 use Rattle.rl_fields.proofs.lists.all_entries.Tie as tie
-use Rattle.rl_fields.proofs.FieldLaws.{nodes-are}
+use Rattle.rl_fields.proofs.FieldLaws.{nodes_are}
 
-ruleset laws = (nodes-are)
+ruleset laws = (nodes_are)
 
 enum_told : tie.Need-enum-told
 enum_told c = search rules

@@ -1,15 +1,15 @@
-use Rattle.rl_spec.specs.Fields.{entriesFrom}
+use Rattle.rl_spec.specs.Fields.{entries_from}
 use mathlib.Core.Path.{◌≡◌}
 use Prim.Native.Nat.{◌-◌, ◌+◌, ◌≤◌}
 use borrow.Author.Rules.{rules}
 use Rattle.rl_fields.proofs.lists.entries.Statement.{statement}
 use Rattle.rl_fields.proofs.lists.entries.Tie as tie
-use Rattle.rl_fields.proofs.FieldLaws.{entries-start, entries-more, entries-bad, entries-end}
+use Rattle.rl_fields.proofs.FieldLaws.{entries_start, entries_more, entries_bad, entries_end}
 
-ruleset laws = (entries-start, entries-more, entries-bad, entries-end)
+ruleset laws = (entries_start, entries_more, entries_bad, entries_end)
 
 abbrev invariant-loop : tie.invariant-loop
-invariant-loop s w p seen own first count tall here₀ other₀ t₀ i₀ here other t i = (i ≤ count) × (entriesFrom s w p seen own count first here₀ other₀ tall ≡ entriesFrom s w p seen own (count - i) (first + i) here other t)
+invariant-loop s w p seen own first count tall here₀ other₀ t₀ i₀ here other t i = (i ≤ count) × (entries_from s w p seen own count first here₀ other₀ tall ≡ entries_from s w p seen own (count - i) (first + i) here other t)
 
 abbrev decreases-loop : tie.decreases-loop
 decreases-loop s w p seen own first count tall here₀ other₀ t₀ i₀ here other t i = count - i
@@ -45,7 +45,7 @@ loop-less : tie.Need-loop-smaller invariant-loop decreases-loop
 loop-less c = search (laws, rules)
 
 loop-again : tie.Need-loop-preserved invariant-loop decreases-loop
-loop-again c = (search rules, search (entries-more))
+loop-again c = (search rules, search (entries_more))
 
 returns-2 : tie.Need-returns-2 invariant-loop decreases-loop
 returns-2 c = search (laws, rules)

@@ -1,9 +1,9 @@
 use borrow.Author.Rules.{rules}
 use Rattle.rl_fields.proofs.lists.is_multiple.Statement.{statement}
 use Rattle.rl_fields.proofs.lists.is_multiple.Tie as tie
-use Rattle.rl_fields.proofs.FieldLaws.{multiple-none}
+use Rattle.rl_fields.proofs.FieldLaws.{multiple_none}
 
-ruleset laws = (multiple-none)
+ruleset laws = (multiple_none)
 
 returns : tie.Need-returns
 returns c = search (laws, rules)

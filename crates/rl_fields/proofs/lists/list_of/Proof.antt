@@ -1,9 +1,9 @@
 use borrow.Author.Rules.{rules}
 use Rattle.rl_fields.proofs.lists.list_of.Statement.{statement}
 use Rattle.rl_fields.proofs.lists.list_of.Tie as tie
-use Rattle.rl_fields.proofs.FieldLaws.{list-far, list-in, list-odd}
+use Rattle.rl_fields.proofs.FieldLaws.{list_far, list_in, list_odd}
 
-ruleset laws = (list-far, list-in, list-odd)
+ruleset laws = (list_far, list_in, list_odd)
 
 cast-most : tie.Need-overflow-cast-most
 cast-most c = search (laws, rules)

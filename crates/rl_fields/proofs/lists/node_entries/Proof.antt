@@ -1,17 +1,17 @@
 use Rattle.rl_spec.specs.declared.Target.TheVariants.{Expression}
 use Rattle.rl_spec.specs.declared.Section.TheVariants.{Expressions}
-use Rattle.rl_spec.specs.Fields.{entriesFrom}
+use Rattle.rl_spec.specs.Fields.{entries_from}
 use mathlib.Core.Path.{◌≡◌}
 use Prim.Native.Nat.{◌-◌, ◌+◌, ◌*◌, ◌≤◌}
 use borrow.Author.Rules.{rules}
 use Rattle.rl_fields.proofs.lists.node_entries.Statement.{statement}
 use Rattle.rl_fields.proofs.lists.node_entries.Tie as tie
-use Rattle.rl_fields.proofs.FieldLaws.{entries-start, entries-end, nodes-more, nodes-bad}
+use Rattle.rl_fields.proofs.FieldLaws.{entries_start, entries_end, nodes_more, nodes_bad}
 
-ruleset laws = (entries-start, entries-end, nodes-more, nodes-bad)
+ruleset laws = (entries_start, entries_end, nodes_more, nodes_bad)
 
 abbrev invariant-loop : tie.invariant-loop
-invariant-loop s w p seen first count tall from start t₀ i₀ t i = (i ≤ count) × ((start ≡ 23 + seen.bytes + seen.texts * 5 + first * 3 + 1) × (entriesFrom s w p seen Expressions count first Expression Expression tall ≡ entriesFrom s w p seen Expressions (count - i) (first + i) Expression Expression t))
+invariant-loop s w p seen first count tall from start t₀ i₀ t i = (i ≤ count) × ((start ≡ 23 + seen.bytes + seen.texts * 5 + first * 3 + 1) × (entries_from s w p seen Expressions count first Expression Expression tall ≡ entries_from s w p seen Expressions (count - i) (first + i) Expression Expression t))
 
 abbrev decreases-loop : tie.decreases-loop
 decreases-loop s w p seen first count tall from start t₀ i₀ t i = count - i
@@ -86,7 +86,7 @@ loop-less : tie.Need-loop-smaller invariant-loop decreases-loop
 loop-less c = search (laws, rules)
 
 loop-again : tie.Need-loop-preserved invariant-loop decreases-loop
-loop-again c = (search rules, (c.before.before.before.before.before.before.before.before.loop.invariant.1.0, nodes-more _ _ _ _ c.before.before.before.before.before.before.before.before.loop.invariant.1.0 _ _ _ _ _ _ c.before.before.before.before.before.before.before.before.loop.invariant.1.1 c.before.before.before.before.before.before.before.loop-test.true _ c.before.before.before.before.join16.ensures c.before.before.if1.true _ c.larger.ensures))
+loop-again c = (search rules, (c.before.before.before.before.before.before.before.before.loop.invariant.1.0, nodes_more _ _ _ _ c.before.before.before.before.before.before.before.before.loop.invariant.1.0 _ _ _ _ _ _ c.before.before.before.before.before.before.before.before.loop.invariant.1.1 c.before.before.before.before.before.before.before.loop-test.true _ c.before.before.before.before.join16.ensures c.before.before.if1.true _ c.larger.ensures))
 
 returns-2 : tie.Need-returns-2 invariant-loop decreases-loop
 returns-2 c = search (laws, rules)

@@ -1,9 +1,9 @@
 use borrow.Author.Rules.{rules}
 use Rattle.rl_fields.proofs.references.child_height.Statement.{statement}
 use Rattle.rl_fields.proofs.references.child_height.Tie as tie
-use Rattle.rl_fields.proofs.FieldLaws.{child-is}
+use Rattle.rl_fields.proofs.FieldLaws.{child_is}
 
-ruleset laws = (child-is)
+ruleset laws = (child_is)
 
 enum_told : tie.Need-enum-told
 enum_told c = search rules

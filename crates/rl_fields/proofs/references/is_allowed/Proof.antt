@@ -1,9 +1,9 @@
 use borrow.Author.Rules.{rules}
 use Rattle.rl_fields.proofs.references.is_allowed.Statement.{statement}
 use Rattle.rl_fields.proofs.references.is_allowed.Tie as tie
-use Rattle.rl_fields.proofs.FieldLaws.{allowed-in, allowed-out}
+use Rattle.rl_fields.proofs.FieldLaws.{allowed_in, allowed_out}
 
-ruleset laws = (allowed-in, allowed-out)
+ruleset laws = (allowed_in, allowed_out)
 
 limit-of-requires : tie.Need-limit-of-requires
 limit-of-requires c κs = search rules

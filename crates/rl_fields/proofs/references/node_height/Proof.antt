@@ -1,9 +1,9 @@
 use borrow.Author.Rules.{rules}
 use Rattle.rl_fields.proofs.references.node_height.Statement.{statement}
 use Rattle.rl_fields.proofs.references.node_height.Tie as tie
-use Rattle.rl_fields.proofs.FieldLaws.{node-is}
+use Rattle.rl_fields.proofs.FieldLaws.{node_is}
 
-ruleset laws = (node-is)
+ruleset laws = (node_is)
 
 enum_told : tie.Need-enum-told
 enum_told c = search rules

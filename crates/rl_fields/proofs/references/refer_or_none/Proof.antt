@@ -1,9 +1,9 @@
 use borrow.Author.Rules.{rules}
 use Rattle.rl_fields.proofs.references.refer_or_none.Statement.{statement}
 use Rattle.rl_fields.proofs.references.refer_or_none.Tie as tie
-use Rattle.rl_fields.proofs.FieldLaws.{none_is, none-not}
+use Rattle.rl_fields.proofs.FieldLaws.{none_is, none_not}
 
-ruleset laws = (none_is, none-not)
+ruleset laws = (none_is, none_not)
 
 returns : tie.Need-returns
 returns c = search (laws, rules)

@@ -1,9 +1,9 @@
 use borrow.Author.Rules.{rules}
 use Rattle.rl_fields.proofs.references.refer_to.Statement.{statement}
 use Rattle.rl_fields.proofs.references.refer_to.Tie as tie
-use Rattle.rl_fields.proofs.FieldLaws.{refer-good, refer-bad}
+use Rattle.rl_fields.proofs.FieldLaws.{refer_good, refer_bad}
 
-ruleset laws = (refer-good, refer-bad)
+ruleset laws = (refer_good, refer_bad)
 
 is-allowed-requires : tie.Need-is-allowed-requires
 is-allowed-requires c κs = search rules

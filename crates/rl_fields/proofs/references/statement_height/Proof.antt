@@ -1,9 +1,9 @@
 use borrow.Author.Rules.{rules}
 use Rattle.rl_fields.proofs.references.statement_height.Statement.{statement}
 use Rattle.rl_fields.proofs.references.statement_height.Tie as tie
-use Rattle.rl_fields.proofs.FieldLaws.{statement-is}
+use Rattle.rl_fields.proofs.FieldLaws.{statement_is}
 
-ruleset laws = (statement-is)
+ruleset laws = (statement_is)
 
 add_at : tie.Need-overflow-add-at
 add_at c = search rules

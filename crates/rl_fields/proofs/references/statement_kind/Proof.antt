@@ -1,9 +1,9 @@
 use borrow.Author.Rules.{rules}
 use Rattle.rl_fields.proofs.references.statement_kind.Statement.{statement}
 use Rattle.rl_fields.proofs.references.statement_kind.Tie as tie
-use Rattle.rl_fields.proofs.FieldLaws.{kind-is}
+use Rattle.rl_fields.proofs.FieldLaws.{kind_is}
 
-ruleset laws = (kind-is)
+ruleset laws = (kind_is)
 
 cast-first : tie.Need-overflow-cast-first
 cast-first c = search rules

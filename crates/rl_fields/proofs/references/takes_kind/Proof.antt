@@ -1,9 +1,9 @@
 use borrow.Author.Rules.{rules}
 use Rattle.rl_fields.proofs.references.takes_kind.Statement.{statement}
 use Rattle.rl_fields.proofs.references.takes_kind.Tie as tie
-use Rattle.rl_fields.proofs.FieldLaws.{takes-is, takes_first, takes-second}
+use Rattle.rl_fields.proofs.FieldLaws.{takes_is, takes_first, takes_second}
 
-ruleset laws = (takes-is, takes_first, takes-second)
+ruleset laws = (takes_is, takes_first, takes_second)
 
 enum_told : tie.Need-enum-told
 enum_told c = search rules

@@ -3,9 +3,9 @@ use lib.ListN.{length}
 use borrow.Author.Rules.{rules}
 use Rattle.rl_lines.proofs.lines.lines_with.Statement.{statement}
 use Rattle.rl_lines.proofs.lines.lines_with.Tie as tie
-use Rattle.rl_lines.proofs.CallLaws.{call-entries, call-lines}
+use Rattle.rl_lines.proofs.CallLaws.{call_entries_lem, call_lines_lem}
 
-ruleset laws = (call-entries, call-lines)
+ruleset laws = (call_entries_lem, call_lines_lem)
 
 clear-entries-requires : tie.Need-clear-entries-requires
 clear-entries-requires c κs = search rules
@@ -42,8 +42,8 @@ returns c =
     let found = c.before.find-callee in
     let cs = start.args.classes.now in
     let n = length start.args.reports.now in (
-      call-lines _ _ _ start.requires.0 cs start.requires.1.0 _ start.args.names.now start.requires.1.1 n _ _ _ clear.ensures proved.prove-call.ensures.0 _ called.ensures found.result found.ensures _ c.Function-of.ensures,
-      call-entries _ _ _ start.requires.0 cs start.requires.1.0 _ start.args.names.now start.requires.1.1 n _ _ _ clear.ensures proved.prove-call.ensures.0
+      call_lines_lem _ _ _ start.requires.0 cs start.requires.1.0 _ start.args.names.now start.requires.1.1 n _ _ _ clear.ensures proved.prove-call.ensures.0 _ called.ensures found.result found.ensures _ c.Function-of.ensures,
+      call_entries_lem _ _ _ start.requires.0 cs start.requires.1.0 _ start.args.names.now start.requires.1.1 n _ _ _ clear.ensures proved.prove-call.ensures.0
           (proved.prove-call.auto.1.1.1.1.1.1.1.0 ∙ clear.auto.0 ∙ size),
     )
 

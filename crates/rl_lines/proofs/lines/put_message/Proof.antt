@@ -3,9 +3,9 @@ use lib.ListN.{length}
 use borrow.Author.Rules.{rules}
 use Rattle.rl_lines.proofs.lines.put_message.Statement.{statement}
 use Rattle.rl_lines.proofs.lines.put_message.Tie as tie
-use Rattle.rl_lines.proofs.LineLaws.{number-low, no-message-length, no-message-out, message-length, message-out}
+use Rattle.rl_lines.proofs.LineLaws.{number_low, no_message_length, no_message_out, message_length, message_out_lem}
 
-ruleset laws = (number-low, no-message-length, no-message-out, message-length, message-out)
+ruleset laws = (number_low, no_message_length, no_message_out, message_length, message_out_lem)
 
 clear-bytes-requires : tie.Need-clear-bytes-requires
 clear-bytes-requires c κs = search rules
@@ -31,8 +31,8 @@ returns-2 c =
     let put = c.before.report-message.ensures in
     let v = c.before.before.before.before.before in
     let clear = cleared.clear-bytes.ensures in (
-      message-length _ _ _ pre.0 _ pre.1.0 _ pre.1.1 _ v.before.if1.false _ v.violation-at.ensures _ _ clear size _ put.0,
-      message-out _ _ _ pre.0 _ pre.1.0 _ pre.1.1 _ v.before.if1.false _ v.violation-at.ensures _ _ clear size _ put.1.0,
+      message_length _ _ _ pre.0 _ pre.1.0 _ pre.1.1 _ v.before.if1.false _ v.violation-at.ensures _ _ clear size _ put.0,
+      message_out_lem _ _ _ pre.0 _ pre.1.0 _ pre.1.1 _ v.before.if1.false _ v.violation-at.ensures _ _ clear size _ put.1.0,
     )
 
 pub put-message-spec : {M : Type 1} → statement M

@@ -1,9 +1,9 @@
 use borrow.Author.Rules.{rules}
 use Rattle.rl_lines.proofs.lines.put_refused.Statement.{statement}
 use Rattle.rl_lines.proofs.lines.put_refused.Tie as tie
-use Rattle.rl_lines.proofs.LineLaws.{refused-length, refused-out}
+use Rattle.rl_lines.proofs.LineLaws.{refused_length, refused_out}
 
-ruleset laws = (refused-length, refused-out)
+ruleset laws = (refused_length, refused_out)
 
 clear-bytes-requires : tie.Need-clear-bytes-requires
 clear-bytes-requires c κs = search rules

@@ -1,9 +1,9 @@
 use borrow.Author.Rules.{rules}
 use Rattle.rl_lines.proofs.lines.violation_at.Statement.{statement}
 use Rattle.rl_lines.proofs.lines.violation_at.Tie as tie
-use Rattle.rl_lines.proofs.LineLaws.{at-refinement, at-requires}
+use Rattle.rl_lines.proofs.LineLaws.{at_refinement, at_requires}
 
-ruleset laws = (at-refinement, at-requires)
+ruleset laws = (at_refinement, at_requires)
 
 mul_at : tie.Need-overflow-mul-at
 mul_at c = search rules

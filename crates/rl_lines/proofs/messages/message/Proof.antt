@@ -1,13 +1,13 @@
 use mathlib.Core.Path.{◌≡◌}
 use lib.ListN.{length}
-use Rattle.rl_lines.proofs.LineLaws.{message-word}
-use Rattle.rl_lines.proofs.OpenLaws.{opened-known, opened-classed}
+use Rattle.rl_lines.proofs.LineLaws.{message_word}
+use Rattle.rl_lines.proofs.OpenLaws.{opened_known, opened_classed}
 use borrow.Author.Rules.{rules}
 use Rattle.rl_lines.proofs.messages.message.Statement.{statement}
 use Rattle.rl_lines.proofs.messages.message.Tie as tie
-use Rattle.rl_lines.proofs.AnswerLaws.{message-unread, message-unread-out, message-unread-work, message-missing, message-missing-out, message-missing-work, message-found, message-found-out, message-found-work}
+use Rattle.rl_lines.proofs.AnswerLaws.{message_unread, message_unread_out, message_unread_work, message_missing, message_missing_out, message_missing_work, message_found, message_found_out, message_found_work}
 
-ruleset laws = (message-unread, message-unread-out, message-unread-work, message-missing, message-missing-out, message-missing-work, message-found, message-found-out, message-found-work)
+ruleset laws = (message_unread, message_unread_out, message_unread_work, message_missing, message_missing_out, message_missing_work, message_found, message_found_out, message_found_work)
 
 clear-bytes-requires : tie.Need-clear-bytes-requires
 clear-bytes-requires c κs = search rules
@@ -38,10 +38,10 @@ returns c =
     let e = opened.«open».ensures in
     let f = c.before.before.before.before.before.before.before.answer2.given.1 in
     let h = c.before.before.before.before.if1.true in (
-      message-missing _ _ _ e.0 _ _ _ _ f h,
+      message_missing _ _ _ e.0 _ _ _ _ f h,
       (
-        message-missing-out _ _ _ e.0 _ _ _ _ f h _ _ size cleared.clear-bytes.ensures,
-        message-missing-work _ _ _ e.0 _ _ _ _ f h opened.«open».new.1.0 _ opened.«open».auto.1.0 c.before.before.clear.ensures,
+        message_missing_out _ _ _ e.0 _ _ _ _ f h _ _ size cleared.clear-bytes.ensures,
+        message_missing_work _ _ _ e.0 _ _ _ _ f h opened.«open».new.1.0 _ opened.«open».auto.1.0 c.before.before.clear.ensures,
       ),
     )
 
@@ -52,13 +52,13 @@ message-in-requires : tie.Need-message-in-requires
 message-in-requires c κs =
     let o = c.before.before.before.before.before.before.before.before.before.before.«open».ensures.1.1 in
     let f = c.before.before.before.before.before.before.answer2.given.1 in
-    (opened-known _ _ _ _ o _ _ f, opened-classed _ _ _ _ o _ _ f)
+    (opened_known _ _ _ _ o _ _ f, opened_classed _ _ _ _ o _ _ f)
 
 cast-t32 : tie.Need-overflow-cast-t32
 cast-t32 c =
     let o = c.before.before.before.before.before.before.before.before.before.before.before.«open».ensures.1.1 in
     let f = c.before.before.before.before.before.before.before.answer2.given.1 in
-    let fits = message-word _ _ _ (opened-known _ _ _ _ o _ _ f) _ _ _ c.message-in.ensures.0 in
+    let fits = message_word _ _ _ (opened_known _ _ _ _ o _ _ f) _ _ _ c.message-in.ensures.0 in
     search (fits, rules)
 
 same-length-2 : tie.Need-same-length-2
@@ -77,10 +77,10 @@ returns-3 c =
     let f = c.before.before.before.before.before.before.before.answer2.given.1 in
     let h = c.before.before.before.before.if1.false in
     let g = c.message-in.ensures in (
-      message-found _ _ _ e.0 _ _ _ _ f h _ g.0,
+      message_found _ _ _ e.0 _ _ _ _ f h _ g.0,
       (
-        message-found-out _ _ _ e.0 _ _ _ _ f h _ g.0 _ g.1,
-        message-found-work _ _ _ e.0 _ _ _ _ f h _ g.0 _ e.1.0,
+        message_found_out _ _ _ e.0 _ _ _ _ f h _ g.0 _ g.1,
+        message_found_work _ _ _ e.0 _ _ _ _ f h _ g.0 _ e.1.0,
       ),
     )
 

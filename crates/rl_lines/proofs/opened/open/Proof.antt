@@ -4,9 +4,9 @@ use lib.ListN.{length, replicate, length-replicate}
 use borrow.Author.Rules.{rules}
 use Rattle.rl_lines.proofs.opened.open.Statement.{statement}
 use Rattle.rl_lines.proofs.opened.open.Tie as tie
-use Rattle.rl_lines.proofs.OpenLaws.{answered, opened-accepted}
+use Rattle.rl_lines.proofs.OpenLaws.{answered, opened_accepted}
 
-ruleset laws = (answered, opened-accepted)
+ruleset laws = (answered, opened_accepted)
 
 read-starts-requires : tie.Need-read-starts-requires
 read-starts-requires c κs = search rules
@@ -42,7 +42,7 @@ returns-2 c =
       answered _ _ _ r.ensures.0 _ f,
       (
         r.ensures.1.0,
-        opened-accepted _ _ _ r.ensures.0 bytes _ _ f _ c.before.text-classes.new.1.1.1.0 (replicate 2048 0) start.args.classes.now r.ensures.1.1 (length-replicate {A = ℕ} 2048 0) size c.before.text-classes.ensures.1,
+        opened_accepted _ _ _ r.ensures.0 bytes _ _ f _ c.before.text-classes.new.1.1.1.0 (replicate 2048 0) start.args.classes.now r.ensures.1.1 (length-replicate {A = ℕ} 2048 0) size c.before.text-classes.ensures.1,
       ),
     )
 

@@ -1,9 +1,9 @@
 use borrow.Author.Rules.{rules}
 use Rattle.rl_lines.proofs.texts.text.Statement.{statement}
 use Rattle.rl_lines.proofs.texts.text.Tie as tie
-use Rattle.rl_lines.proofs.AnswerLaws.{text-unread, text-unread-work, text-missing, text-missing-work, text-found, text-found-work}
+use Rattle.rl_lines.proofs.AnswerLaws.{text_unread, text_unread_work, text_missing, text_missing_work, text_found, text_found_work}
 
-ruleset laws = (text-unread, text-unread-work, text-missing, text-missing-work, text-found, text-found-work)
+ruleset laws = (text_unread, text_unread_work, text_missing, text_missing_work, text_found, text_found_work)
 
 read-starts-requires : tie.Need-read-starts-requires
 read-starts-requires c κs = search rules
@@ -47,7 +47,7 @@ returns-3 c =
     let f = c.before.before.before.before.answer2.given.1 in
     let h = c.before.if1.false in
     let g = c.text-part.ensures in
-    (text-found _ _ _ r.ensures.0 _ _ _ f h _ g, text-found-work _ _ _ r.ensures.0 _ _ _ f h _ g _ r.ensures.1.0)
+    (text_found _ _ _ r.ensures.0 _ _ _ f h _ g, text_found_work _ _ _ r.ensures.0 _ _ _ f h _ g _ r.ensures.1.0)
 
 pub text-spec : {M : Type 1} → statement M
 text-spec =

@@ -1,13 +1,13 @@
 use borrow.Author.Rules.{rules}
 use Rattle.rl_machine.proofs.begin.begun.Statement.{statement}
 use Rattle.rl_machine.proofs.begin.begun.Tie as tie
-use Rattle.rl_machine.proofs.BeginLaws.{begin-late, begin-early}
+use Rattle.rl_machine.proofs.BeginLaws.{begin_late, begin_early}
 
 fault-requires : tie.Need-fault-requires
 fault-requires c κs = search rules
 
 returns : tie.Need-returns
-returns c = begin-late _ _ _ _ _ c.before.before.before.before.args.last _ c.before.if1.true c.fault.ensures
+returns c = begin_late _ _ _ _ _ c.before.before.before.before.args.last _ c.before.if1.true c.fault.ensures
 
 statement-at-requires : tie.Need-statement-at-requires
 statement-at-requires c κs = search rules
@@ -16,7 +16,7 @@ begun-form-requires : tie.Need-begun-form-requires
 begun-form-requires c κs = search rules
 
 returns-2 : tie.Need-returns-2
-returns-2 c = begin-early _ _ _ _ _ c.before.before.before.before.before.args.last c.begun-form.result c.before.before.if1.false _ c.before.statement-at.ensures c.begun-form.ensures
+returns-2 c = begin_early _ _ _ _ _ c.before.before.before.before.before.args.last c.begun-form.result c.before.before.if1.false _ c.before.statement-at.ensures c.begun-form.ensures
 
 pub begun-spec : {M : Type 1} → statement M
 begun-spec =

@@ -2,7 +2,7 @@ use native.Mathlib.Omega.{arith}
 use borrow.Author.Rules.{rules}
 use Rattle.rl_machine.proofs.begin.begun_form.Statement.{statement}
 use Rattle.rl_machine.proofs.begin.begun_form.Tie as tie
-use Rattle.rl_machine.proofs.BeginLaws.{begin-declaration, begin-value, begin-expression, begin-return, begin-alone, begin-conditional, begin-branch, begin-while, begin-loop, begin-break, begin-continue, begin-other}
+use Rattle.rl_machine.proofs.BeginLaws.{begin_declaration, begin_value, begin_expression, begin_return, begin_alone, begin_conditional, begin_branch, begin_while, begin_loop, begin_break, begin_continue, begin_other}
 
 enum-known-form : tie.Need-enum-known-form
 enum-known-form c = search rules
@@ -17,7 +17,7 @@ evaluate-requires-2 : tie.Need-evaluate-requires-2
 evaluate-requires-2 c κs = search rules
 
 returns : tie.Need-returns
-returns c = begin-value _ _ _ _ _ (omega arith) c.before.before.before.form2.given.1 c.before.if1.true c.evaluate2.ensures
+returns c = begin_value _ _ _ _ _ (omega arith) c.before.before.before.form2.given.1 c.before.if1.true c.evaluate2.ensures
 
 evaluate-requires-3 : tie.Need-evaluate-requires-3
 evaluate-requires-3 c κs = search rules
@@ -59,37 +59,37 @@ fault-requires-2 : tie.Need-fault-requires-2
 fault-requires-2 c κs = search rules
 
 returns-2 : tie.Need-returns-2
-returns-2 c = begin-declaration _ _ c.before.before.before.before.args.last _ _ (omega arith) _ c.before.before.form.given.1 c.evaluate.ensures
+returns-2 c = begin_declaration _ _ c.before.before.before.before.args.last _ _ (omega arith) _ c.before.before.form.given.1 c.evaluate.ensures
 
 returns-3 : tie.Need-returns-3
-returns-3 c = begin-expression _ _ _ _ _ (omega arith) c.before.before.before.form2.given.1 c.before.if1.false c.evaluate3.ensures
+returns-3 c = begin_expression _ _ _ _ _ (omega arith) c.before.before.before.form2.given.1 c.before.if1.false c.evaluate3.ensures
 
 returns-4 : tie.Need-returns-4
-returns-4 c = begin-return _ _ c.before.before.before.before.args.last _ _ (omega arith) c.before.before.form3.given.1 c.evaluate4.ensures
+returns-4 c = begin_return _ _ c.before.before.before.before.args.last _ _ (omega arith) c.before.before.form3.given.1 c.evaluate4.ensures
 
 returns-5 : tie.Need-returns-5
-returns-5 c = begin-alone _ _ c.before.before.args.last c.enum_told.given.1
+returns-5 c = begin_alone _ _ c.before.before.args.last c.enum_told.given.1
 
 returns-6 : tie.Need-returns-6
-returns-6 c = begin-conditional _ _ c.before.before.before.args.last _ _ c.before.form4.given.1
+returns-6 c = begin_conditional _ _ c.before.before.before.args.last _ _ c.before.form4.given.1
 
 returns-7 : tie.Need-returns-7
-returns-7 c = begin-branch _ _ c.before.before.before.before.args.last _ _ _ c.before.before.form5.given.1 c.fault.ensures
+returns-7 c = begin_branch _ _ c.before.before.before.before.args.last _ _ _ c.before.before.form5.given.1 c.fault.ensures
 
 returns-8 : tie.Need-returns-8
-returns-8 c = begin-while _ _ c.before.before.before.args.last _ _ c.before.form6.given.1
+returns-8 c = begin_while _ _ c.before.before.before.args.last _ _ c.before.form6.given.1
 
 returns-9 : tie.Need-returns-9
-returns-9 c = begin-loop _ _ c.before.before.before.args.last _ c.before.form7.given.1
+returns-9 c = begin_loop _ _ c.before.before.before.args.last _ c.before.form7.given.1
 
 returns-10 : tie.Need-returns-10
-returns-10 c = begin-break _ _ c.before.before.args.last c.enum-told2.given.1
+returns-10 c = begin_break _ _ c.before.before.args.last c.enum-told2.given.1
 
 returns-11 : tie.Need-returns-11
-returns-11 c = begin-continue _ _ c.before.before.args.last c.enum-told3.given.1
+returns-11 c = begin_continue _ _ c.before.before.args.last c.enum-told3.given.1
 
 returns-12 : tie.Need-returns-12
-returns-12 c = begin-other _ _ c.before.before.before.args.last _ c.before.enum-told4.given.1 c.fault2.ensures
+returns-12 c = begin_other _ _ c.before.before.before.args.last _ c.before.enum-told4.given.1 c.fault2.ensures
 
 pub begun-form-spec : {M : Type 1} → statement M
 begun-form-spec =

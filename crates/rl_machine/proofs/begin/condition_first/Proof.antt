@@ -2,9 +2,9 @@ use native.Mathlib.Omega.{arith}
 use borrow.Author.Rules.{rules}
 use Rattle.rl_machine.proofs.begin.condition_first.Statement.{statement}
 use Rattle.rl_machine.proofs.begin.condition_first.Tie as tie
-use Rattle.rl_machine.proofs.BeginLaws.{first-condition, first_plain}
+use Rattle.rl_machine.proofs.BeginLaws.{first_condition, first_plain}
 
-ruleset laws = (first-condition, first_plain)
+ruleset laws = (first_condition, first_plain)
 
 enum-known-condition : tie.Need-enum-known-condition
 enum-known-condition c = search rules
@@ -16,7 +16,7 @@ enum_told : tie.Need-enum-told
 enum_told c = search rules
 
 returns : tie.Need-returns
-returns c = first-condition _ _ (omega arith) _ c.before.before.condition.given.1 c.evaluate.ensures
+returns c = first_condition _ _ (omega arith) _ c.before.before.condition.given.1 c.evaluate.ensures
 
 returns-2 : tie.Need-returns-2
 returns-2 c = search (laws, rules)

@@ -1,7 +1,7 @@
 use borrow.Author.Rules.{rules}
 use Rattle.rl_machine.proofs.resume.err_of.Statement.{statement}
 use Rattle.rl_machine.proofs.resume.err_of.Tie as tie
-use Rattle.rl_machine.proofs.ResumeLaws.{err-plain, err-ok, err_err}
+use Rattle.rl_machine.proofs.ResumeLaws.{err_plain, err_ok, err_err}
 
 enum-known-v : tie.Need-enum-known-v
 enum-known-v c = search rules
@@ -19,10 +19,10 @@ fault-requires-2 : tie.Need-fault-requires-2
 fault-requires-2 c κs = search rules
 
 returns : tie.Need-returns
-returns c = err-plain _ _ c.before.v.given.1
+returns c = err_plain _ _ c.before.v.given.1
 
 returns-2 : tie.Need-returns-2
-returns-2 c = err-ok _ _ _ c.before.before.v2.given.1 c.fault.ensures
+returns-2 c = err_ok _ _ _ c.before.before.v2.given.1 c.fault.ensures
 
 returns-3 : tie.Need-returns-3
 returns-3 c = err_err _ _ _ c.before.before.v3.given.1 c.fault2.ensures

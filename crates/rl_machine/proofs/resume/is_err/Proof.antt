@@ -1,7 +1,7 @@
 use borrow.Author.Rules.{rules}
 use Rattle.rl_machine.proofs.resume.is_err.Statement.{statement}
 use Rattle.rl_machine.proofs.resume.is_err.Tie as tie
-use Rattle.rl_machine.proofs.ResumeLaws.{is-err-plain, is-err-ok, is-err-err}
+use Rattle.rl_machine.proofs.ResumeLaws.{is_err_plain, is_err_ok, is_err_err}
 
 enum-known-v : tie.Need-enum-known-v
 enum-known-v c = search rules
@@ -22,13 +22,13 @@ truth-requires-2 : tie.Need-truth-requires-2
 truth-requires-2 c κs = search rules
 
 returns : tie.Need-returns
-returns c = is-err-plain _ _ _ c.before.before.v.given.1 c.fault.ensures
+returns c = is_err_plain _ _ _ c.before.before.v.given.1 c.fault.ensures
 
 returns-2 : tie.Need-returns-2
-returns-2 c = is-err-ok _ _ _ c.before.before.v2.given.1 c.truth.ensures
+returns-2 c = is_err_ok _ _ _ c.before.before.v2.given.1 c.truth.ensures
 
 returns-3 : tie.Need-returns-3
-returns-3 c = is-err-err _ _ _ c.before.before.v3.given.1 c.truth2.ensures
+returns-3 c = is_err_err _ _ _ c.before.before.v3.given.1 c.truth2.ensures
 
 pub is-err-spec : {M : Type 1} → statement M
 is-err-spec =

@@ -1,7 +1,7 @@
 use borrow.Author.Rules.{rules}
 use Rattle.rl_machine.proofs.resume.operand.Statement.{statement}
 use Rattle.rl_machine.proofs.resume.operand.Tie as tie
-use Rattle.rl_machine.proofs.ResumeLaws.{operand-const}
+use Rattle.rl_machine.proofs.ResumeLaws.{operand_const}
 
 enum-known-v : tie.Need-enum-known-v
 enum-known-v c = search rules
@@ -22,7 +22,7 @@ returns : tie.Need-returns
 returns c = search rules
 
 returns-2 : tie.Need-returns-2
-returns-2 c = operand-const _ _ _ c.before.before.before.before.v.given.1 c.before.p.given.1
+returns-2 c = operand_const _ _ _ c.before.before.before.before.v.given.1 c.before.p.given.1
 
 returns-3 : tie.Need-returns-3
 returns-3 c = search rules

@@ -1,7 +1,7 @@
 use borrow.Author.Rules.{rules}
 use Rattle.rl_machine.proofs.resume.resumed.Statement.{statement}
 use Rattle.rl_machine.proofs.resume.resumed.Tie as tie
-use Rattle.rl_machine.proofs.ResumeLaws.{take_by, take-declare, take-discard, take-return, take_left, take-right, take-unary, take-assign}
+use Rattle.rl_machine.proofs.ResumeLaws.{take_by, take_declare, take_discard, take_return, take_left, take_right, take_unary, take_assign}
 
 enum_told : tie.Need-enum-told
 enum_told c = search rules
@@ -82,25 +82,25 @@ returns : tie.Need-returns
 returns c = take_by _ _ _ c.before.before.before.before.args.v c.tested.result _ c.before.enum_told.given.1 c.tested.ensures
 
 returns-2 : tie.Need-returns-2
-returns-2 c = take-declare _ _ _ c.before.before.before.before.args.v _ c.before.frame.given.1
+returns-2 c = take_declare _ _ _ c.before.before.before.before.args.v _ c.before.frame.given.1
 
 returns-3 : tie.Need-returns-3
-returns-3 c = take-discard _ _ _ c.before.before.before.args.v c.enum-told2.given.1
+returns-3 c = take_discard _ _ _ c.before.before.before.args.v c.enum-told2.given.1
 
 returns-4 : tie.Need-returns-4
-returns-4 c = take-return _ _ _ c.before.before.before.args.v c.enum-told3.given.1
+returns-4 c = take_return _ _ _ c.before.before.before.args.v c.enum-told3.given.1
 
 returns-5 : tie.Need-returns-5
 returns-5 c = take_left _ _ _ c.before.before.before.before.args.v _ _ _ c.before.frame2.given.1
 
 returns-6 : tie.Need-returns-6
-returns-6 c = take-right _ _ _ c.before.before.before.before.before.before.before.before.args.v c.folded.result _ _ c.before.before.before.before.before.frame3.given.1 c.before.before.before.operand.result c.before.before.operand2.result c.before.binary-folded.result c.before.before.before.operand.ensures c.before.before.operand2.ensures c.before.binary-folded.ensures c.folded.ensures
+returns-6 c = take_right _ _ _ c.before.before.before.before.before.before.before.before.args.v c.folded.result _ _ c.before.before.before.before.before.frame3.given.1 c.before.before.before.operand.result c.before.before.operand2.result c.before.binary-folded.result c.before.before.before.operand.ensures c.before.before.operand2.ensures c.before.binary-folded.ensures c.folded.ensures
 
 returns-7 : tie.Need-returns-7
-returns-7 c = take-unary _ _ _ c.before.before.before.before.before.before.before.args.v c.folded2.result _ c.before.before.before.before.frame4.given.1 c.before.before.operand3.result c.before.unary-folded.result c.before.before.operand3.ensures c.before.unary-folded.ensures c.folded2.ensures
+returns-7 c = take_unary _ _ _ c.before.before.before.before.before.before.before.args.v c.folded2.result _ c.before.before.before.before.frame4.given.1 c.before.before.operand3.result c.before.unary-folded.result c.before.before.operand3.ensures c.before.unary-folded.ensures c.folded2.ensures
 
 returns-8 : tie.Need-returns-8
-returns-8 c = take-assign _ _ _ c.before.before.before.before.args.v _ c.before.frame5.given.1
+returns-8 c = take_assign _ _ _ c.before.before.before.before.args.v _ c.before.frame5.given.1
 
 returns-9 : tie.Need-returns-9
 returns-9 c = take_by _ _ _ c.before.before.before.before.args.v c.ok_of.result _ c.before.enum-told4.given.1 c.ok_of.ensures

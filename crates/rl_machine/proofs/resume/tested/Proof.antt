@@ -1,7 +1,7 @@
 use borrow.Author.Rules.{rules}
 use Rattle.rl_machine.proofs.resume.tested.Statement.{statement}
 use Rattle.rl_machine.proofs.resume.tested.Tie as tie
-use Rattle.rl_machine.proofs.ResumeLaws.{test-nothing, test-int, test-float, test-str, test-bool}
+use Rattle.rl_machine.proofs.ResumeLaws.{test_nothing, test_int, test_float, test_str, test_bool}
 
 operand-requires : tie.Need-operand-requires
 operand-requires c κs = search rules
@@ -37,19 +37,19 @@ enum-known-w-4 : tie.Need-enum-known-w-4
 enum-known-w-4 c = search rules
 
 returns : tie.Need-returns
-returns c = test-nothing c.before.before.before.before.args.v _ c.before.before.before.operand.ensures _ c.fault.ensures c.before.enum_told.given.1
+returns c = test_nothing c.before.before.before.before.args.v _ c.before.before.before.operand.ensures _ c.fault.ensures c.before.enum_told.given.1
 
 returns-2 : tie.Need-returns-2
-returns-2 c = test-int c.before.before.before.before.before.before.before.before.args.v _ c.before.before.before.before.before.before.before.operand.ensures _ c.fault2.ensures _ c.before.before.before.before.before.x.given.1 _ c.before.before.w.given.1
+returns-2 c = test_int c.before.before.before.before.before.before.before.before.args.v _ c.before.before.before.before.before.before.before.operand.ensures _ c.fault2.ensures _ c.before.before.before.before.before.x.given.1 _ c.before.before.w.given.1
 
 returns-3 : tie.Need-returns-3
-returns-3 c = test-float c.before.before.before.before.before.before.before.before.args.v _ c.before.before.before.before.before.before.before.operand.ensures _ c.fault3.ensures _ c.before.before.before.before.before.x.given.1 _ c.before.before.w2.given.1
+returns-3 c = test_float c.before.before.before.before.before.before.before.before.args.v _ c.before.before.before.before.before.before.before.operand.ensures _ c.fault3.ensures _ c.before.before.before.before.before.x.given.1 _ c.before.before.w2.given.1
 
 returns-4 : tie.Need-returns-4
-returns-4 c = test-str c.before.before.before.before.before.before.before.before.args.v _ c.before.before.before.before.before.before.before.operand.ensures _ c.fault4.ensures _ c.before.before.before.before.before.x.given.1 _ c.before.before.w3.given.1
+returns-4 c = test_str c.before.before.before.before.before.before.before.before.args.v _ c.before.before.before.before.before.before.before.operand.ensures _ c.fault4.ensures _ c.before.before.before.before.before.x.given.1 _ c.before.before.w3.given.1
 
 returns-5 : tie.Need-returns-5
-returns-5 c = test-bool c.before.before.before.before.before.before.before.args.v _ c.before.before.before.before.before.before.operand.ensures _ _ c.before.before.before.before.x.given.1 c.before.w4.given.1
+returns-5 c = test_bool c.before.before.before.before.before.before.before.args.v _ c.before.before.before.before.before.before.operand.ensures _ _ c.before.before.before.before.x.given.1 c.before.w4.given.1
 
 pub tested-spec : {M : Type 1} → statement M
 tested-spec =

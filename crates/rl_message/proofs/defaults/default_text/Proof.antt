@@ -1,7 +1,7 @@
 use borrow.Author.Rules.{rules}
 use mathlib.Core.Path.{refl}
 use Rattle.rl_spec.specs.Tree.{ascii}
-use Rattle.rl_message.proofs.DefaultLaws.{puts-requires, puts-unrefined, puts-refined}
+use Rattle.rl_message.proofs.DefaultLaws.{puts_requires, puts_unrefined, puts_refined}
 use Rattle.rl_message.proofs.defaults.default_text.Statement.{statement}
 use Rattle.rl_message.proofs.defaults.default_text.Tie as tie
 
@@ -30,26 +30,26 @@ put-text-requires : tie.Need-put-text-requires
 put-text-requires c κs = search rules
 
 returns : tie.Need-returns
-returns c = puts-unrefined _ _ _ _ _ _ _ _ c.before.before.before.before.violation.given.1 c.before.before.param_of.ensures refl (search rules)
+returns c = puts_unrefined _ _ _ _ _ _ _ _ c.before.before.before.before.violation.given.1 c.before.before.param_of.ensures refl (search rules)
 
 same_length : tie.Need-same-length
 same_length c = search rules
 
 returns-2 : tie.Need-returns-2
 returns-2 c =
-    puts-refined _ _ _ _ _ _ _ _
+    puts_refined _ _ _ _ _ _ _ _
     c.before.before.before.before.before.before.before.before.before.violation.given.1
     c.before.before.before.before.before.before.before.param_of.ensures
     refl _ _ _ _
     c.before.before.before.before.before.refinement.given.1
-    c.before.before.put-refinement.ensures
+    c.before.before.put_refinement.ensures
 
 same-length-2 : tie.Need-same-length-2
 same-length-2 c = search rules
 
 returns-3 : tie.Need-returns-3
 unfolding ascii
-returns-3 c = puts-requires _ _ _ _ _ _ _ _ c.before.before.before.before.before.enum-told2.given.1 c.before.before.put-text.ensures
+returns-3 c = puts_requires _ _ _ _ _ _ _ _ c.before.before.before.before.before.enum-told2.given.1 c.before.before.put-text.ensures
 
 pub default-text-spec : {M : Type 1} → statement M
 default-text-spec =

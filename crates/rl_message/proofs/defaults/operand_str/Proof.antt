@@ -1,5 +1,5 @@
 use borrow.Author.Rules.{rules}
-use Rattle.rl_message.proofs.DefaultLaws.{puts-integer, puts-bool, puts-str, puts-param}
+use Rattle.rl_message.proofs.DefaultLaws.{puts_integer, puts_bool, puts_str, puts_param}
 use Rattle.rl_message.proofs.defaults.operand_str.Statement.{statement}
 use Rattle.rl_message.proofs.defaults.operand_str.Tie as tie
 
@@ -37,25 +37,25 @@ same_length : tie.Need-same-length
 same_length c = search rules
 
 returns : tie.Need-returns
-returns c = puts-integer _ _ _ _ _ _ _ _ c.before.before.before.before.before.operand.given.1 (search rules) c.before.before.put-integer.ensures
+returns c = puts_integer _ _ _ _ _ _ _ _ c.before.before.before.before.before.operand.given.1 (search rules) c.before.before.put-integer.ensures
 
 same-length-2 : tie.Need-same-length-2
 same-length-2 c = search rules
 
 returns-2 : tie.Need-returns-2
-returns-2 c = puts-str _ _ _ _ _ _ _ _ _ c.before.before.before.text_at.ensures c.before.before.before.before.before.before.operand2.given.1 c.before.before.put-quoted.ensures
+returns-2 c = puts_str _ _ _ _ _ _ _ _ _ c.before.before.before.text_at.ensures c.before.before.before.before.before.before.operand2.given.1 c.before.before.put-quoted.ensures
 
 same-length-3 : tie.Need-same-length-3
 same-length-3 c = search rules
 
 returns-3 : tie.Need-returns-3
-returns-3 c = puts-bool _ _ _ _ _ _ _ _ c.before.before.before.before.before.operand3.given.1 c.before.before.put-bool.ensures
+returns-3 c = puts_bool _ _ _ _ _ _ _ _ c.before.before.before.before.before.operand3.given.1 c.before.before.put-bool.ensures
 
 same-length-4 : tie.Need-same-length-4
 same-length-4 c = search rules
 
 returns-4 : tie.Need-returns-4
-returns-4 c = puts-param _ _ _ _ _ _ _ _ _ c.before.before.before.text-at2.ensures c.before.before.before.before.before.before.operand4.given.1 c.before.before.put-text.ensures
+returns-4 c = puts_param _ _ _ _ _ _ _ _ _ c.before.before.before.text-at2.ensures c.before.before.before.before.before.before.operand4.given.1 c.before.before.put-text.ensures
 
 pub operand-str-spec : {M : Type 1} → statement M
 operand-str-spec =

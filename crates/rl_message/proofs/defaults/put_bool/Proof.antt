@@ -2,10 +2,10 @@ use borrow.Author.Rules.{rules}
 use Rattle.rl_spec.specs.Tree.{ascii}
 use Rattle.rl_message.proofs.defaults.put_bool.Statement.{statement}
 use Rattle.rl_message.proofs.defaults.put_bool.Tie as tie
-use Rattle.rl_text_out.proofs.Joined.{after-as, with-as}
-use Rattle.rl_message.proofs.DefaultLaws.{text-true, text-false}
+use Rattle.rl_text_out.proofs.Joined.{after_as, with_as}
+use Rattle.rl_message.proofs.DefaultLaws.{text_true, text_false}
 
-ruleset laws = (after-as, with-as, text-true, text-false)
+ruleset laws = (after_as, with_as, text_true, text_false)
 
 slice-aggregate-put-text : tie.Need-slice-aggregate-put-text
 slice-aggregate-put-text c = search rules

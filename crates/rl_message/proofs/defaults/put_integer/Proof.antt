@@ -2,10 +2,10 @@ use borrow.Author.Rules.{rules}
 use Rattle.rl_spec.specs.Tree.{ascii}
 use Rattle.rl_message.proofs.defaults.put_integer.Statement.{statement}
 use Rattle.rl_message.proofs.defaults.put_integer.Tie as tie
-use Rattle.rl_text_out.proofs.Joined.{after-as, with-as}
-use Rattle.rl_message.proofs.DefaultLaws.{puts-minus, text-plain}
+use Rattle.rl_text_out.proofs.Joined.{after_as, with_as}
+use Rattle.rl_message.proofs.DefaultLaws.{puts_minus, text_plain}
 
-ruleset laws = (after-as, with-as, text-plain)
+ruleset laws = (after_as, with_as, text_plain)
 
 slice-aggregate-put-text : tie.Need-slice-aggregate-put-text
 slice-aggregate-put-text c = search rules
@@ -25,7 +25,7 @@ same_length c = search rules
 returns : tie.Need-returns
 unfolding ascii
 returns c =
-    puts-minus c.before.before.before.before.before.before.before.before.before.before.before.before.args.x (search rules) _
+    puts_minus c.before.before.before.before.before.before.before.before.before.before.before.before.args.x (search rules) _
     c.before.before.before.magnitude.ensures
     (search rules) _ _ _ _ _ _
     c.before.before.before.before.before.before.before.put-text.ensures

@@ -2,7 +2,7 @@ use borrow.Author.Rules.{rules}
 use Rattle.rl_spec.specs.Tree.{ascii}
 use Rattle.rl_message.proofs.defaults.put_quoted.Statement.{statement}
 use Rattle.rl_message.proofs.defaults.put_quoted.Tie as tie
-use Rattle.rl_message.proofs.DefaultLaws.{puts-quoted}
+use Rattle.rl_message.proofs.DefaultLaws.{puts_quoted}
 
 slice-aggregate-put-text : tie.Need-slice-aggregate-put-text
 slice-aggregate-put-text c = search rules
@@ -24,7 +24,7 @@ same_length c = search rules
 
 returns : tie.Need-returns
 unfolding ascii
-returns c = puts-quoted _ _ _ _ _ _ _ _ _ c.before.before.before.before.before.before.before.before.before.before.before.put-text.ensures c.before.before.before.before.before.before.before.put-text2.ensures c.before.before.put-text3.ensures
+returns c = puts_quoted _ _ _ _ _ _ _ _ _ c.before.before.before.before.before.before.before.before.before.before.before.put-text.ensures c.before.before.before.before.before.before.before.put-text2.ensures c.before.before.put-text3.ensures
 
 pub put-quoted-spec : {M : Type 1} → statement M
 put-quoted-spec =

@@ -1,6 +1,6 @@
 use borrow.Author.Rules.{rules}
 use Rattle.rl_spec.specs.Tree.{ascii}
-use Rattle.rl_message.proofs.DefaultLaws.{puts-refinement}
+use Rattle.rl_message.proofs.DefaultLaws.{puts_refinement}
 use Rattle.rl_message.proofs.defaults.put_refinement.Statement.{statement}
 use Rattle.rl_message.proofs.defaults.put_refinement.Tie as tie
 
@@ -47,14 +47,14 @@ returns c =
     let name = named.before in
     let heading = name.before.before.before.before in
     let start = heading.before.before.before.before.before in
-    puts-refinement _ _ _ _ start.args.op start.args.operand _ _ _ _ _ _ _ _ _ _ _ _ _
+    puts_refinement _ _ _ _ start.args.op start.args.operand _ _ _ _ _ _ _ _ _ _ _ _ _
     name.text_at.ensures
     heading.put-text.ensures
     named.put-text2.ensures
     space.put-text3.ensures
     op.refine-op-str.ensures
     second-space.put-text4.ensures
-    c.before.before.operand-str.ensures
+    c.before.before.operand_str_lem.ensures
 
 pub put-refinement-spec : {M : Type 1} → statement M
 put-refinement-spec =

@@ -2,10 +2,10 @@ use borrow.Author.Rules.{rules}
 use Rattle.rl_spec.specs.Tree.{ascii}
 use Rattle.rl_message.proofs.defaults.refine_op_str.Statement.{statement}
 use Rattle.rl_message.proofs.defaults.refine_op_str.Tie as tie
-use Rattle.rl_text_out.proofs.Joined.{after-as, with-as}
-use Rattle.rl_message.proofs.DefaultLaws.{op-gt, op-ge, op-lt, op_le, op-eq, op-ne}
+use Rattle.rl_text_out.proofs.Joined.{after_as, with_as}
+use Rattle.rl_message.proofs.DefaultLaws.{op_gt, op_ge, op_lt, op_le, op_eq, op_ne}
 
-ruleset laws = (after-as, with-as, op-gt, op-ge, op-lt, op_le, op-eq, op-ne)
+ruleset laws = (after_as, with_as, op_gt, op_ge, op_lt, op_le, op_eq, op_ne)
 
 enum_told : tie.Need-enum-told
 enum_told c = search rules

@@ -1,9 +1,9 @@
 use borrow.Author.Rules.{rules}
 use Rattle.rl_message.proofs.own.clause_message.Statement.{statement}
 use Rattle.rl_message.proofs.own.clause_message.Tie as tie
-use Rattle.rl_message.proofs.OwnLaws.{by-own, by_default}
+use Rattle.rl_message.proofs.OwnLaws.{by_own, by_default}
 
-ruleset laws = (by-own, by_default)
+ruleset laws = (by_own, by_default)
 
 own-string-requires : tie.Need-own-string-requires
 own-string-requires c κs = search rules

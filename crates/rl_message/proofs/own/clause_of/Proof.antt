@@ -1,7 +1,7 @@
 use borrow.Author.Rules.{rules}
 use Rattle.rl_message.proofs.own.clause_of.Statement.{statement}
 use Rattle.rl_message.proofs.own.clause_of.Tie as tie
-use Rattle.rl_message.proofs.OwnLaws.{clause-is}
+use Rattle.rl_message.proofs.OwnLaws.{clause_is}
 
 function-at-requires : tie.Need-function-at-requires
 function-at-requires c κs = search rules
@@ -16,7 +16,7 @@ clause-at-requires : tie.Need-clause-at-requires
 clause-at-requires c κs = search rules
 
 returns : tie.Need-returns
-returns c = clause-is _ _ _ _ _ _ c.before.before.before.function-at.ensures c.clause-at.ensures
+returns c = clause_is _ _ _ _ _ _ c.before.before.before.function-at.ensures c.clause-at.ensures
 
 pub clause-of-spec : {M : Type 1} → statement M
 clause-of-spec =

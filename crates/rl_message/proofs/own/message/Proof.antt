@@ -1,9 +1,9 @@
 use borrow.Author.Rules.{rules}
 use Rattle.rl_message.proofs.own.message.Statement.{statement}
 use Rattle.rl_message.proofs.own.message.Tie as tie
-use Rattle.rl_message.proofs.OwnLaws.{by-refinement, by-requires}
+use Rattle.rl_message.proofs.OwnLaws.{by_refinement, by_requires}
 
-ruleset laws = (by-refinement, by-requires)
+ruleset laws = (by_refinement, by_requires)
 
 enum-known-violation : tie.Need-enum-known-violation
 enum-known-violation c = search rules

@@ -1,9 +1,9 @@
 use borrow.Author.Rules.{rules}
 use Rattle.rl_message.proofs.own.own_string.Statement.{statement}
 use Rattle.rl_message.proofs.own.own_string.Tie as tie
-use Rattle.rl_message.proofs.OwnLaws.{no-message, a-message}
+use Rattle.rl_message.proofs.OwnLaws.{no_message_lem, a_message_lem}
 
-ruleset laws = (no-message, a-message)
+ruleset laws = (no_message_lem, a_message_lem)
 
 enum-known-message : tie.Need-enum-known-message
 enum-known-message c = search rules

@@ -1,9 +1,9 @@
 use borrow.Author.Rules.{rules}
 use Rattle.rl_message.proofs.own.string_in.Statement.{statement}
 use Rattle.rl_message.proofs.own.string_in.Tie as tie
-use Rattle.rl_message.proofs.OwnLaws.{no-literal, no_value, no-string, a-string}
+use Rattle.rl_message.proofs.OwnLaws.{no_literal, no_value, no_string, a_string_lem}
 
-ruleset laws = (no-literal, no_value, no-string, a-string)
+ruleset laws = (no_literal, no_value, no_string, a_string_lem)
 
 enum-known-form : tie.Need-enum-known-form
 enum-known-form c = search rules

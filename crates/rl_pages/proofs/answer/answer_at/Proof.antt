@@ -1,10 +1,10 @@
 use borrow.Author.Rules.{rules}
-use Rattle.rl_prover.proofs.ShownLaws.{kept-none, kept-all}
-use Rattle.rl_pages.proofs.AnswerLaws.{answered-short, answered-all}
+use Rattle.rl_prover.proofs.ShownLaws.{kept_none, kept_all}
+use Rattle.rl_pages.proofs.AnswerLaws.{answered_short, answered_all}
 use Rattle.rl_pages.proofs.answer.answer_at.Statement.{statement}
 use Rattle.rl_pages.proofs.answer.answer_at.Tie as tie
 
-ruleset laws = (answered-short, kept-none, answered-all, kept-all)
+ruleset laws = (answered_short, kept_none, answered_all, kept_all)
 
 clear-bytes-requires : tie.Need-clear-bytes-requires
 clear-bytes-requires c κs = search rules

@@ -1,10 +1,10 @@
 use borrow.Author.Rules.{rules}
-use Rattle.rl_lines.proofs.OpenLaws.{opened-known, opened-classed}
-use Rattle.rl_pages.proofs.AnswerLaws.{unread, unread-out, unread-work, put-answer, put-out, put-work}
+use Rattle.rl_lines.proofs.OpenLaws.{opened_known, opened_classed}
+use Rattle.rl_pages.proofs.AnswerLaws.{unread, unread_out, unread_work, put_answer, put_out, put_work}
 use Rattle.rl_pages.proofs.answer.pages.Statement.{statement}
 use Rattle.rl_pages.proofs.answer.pages.Tie as tie
 
-ruleset laws = (unread, unread-out, unread-work)
+ruleset laws = (unread, unread_out, unread_work)
 
 clear-bytes-requires : tie.Need-clear-bytes-requires
 clear-bytes-requires c κs = search rules
@@ -22,7 +22,7 @@ put-pages-requires : tie.Need-put-pages-requires
 put-pages-requires c κs =
     let o = c.before.before.before.before.before.before.before.before.«open».ensures.1.1 in
     let f = c.before.before.before.before.answer2.given.1 in
-    (opened-known _ _ _ _ o _ _ f, opened-classed _ _ _ _ o _ _ f)
+    (opened_known _ _ _ _ o _ _ f, opened_classed _ _ _ _ o _ _ f)
 
 answer-at-requires : tie.Need-answer-at-requires
 answer-at-requires c κs = search rules
@@ -53,10 +53,10 @@ returns-2 c =
     let f = told.answer2.given.1 in
     let z = cleared.clear-bytes.ensures in
     let g = put.put-pages.ensures.0 in (
-      put-answer _ _ _ _ e.0 _ _ f _ z _ _ g (search rules) _ answered.0,
+      put_answer _ _ _ _ e.0 _ _ f _ z _ _ g (search rules) _ answered.0,
       (
-        put-out _ _ _ _ e.0 _ _ f _ z _ _ g (search rules) _ answered.1.0,
-        put-work _ _ _ _ e.0 _ _ f _ z _ _ g (search rules) _ _ e.1.0 opened.«open».auto.1.0 answered.1.1,
+        put_out _ _ _ _ e.0 _ _ f _ z _ _ g (search rules) _ answered.1.0,
+        put_work _ _ _ _ e.0 _ _ f _ z _ _ g (search rules) _ _ e.1.0 opened.«open».auto.1.0 answered.1.1,
       ),
     )
 

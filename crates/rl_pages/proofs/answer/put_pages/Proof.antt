@@ -1,8 +1,8 @@
 use borrow.Author.Rules.{rules}
 use native.Mathlib.Omega.{arith}
 use mathlib.Core.Path.{refl}
-use Rattle.rl_prover.proofs.ShownLaws.{part-size}
-use Rattle.rl_pages.proofs.LinesLaws.{adds-pages}
+use Rattle.rl_prover.proofs.ShownLaws.{part_size}
+use Rattle.rl_pages.proofs.LinesLaws.{adds_pages}
 use Rattle.rl_pages.proofs.answer.put_pages.Statement.{statement}
 use Rattle.rl_pages.proofs.answer.put_pages.Tie as tie
 
@@ -16,7 +16,7 @@ array-borrow-prefix-memory : tie.Need-array-borrow-prefix-memory
 array-borrow-prefix-memory c = search rules
 
 slice-aggregate-put-calls-2 : tie.Need-slice-aggregate-put-calls-2
-slice-aggregate-put-calls-2 c = part-size c.before.before.memory-size.result 8192 c.before.before.memory-size.ensures
+slice-aggregate-put-calls-2 c = part_size c.before.before.memory-size.result 8192 c.before.before.memory-size.ensures
 
 put-calls-requires : tie.Need-put-calls-requires
 put-calls-requires c κs = search rules
@@ -34,7 +34,7 @@ returns : tie.Need-returns
 returns c =
     let calls = c.before.before.before.before.before.before.before.before.before.put-calls.ensures in
     let blanks = c.before.before.put-blanks.ensures in
-    (adds-pages _ _ _ _ _ _ _ _ _ _ calls.1.0 refl calls.0 blanks.0, omega (arith, calls.1.1, blanks.1))
+    (adds_pages _ _ _ _ _ _ _ _ _ _ calls.1.0 refl calls.0 blanks.0, omega (arith, calls.1.1, blanks.1))
 
 pub put-pages-spec : {M : Type 1} → statement M
 put-pages-spec =

@@ -1,6 +1,6 @@
 use borrow.Author.Rules.{rules}
-use Rattle.rl_lines.proofs.CallLaws.{own-lines, own-entries}
-use Rattle.rl_pages.proofs.LinesLaws.{adds-own, own-count}
+use Rattle.rl_lines.proofs.CallLaws.{own_lines, own_entries}
+use Rattle.rl_pages.proofs.LinesLaws.{adds_own, own_count}
 use Rattle.rl_pages.proofs.lines.put_call.Statement.{statement}
 use Rattle.rl_pages.proofs.lines.put_call.Tie as tie
 
@@ -11,7 +11,7 @@ put-reports-requires : tie.Need-put-reports-requires
 put-reports-requires c κs =
     let lines = c.before.before.before.before.before.before.lines-with.ensures in
     let pre = c.before.before.before.before.before.before.before.before.before.before.before.before.before.before.requires in
-    (pre.0, (own-lines _ _ _ lines.0, (own-entries _ _ _ lines.0 _ lines.1, pre.1.1.1)))
+    (pre.0, (own_lines _ _ _ lines.0, (own_entries _ _ _ lines.0 _ lines.1, pre.1.1.1)))
 
 same_length : tie.Need-same-length
 same_length c = search rules
@@ -26,7 +26,7 @@ returns : tie.Need-returns
 returns c =
     let lines = c.before.before.before.before.before.before.before.before.before.lines-with.ensures in
     let put = c.before.before.put-reports.ensures in
-    (adds-own _ _ _ lines.0 _ _ _ _ put.0, (own-count _ _ _ lines.0, put.1))
+    (adds_own _ _ _ lines.0 _ _ _ _ put.0, (own_count _ _ _ lines.0, put.1))
 
 pub put-call-spec : {M : Type 1} → statement M
 put-call-spec =

@@ -1,7 +1,7 @@
 use borrow.Author.Rules.{rules}
 use native.Mathlib.Omega.{arith}
-use Rattle.rl_pages.proofs.AddedLaws.{adds-as}
-use Rattle.rl_pages.proofs.ReportLaws.{buffered, buffered-short, report-short}
+use Rattle.rl_pages.proofs.AddedLaws.{adds_as}
+use Rattle.rl_pages.proofs.ReportLaws.{buffered, buffered_short, report_short}
 use Rattle.rl_pages.proofs.lines.put_report.Statement.{statement}
 use Rattle.rl_pages.proofs.lines.put_report.Tie as tie
 
@@ -21,8 +21,8 @@ put-behind-requires : tie.Need-put-behind-requires
 put-behind-requires c κs =
     let put = c.before.before.before.before in
     let pre = put.before.before.before.before.requires in
-    let short = report-short _ _ pre.1.0 _ pre.1.1.1.0 in
-    (pre.1.1.1.1, buffered-short _ _ _ _ short put.put-report-line.ensures c.part.ensures)
+    let short = report_short _ _ pre.1.0 _ pre.1.1.1.0 in
+    (pre.1.1.1.1, buffered_short _ _ _ _ short put.put-report-line.ensures c.part.ensures)
 
 same_length : tie.Need-same-length
 same_length c = search rules
@@ -33,9 +33,9 @@ returns c =
     let part = c.before.before.before.part.ensures in
     let behind = c.before.before.put-behind.ensures in
     let pre = put.before.before.before.before.requires in
-    let short = report-short _ _ pre.1.0 _ pre.1.1.1.0 in (
-      adds-as _ _ _ _ _ _ (buffered _ _ _ _ short put.put-report-line.ensures part) behind.0,
-      omega (arith, behind.1, buffered-short _ _ _ _ short put.put-report-line.ensures part),
+    let short = report_short _ _ pre.1.0 _ pre.1.1.1.0 in (
+      adds_as _ _ _ _ _ _ (buffered _ _ _ _ short put.put-report-line.ensures part) behind.0,
+      omega (arith, behind.1, buffered_short _ _ _ _ short put.put-report-line.ensures part),
     )
 
 pub put-report-spec : {M : Type 1} → statement M

@@ -1,13 +1,13 @@
 use borrow.Author.Rules.{rules}
-use Rattle.rl_lines.proofs.LineLaws.{number-low}
-use Rattle.rl_pages.proofs.ReportLaws.{puts-report}
+use Rattle.rl_lines.proofs.LineLaws.{number_low}
+use Rattle.rl_pages.proofs.ReportLaws.{puts_report}
 use Rattle.rl_pages.proofs.lines.put_report_line.Statement.{statement}
 use Rattle.rl_pages.proofs.lines.put_report_line.Tie as tie
 
 violation-at-requires : tie.Need-violation-at-requires
 violation-at-requires c κs =
     let pre = c.before.before.requires in
-    number-low _ _ _ pre.0 _ pre.1.0 _ pre.1.1.0 _ pre.1.1.1
+    number_low _ _ _ pre.0 _ pre.1.0 _ pre.1.1.0 _ pre.1.1.1
 
 slice-aggregate-default-text : tie.Need-slice-aggregate-default-text
 slice-aggregate-default-text c = search rules
@@ -46,7 +46,7 @@ returns c =
     let default = told.before.before.before.before.before in
     let violated = default.before.before in
     let pre = violated.before.before.before.requires in
-    puts-report _ _ _ pre.0 _ pre.1.0 _ pre.1.1.0 _ pre.1.1.1 _ violated.violation-at.ensures _ _ _ _ _ _ _
+    puts_report _ _ _ pre.0 _ pre.1.0 _ pre.1.1.0 _ pre.1.1.1 _ violated.violation-at.ensures _ _ _ _ _ _ _
     default.default-text.ensures.0
     default.default-text.ensures.1
     (search rules)

@@ -4,30 +4,30 @@ use Prim.Native.Nat.{◌+◌, ◌-◌, ◌*◌, ◌≤◌, ◌<◌}
 use native.Mathlib.Omega.{arith}
 use lib.ListN.{length, take}
 use Rattle.rl_spec.specs.Image.{image_of}
-use Rattle.rl_spec.specs.Pages.{reportLines, linesBytes}
+use Rattle.rl_spec.specs.Pages.{report_lines, lines_bytes}
 use Rattle.rl_pages.specs.Added.{Adds}
-use Rattle.rl_pages.proofs.ReportLaws.{few-lines, report-there, no_more}
-use Rattle.rl_pages.proofs.LinesLaws.{adds-no-lines, adds-report, adds-reports}
+use Rattle.rl_pages.proofs.ReportLaws.{few_lines, report_there, no_more}
+use Rattle.rl_pages.proofs.LinesLaws.{adds_no_lines, adds_report, adds_reports}
 use Rattle.rl_pages.proofs.lines.put_reports.Statement.{statement}
 use Rattle.rl_pages.proofs.lines.put_reports.Tie as tie
 
 abbrev invariant-loop : tie.invariant-loop
 invariant-loop image starts counts lines reports pages₀ at place₀ number₀ pages place number =
     (length pages ≡ length pages₀) × (number ≤ lines.count) × (place ≤ at + number * 292)
-    × Adds pages₀ at (linesBytes (take number (reportLines (image_of image) lines.call))) pages place
+    × Adds pages₀ at (lines_bytes (take number (report_lines (image_of image) lines.call))) pages place
 
 abbrev decreases-loop : tie.decreases-loop
 decreases-loop image starts counts lines reports pages₀ at place₀ number₀ pages place number = lines.count - number
 
 loop-holds : tie.Need-loop-init invariant-loop decreases-loop
-loop-holds c = (search rules, search rules, search rules, adds-no-lines _ _)
+loop-holds c = (search rules, search rules, search rules, adds_no_lines _ _)
 
 put-report-requires : tie.Need-put-report-requires invariant-loop decreases-loop
 put-report-requires c κs =
     let loop = c.before.before.before.loop in
     let start = c.before.before.before.before.before.before in
     let pre = start.requires in
-    let few = few-lines _ _ pre.1.0 pre.0.whole in
+    let few = few_lines _ _ pre.1.0 pre.0.whole in
     let less : loop.number < start.args.lines.count = search rules in
     (pre.0, (pre.1.0, (pre.1.1.0, (less, omega (arith, loop.invariant.1, loop.invariant.2, few, pre.1.1.1)))))
 
@@ -44,11 +44,11 @@ loop-again c =
     let start = c.before.before.before.before.before.before.before.before.before in
     let pre = start.requires in
     let less : loop.number < start.args.lines.count = search rules in
-    let there = report-there _ _ pre.1.0 _ less in (
+    let there = report_there _ _ pre.1.0 _ less in (
       search rules,
       search rules,
       omega (arith, put.1, loop.invariant.2),
-      adds-report _ _ _ there _ _ _ _ _ _ loop.invariant.3 put.0,
+      adds_report _ _ _ there _ _ _ _ _ _ loop.invariant.3 put.0,
     )
 
 same_length : tie.Need-same-length invariant-loop decreases-loop
@@ -59,9 +59,9 @@ returns c =
     let loop = c.before.before.loop in
     let start = c.before.before.before.before.before in
     let pre = start.requires in
-    let few = few-lines _ _ pre.1.0 pre.0.whole in
+    let few = few_lines _ _ pre.1.0 pre.0.whole in
     let all : start.args.lines.count ≤ loop.number = search rules in (
-      adds-reports _ _ _ (no_more _ _ pre.1.0 _ all) _ _ _ _ loop.invariant.3,
+      adds_reports _ _ _ (no_more _ _ pre.1.0 _ all) _ _ _ _ loop.invariant.3,
       omega (arith, loop.invariant.1, loop.invariant.2, few),
     )
 

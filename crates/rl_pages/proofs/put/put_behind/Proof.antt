@@ -1,5 +1,5 @@
 use borrow.Author.Rules.{rules}
-use Rattle.rl_pages.proofs.AddedLaws.{adds-text}
+use Rattle.rl_pages.proofs.AddedLaws.{adds_text}
 use Rattle.rl_pages.proofs.put.put_behind.Statement.{statement}
 use Rattle.rl_pages.proofs.put.put_behind.Tie as tie
 
@@ -13,7 +13,7 @@ same_length : tie.Need-same-length
 same_length c = search rules
 
 returns : tie.Need-returns
-returns c = search (adds-text, rules)
+returns c = search (adds_text, rules)
 
 pub put-behind-spec : {M : Type 1} → statement M
 put-behind-spec = tie.close (tie.spec put-text-requires add-result same_length returns)

@@ -3,16 +3,16 @@ use mathlib.Core.Path.{◌≡◌}
 use Prim.Native.Nat.{◌+◌, ◌-◌, ◌*◌, ◌≤◌}
 use native.Mathlib.Omega.{arith}
 use lib.ListN.{length, replicate}
-use Rattle.rl_spec.specs.Pages.{spaces, linesBytes}
+use Rattle.rl_spec.specs.Pages.{spaces, lines_bytes}
 use Rattle.rl_pages.specs.Added.{Adds}
-use Rattle.rl_pages.proofs.ReportLaws.{blank-short, buffered, buffered-short}
-use Rattle.rl_pages.proofs.LinesLaws.{adds-no-lines, adds-blank}
+use Rattle.rl_pages.proofs.ReportLaws.{blank_short, buffered, buffered_short}
+use Rattle.rl_pages.proofs.LinesLaws.{adds_no_lines, adds_blank}
 use Rattle.rl_pages.proofs.put.put_blanks.Statement.{statement}
 use Rattle.rl_pages.proofs.put.put_blanks.Tie as tie
 
 abbrev invariant-loop : tie.invariant-loop
 invariant-loop pages₀ at count line n place₀ i₀ pages place i =
-    (length pages ≡ length pages₀) × (i ≤ count) × (place ≤ at + i * 292) × Adds pages₀ at (linesBytes (replicate i (spaces 72))) pages place
+    (length pages ≡ length pages₀) × (i ≤ count) × (place ≤ at + i * 292) × Adds pages₀ at (lines_bytes (replicate i (spaces 72))) pages place
 
 abbrev decreases-loop : tie.decreases-loop
 decreases-loop pages₀ at count line n place₀ i₀ pages place i = count - i
@@ -24,7 +24,7 @@ put-blank-line-requires : tie.Need-put-blank-line-requires invariant-loop decrea
 put-blank-line-requires c κs = search rules
 
 loop-holds : tie.Need-loop-init invariant-loop decreases-loop
-loop-holds c = (search rules, search rules, search rules, adds-no-lines _ _)
+loop-holds c = (search rules, search rules, search rules, adds_no_lines _ _)
 
 slice-aggregate-part : tie.Need-slice-aggregate-part invariant-loop decreases-loop
 slice-aggregate-part c = search rules
@@ -37,7 +37,7 @@ put-behind-requires c κs =
     let loop = c.before.before.before.before.loop in
     let blank = c.before.before.before.before.before.before.put-blank-line.ensures in
     let pre = c.before.before.before.before.before.before.before.before.before.requires in
-    (omega (arith, loop.invariant.1, loop.invariant.2, pre.0, pre.1), buffered-short _ _ _ _ blank-short blank c.part.ensures)
+    (omega (arith, loop.invariant.1, loop.invariant.2, pre.0, pre.1), buffered_short _ _ _ _ blank_short blank c.part.ensures)
 
 add-i : tie.Need-overflow-add-i invariant-loop decreases-loop
 add-i c = search rules
@@ -53,8 +53,8 @@ loop-again c =
     let blank = c.before.before.before.before.before.before.before.before.before.put-blank-line.ensures in (
       search rules,
       search rules,
-      omega (arith, put.1, loop.invariant.2, buffered-short _ _ _ _ blank-short blank part),
-      adds-blank loop.i _ _ _ _ _ _ _ (buffered _ _ _ _ blank-short blank part) loop.invariant.3 put.0,
+      omega (arith, put.1, loop.invariant.2, buffered_short _ _ _ _ blank_short blank part),
+      adds_blank loop.i _ _ _ _ _ _ _ (buffered _ _ _ _ blank_short blank part) loop.invariant.3 put.0,
     )
 
 same_length : tie.Need-same-length invariant-loop decreases-loop

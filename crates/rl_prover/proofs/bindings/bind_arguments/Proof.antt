@@ -2,9 +2,9 @@ use Prim.Native.Nat.{◌-◌}
 use Rattle.rl_prover.proofs.bindings.bind_arguments.Statement.{statement}
 use Rattle.rl_prover.proofs.bindings.bind_arguments.Tie as tie
 use borrow.Author.Rules.{rules}
-use Rattle.rl_prover.proofs.PassLaws.{Pass, pass-start, pass-end, pass-next}
+use Rattle.rl_prover.proofs.PassLaws.{Pass, pass_start, pass_end, pass_next}
 
-ruleset laws = (pass-start, pass-end, pass-next)
+ruleset laws = (pass_start, pass_end, pass_next)
 
 abbrev invariant-loop : tie.invariant-loop
 invariant-loop image starts counts classes params args names₀ memory₀ most count₀ i₀ names memory count i =

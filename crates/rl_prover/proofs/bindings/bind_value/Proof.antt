@@ -1,9 +1,9 @@
 use borrow.Author.Rules.{rules}
 use Rattle.rl_prover.proofs.bindings.bind_value.Statement.{statement}
 use Rattle.rl_prover.proofs.bindings.bind_value.Tie as tie
-use Rattle.rl_prover.proofs.BindLaws.{bind-nothing, bind-some}
+use Rattle.rl_prover.proofs.BindLaws.{bind_nothing, bind_some}
 
-ruleset laws = (bind-nothing, bind-some)
+ruleset laws = (bind_nothing, bind_some)
 
 enum_told : tie.Need-enum-told
 enum_told c = search rules

@@ -1,9 +1,9 @@
 use borrow.Author.Rules.{rules}
 use Rattle.rl_prover.proofs.bindings.forget_for.Statement.{statement}
 use Rattle.rl_prover.proofs.bindings.forget_for.Tie as tie
-use Rattle.rl_prover.proofs.BindLaws.{forget-value, forget-none}
+use Rattle.rl_prover.proofs.BindLaws.{forget_value, forget_none}
 
-ruleset laws = (forget-value, forget-none)
+ruleset laws = (forget_value, forget_none)
 
 enum-known-old : tie.Need-enum-known-old
 enum-known-old c = search rules

@@ -2,9 +2,9 @@ use Prim.Native.Nat.{◌-◌, ◌≤◌}
 use Rattle.rl_prover.proofs.callee.any_refined.Statement.{statement}
 use Rattle.rl_prover.proofs.callee.any_refined.Tie as tie
 use borrow.Author.Rules.{rules}
-use Rattle.rl_prover.proofs.CalleeLaws.{Looks, looks-start, looks-end, looks-found, looks_on}
+use Rattle.rl_prover.proofs.CalleeLaws.{Looks, looks_start, looks_end, looks_found, looks_on}
 
-ruleset laws = (looks-start, looks-end, looks-found, looks_on)
+ruleset laws = (looks_start, looks_end, looks_found, looks_on)
 
 abbrev invariant-loop : tie.invariant-loop
 invariant-loop image counts first count i₀ i = (i ≤ count) × Looks image counts first count i

@@ -1,9 +1,9 @@
 use Rattle.rl_prover.proofs.callee.find_callee.Statement.{statement}
 use Rattle.rl_prover.proofs.callee.find_callee.Tie as tie
 use borrow.Author.Rules.{rules}
-use Rattle.rl_prover.proofs.CalleeLaws.{Seeks, seeks-start, seeks-end, seeks-found, seeks-on}
+use Rattle.rl_prover.proofs.CalleeLaws.{Seeks, seeks_start, seeks_end, seeks_found, seeks_on}
 
-ruleset laws = (seeks-start, seeks-end, seeks-found, seeks-on)
+ruleset laws = (seeks_start, seeks_end, seeks_found, seeks_on)
 
 abbrev invariant-loop : tie.invariant-loop
 invariant-loop image counts classes name n₀ n = Seeks image counts classes name counts.functions n

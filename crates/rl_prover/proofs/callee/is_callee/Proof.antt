@@ -1,9 +1,9 @@
 use borrow.Author.Rules.{rules}
 use Rattle.rl_prover.proofs.callee.is_callee.Statement.{statement}
 use Rattle.rl_prover.proofs.callee.is_callee.Tie as tie
-use Rattle.rl_prover.proofs.CalleeLaws.{callee-other, callee_named}
+use Rattle.rl_prover.proofs.CalleeLaws.{callee_other, callee_named}
 
-ruleset laws = (callee-other, callee_named)
+ruleset laws = (callee_other, callee_named)
 
 function-at-requires : tie.Need-function-at-requires
 function-at-requires c κs = search rules

@@ -1,9 +1,9 @@
 use borrow.Author.Rules.{rules}
 use Rattle.rl_prover.proofs.callee.record_fn_contracts.Statement.{statement}
 use Rattle.rl_prover.proofs.callee.record_fn_contracts.Tie as tie
-use Rattle.rl_prover.proofs.CalleeLaws.{recorded-requires, recorded-refined}
+use Rattle.rl_prover.proofs.CalleeLaws.{recorded_requires, recorded_refined}
 
-ruleset laws = (recorded-requires, recorded-refined)
+ruleset laws = (recorded_requires, recorded_refined)
 
 returns : tie.Need-returns
 returns c = search (laws, rules)

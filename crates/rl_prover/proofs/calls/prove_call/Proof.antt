@@ -1,9 +1,9 @@
 use borrow.Author.Rules.{rules}
 use Rattle.rl_prover.proofs.calls.prove_call.Statement.{statement}
 use Rattle.rl_prover.proofs.calls.prove_call.Tie as tie
-use Rattle.rl_prover.proofs.CallLaws.{call-far, call-missing, call-found}
+use Rattle.rl_prover.proofs.CallLaws.{call_far, call_missing, call_found}
 
-ruleset laws = (call-far, call-missing, call-found)
+ruleset laws = (call_far, call_missing, call_found)
 
 returns : tie.Need-returns
 returns c = search (laws, rules)
@@ -26,7 +26,7 @@ prove-callee-requires c κs = search rules
 returns-2 : tie.Need-returns-2
 returns-2 c =
     let a = c.before.before.before.before.before.before.before.before.before.before.before.before.args in
-    (call-missing a.image.now a.starts.now a.counts a.classes.now a.call a.names.now a.reports.now a.start c.before.before.before.before.call_at.result c.before.before.before.before.call_at.ensures c.before.before.find-callee.result c.before.before.find-callee.ensures (search rules), search rules)
+    (call_missing a.image.now a.starts.now a.counts a.classes.now a.call a.names.now a.reports.now a.start c.before.before.before.before.call_at.result c.before.before.before.before.call_at.ensures c.before.before.find-callee.result c.before.before.find-callee.ensures (search rules), search rules)
 
 same_length : tie.Need-same-length
 same_length c = search rules

@@ -1,9 +1,9 @@
 use borrow.Author.Rules.{rules}
 use Rattle.rl_prover.proofs.calls.prove_callee.Statement.{statement}
 use Rattle.rl_prover.proofs.calls.prove_callee.Tie as tie
-use Rattle.rl_prover.proofs.CallLaws.{still-near, near-end, callee-proves}
+use Rattle.rl_prover.proofs.CallLaws.{still_near, near_end, callee_proves}
 
-ruleset laws = (callee-proves)
+ruleset laws = (callee_proves)
 
 function-at-requires : tie.Need-function-at-requires
 function-at-requires c κs = search rules
@@ -18,7 +18,7 @@ report-refinements-requires : tie.Need-report-refinements-requires
 report-refinements-requires c κs = search rules
 
 report-requires-requires : tie.Need-report-requires-requires
-report-requires-requires c κs = still-near _ _ c.before.before.before.before.before.before.before.before.before.before.before.before.before.before.before.before.before.before.before.before.before.before.before.before.before.before.before.before.before.before.before.requires c.before.before.before.before.before.before.before.report-refinements.ensures.1
+report-requires-requires c κs = still_near _ _ c.before.before.before.before.before.before.before.before.before.before.before.before.before.before.before.before.before.before.before.before.before.before.before.before.before.before.before.before.before.before.before.requires c.before.before.before.before.before.before.before.report-refinements.ensures.1
 
 same_length : tie.Need-same-length
 same_length c = search rules
@@ -32,9 +32,9 @@ same-length-3 c = search rules
 returns : tie.Need-returns
 returns c =
     let a = c.before.before.before.before.before.before.before.before.before.before.before.before.before.before.before.before.before.before.before.before.before.before.before.before.before.before.before.before.before.before.before.before.before.before.before.before.args in (
-      callee-proves a.image.now a.starts.now a.counts a.classes.now a.f _ c.before.before.before.before.before.before.before.before.before.before.before.before.before.before.before.before.before.before.before.before.before.before.before.before.before.before.before.before.before.function-at.ensures a.args a.call a.span a.names.now a.reports.now a.memory.now _ _ _ _ _ _ _ _ a.start _ _
+      callee_proves a.image.now a.starts.now a.counts a.classes.now a.f _ c.before.before.before.before.before.before.before.before.before.before.before.before.before.before.before.before.before.before.before.before.before.before.before.before.before.before.before.before.before.function-at.ensures a.args a.call a.span a.names.now a.reports.now a.memory.now _ _ _ _ _ _ _ _ a.start _ _
           c.before.before.before.before.before.before.before.before.before.before.before.before.before.before.before.before.before.before.before.before.before.before.before.before.before.clear.ensures c.before.before.before.before.before.before.before.before.before.before.before.before.before.before.before.before.before.before.before.before.bind-arguments.ensures c.before.before.before.before.before.before.before.before.before.before.before.before.report-refinements.ensures.0 c.before.before.before.before.report-requires.ensures.0,
-      near-end _ _ _ c.before.before.before.before.before.before.before.before.before.before.before.before.report-refinements.ensures.1 c.before.before.before.before.report-requires.ensures.1,
+      near_end _ _ _ c.before.before.before.before.before.before.before.before.before.before.before.before.report-refinements.ensures.1 c.before.before.before.before.report-requires.ensures.1,
     )
 
 pub prove-callee-spec : {M : Type 1} → statement M

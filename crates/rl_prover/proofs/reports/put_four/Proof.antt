@@ -1,9 +1,9 @@
 use borrow.Author.Rules.{rules}
 use Rattle.rl_prover.proofs.reports.put_four.Statement.{statement}
 use Rattle.rl_prover.proofs.reports.put_four.Tie as tie
-use Rattle.rl_prover.proofs.ReportLaws.{put_four}
+use Rattle.rl_prover.proofs.ReportLaws.{put_four_lem}
 
-ruleset laws = (put_four)
+ruleset laws = (put_four_lem)
 
 put-entry-requires : tie.Need-put-entry-requires
 put-entry-requires c κs = search rules

@@ -1,9 +1,9 @@
 use borrow.Author.Rules.{rules}
 use Rattle.rl_prover.proofs.reports.put_violation.Statement.{statement}
 use Rattle.rl_prover.proofs.reports.put_violation.Tie as tie
-use Rattle.rl_prover.proofs.ReportLaws.{put-refinement, put-requires}
+use Rattle.rl_prover.proofs.ReportLaws.{put_refinement, put-requires}
 
-ruleset laws = (put-refinement, put-requires)
+ruleset laws = (put_refinement, put-requires)
 
 enum-known-violation : tie.Need-enum-known-violation
 enum-known-violation c = search rules

@@ -1,9 +1,9 @@
 use borrow.Author.Rules.{rules}
 use Rattle.rl_prover.proofs.reports.report_if.Statement.{statement}
 use Rattle.rl_prover.proofs.reports.report_if.Tie as tie
-use Rattle.rl_prover.proofs.ReportLaws.{report-yes, report-no}
+use Rattle.rl_prover.proofs.ReportLaws.{report_yes, report_no}
 
-ruleset laws = (report-yes, report-no)
+ruleset laws = (report_yes, report_no)
 
 put-violation-requires : tie.Need-put-violation-requires
 put-violation-requires c κs = search rules

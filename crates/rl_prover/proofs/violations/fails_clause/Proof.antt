@@ -1,9 +1,9 @@
 use borrow.Author.Rules.{rules}
 use Rattle.rl_prover.proofs.violations.fails_clause.Statement.{statement}
 use Rattle.rl_prover.proofs.violations.fails_clause.Tie as tie
-use Rattle.rl_prover.proofs.VerdictLaws.{fails-clause}
+use Rattle.rl_prover.proofs.VerdictLaws.{fails_clause}
 
-ruleset laws = (fails-clause)
+ruleset laws = (fails_clause)
 
 const-eval-requires : tie.Need-const-eval-requires
 const-eval-requires c κs = search rules

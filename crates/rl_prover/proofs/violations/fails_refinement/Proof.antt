@@ -1,9 +1,9 @@
 use borrow.Author.Rules.{rules}
 use Rattle.rl_prover.proofs.violations.fails_refinement.Statement.{statement}
 use Rattle.rl_prover.proofs.violations.fails_refinement.Tie as tie
-use Rattle.rl_prover.proofs.VerdictLaws.{fails-unrefined, fails-refined}
+use Rattle.rl_prover.proofs.VerdictLaws.{fails_unrefined, fails_refined}
 
-ruleset laws = (fails-unrefined, fails-refined)
+ruleset laws = (fails_unrefined, fails_refined)
 
 enum_told : tie.Need-enum-told
 enum_told c = search rules
@@ -29,7 +29,7 @@ same_length c = search rules
 returns-2 : tie.Need-returns-2
 returns-2 c =
     let a = c.before.before.before.before.before.before.before.before.before.before.before.before.before.before.args in
-    fails-refined a.image.now a.starts.now a.counts a.classes.now a.names.now a.count a.memory.now a.refinement a.arg _ _ c.before.before.before.before.const-eval.result c.before.refine-bound.result _ _
+    fails_refined a.image.now a.starts.now a.counts a.classes.now a.names.now a.count a.memory.now a.refinement a.arg _ _ c.before.before.before.before.const-eval.result c.before.refine-bound.result _ _
     c.before.before.before.before.before.before.before.refinement.given.1 c.before.before.before.before.const-eval.ensures c.before.refine-bound.ensures c.is-refuted.ensures
 
 pub fails-refinement-spec : {M : Type 1} → statement M

@@ -1,9 +1,9 @@
 use borrow.Author.Rules.{rules}
 use Rattle.rl_prover.proofs.violations.is_false.Statement.{statement}
 use Rattle.rl_prover.proofs.violations.is_false.Tie as tie
-use Rattle.rl_prover.proofs.VerdictLaws.{false-bool}
+use Rattle.rl_prover.proofs.VerdictLaws.{false_bool}
 
-ruleset laws = (false-bool)
+ruleset laws = (false_bool)
 
 enum_told : tie.Need-enum-told
 enum_told c = search rules

@@ -1,9 +1,9 @@
 use borrow.Author.Rules.{rules}
 use Rattle.rl_prover.proofs.violations.is_refuted.Statement.{statement}
 use Rattle.rl_prover.proofs.violations.is_refuted.Tie as tie
-use Rattle.rl_prover.proofs.VerdictLaws.{refuted-both, refuted-right, refuted-left}
+use Rattle.rl_prover.proofs.VerdictLaws.{refuted_both, refuted_right, refuted_left}
 
-ruleset laws = (refuted-both, refuted-right, refuted-left)
+ruleset laws = (refuted_both, refuted_right, refuted_left)
 
 enum-known-a : tie.Need-enum-known-a
 enum-known-a c = search rules

@@ -1,9 +1,9 @@
 use borrow.Author.Rules.{rules}
 use Rattle.rl_prover.proofs.violations.refine_bound.Statement.{statement}
 use Rattle.rl_prover.proofs.violations.refine_bound.Tie as tie
-use Rattle.rl_prover.proofs.VerdictLaws.{bound-integer, bound-str, bound-bool, bound-param}
+use Rattle.rl_prover.proofs.VerdictLaws.{bound_integer, bound_str, bound_bool, bound_param}
 
-ruleset laws = (bound-integer, bound-str, bound-bool, bound-param)
+ruleset laws = (bound_integer, bound_str, bound_bool, bound_param)
 
 enum-known-operand : tie.Need-enum-known-operand
 enum-known-operand c = search rules

@@ -1,9 +1,9 @@
 use borrow.Author.Rules.{rules}
 use Rattle.rl_prover.proofs.violations.refuted_by.Statement.{statement}
 use Rattle.rl_prover.proofs.violations.refuted_by.Tie as tie
-use Rattle.rl_prover.proofs.VerdictLaws.{by-yes, by-no, by-unknown}
+use Rattle.rl_prover.proofs.VerdictLaws.{by_yes, by_no, by_unknown}
 
-ruleset laws = (by-yes, by-no, by-unknown)
+ruleset laws = (by_yes, by_no, by_unknown)
 
 value-text-requires : tie.Need-value-text-requires
 value-text-requires c κs = search rules

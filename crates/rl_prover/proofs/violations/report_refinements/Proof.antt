@@ -2,9 +2,9 @@ use Prim.Native.Nat.{◌-◌}
 use Rattle.rl_prover.proofs.violations.report_refinements.Statement.{statement}
 use Rattle.rl_prover.proofs.violations.report_refinements.Tie as tie
 use borrow.Author.Rules.{rules}
-use Rattle.rl_prover.proofs.SecondLaws.{Refining, refining-start, refining-end, refining-next}
+use Rattle.rl_prover.proofs.SecondLaws.{Refining, refining_start, refining_end, refining_next}
 
-ruleset laws = (refining-start, refining-end, refining-next)
+ruleset laws = (refining_start, refining_end, refining_next)
 
 abbrev invariant-loop : tie.invariant-loop
 invariant-loop image starts counts classes names count memory₀ params args call span reports₀ start most at₀ i₀ memory reports at i =

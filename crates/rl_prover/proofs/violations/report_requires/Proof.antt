@@ -3,9 +3,9 @@ use Prim.Native.Nat.{◌-◌}
 use Rattle.rl_prover.proofs.violations.report_requires.Statement.{statement}
 use Rattle.rl_prover.proofs.violations.report_requires.Tie as tie
 use borrow.Author.Rules.{rules}
-use Rattle.rl_prover.proofs.SecondLaws.{Requiring, requiring-start, requiring-end, requiring-next}
+use Rattle.rl_prover.proofs.SecondLaws.{Requiring, requiring_start, requiring_end, requiring_next}
 
-ruleset laws = (requiring-start, requiring-end, requiring-next)
+ruleset laws = (requiring_start, requiring_end, requiring_next)
 
 abbrev invariant-loop : tie.invariant-loop
 invariant-loop image starts counts classes names count memory₀ clauses call span reports₀ start most at₀ i₀ memory reports at i =

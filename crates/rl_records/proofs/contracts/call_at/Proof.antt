@@ -1,9 +1,9 @@
 use Rattle.std.proofs.Common.{rules}
 use Rattle.rl_records.proofs.contracts.call_at.Statement.{statement}
 use Rattle.rl_records.proofs.contracts.call_at.Tie as tie
-use Rattle.rl_records.proofs.ContractLaws.{call_none, call-is}
+use Rattle.rl_records.proofs.ContractLaws.{call_none, call_is}
 
-ruleset laws = (call_none, call-is)
+ruleset laws = (call_none, call_is)
 
 returns : tie.Need-returns
 returns c = search (laws, rules)

@@ -1,9 +1,9 @@
 use Rattle.std.proofs.Common.{rules}
 use Rattle.rl_records.proofs.contracts.clause_at.Statement.{statement}
 use Rattle.rl_records.proofs.contracts.clause_at.Tie as tie
-use Rattle.rl_records.proofs.ContractLaws.{clause-none, clause-is}
+use Rattle.rl_records.proofs.ContractLaws.{clause_none, clause_is}
 
-ruleset laws = (clause-none, clause-is)
+ruleset laws = (clause_none, clause_is)
 
 cast-most : tie.Need-overflow-cast-most
 cast-most c = search rules

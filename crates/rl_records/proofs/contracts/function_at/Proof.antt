@@ -1,9 +1,9 @@
 use Rattle.std.proofs.Common.{rules}
 use Rattle.rl_records.proofs.contracts.function_at.Statement.{statement}
 use Rattle.rl_records.proofs.contracts.function_at.Tie as tie
-use Rattle.rl_records.proofs.ContractLaws.{function-none, function-is}
+use Rattle.rl_records.proofs.ContractLaws.{function_none, function_is}
 
-ruleset laws = (function-none, function-is)
+ruleset laws = (function_none, function_is)
 
 returns : tie.Need-returns
 returns c = search (laws, rules)

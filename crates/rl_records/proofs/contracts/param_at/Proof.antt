@@ -1,9 +1,9 @@
 use Rattle.std.proofs.Common.{rules}
 use Rattle.rl_records.proofs.contracts.param_at.Statement.{statement}
 use Rattle.rl_records.proofs.contracts.param_at.Tie as tie
-use Rattle.rl_records.proofs.ContractLaws.{param-none, param_is}
+use Rattle.rl_records.proofs.ContractLaws.{param_none, param_is}
 
-ruleset laws = (param-none, param_is)
+ruleset laws = (param_none, param_is)
 
 cast-most : tie.Need-overflow-cast-most
 cast-most c = search rules

@@ -1,9 +1,9 @@
 use Rattle.rl_records.proofs.contracts.refine_op.Statement.{statement}
 use Rattle.rl_records.proofs.contracts.refine_op.Tie as tie
 use Rattle.std.proofs.Common.{rules}
-use Rattle.rl_records.proofs.ContractLaws.{op-gt, op-ge, op-lt, op_le, op-eq, op-ne}
+use Rattle.rl_records.proofs.ContractLaws.{op_gt, op_ge, op_lt, op_le, op_eq, op_ne}
 
-ruleset laws = (op-gt, op-ge, op-lt, op_le, op-eq, op-ne)
+ruleset laws = (op_gt, op_ge, op_lt, op_le, op_eq, op_ne)
 
 returns : tie.Need-returns
 returns c = search (laws, rules)

@@ -1,9 +1,9 @@
 use Rattle.std.proofs.Common.{rules}
 use Rattle.rl_records.proofs.contracts.refine_operand.Statement.{statement}
 use Rattle.rl_records.proofs.contracts.refine_operand.Tie as tie
-use Rattle.rl_records.proofs.ContractLaws.{operand-integer, operand-str, operand-bool, operand-param}
+use Rattle.rl_records.proofs.ContractLaws.{operand_integer, operand_str_lem, operand_bool, operand_param}
 
-ruleset laws = (operand-integer, operand-str, operand-bool, operand-param)
+ruleset laws = (operand_integer, operand_str_lem, operand_bool, operand_param)
 
 signed64-requires : tie.Need-signed64-requires
 signed64-requires c κs = search rules

@@ -1,9 +1,9 @@
 use Rattle.std.proofs.Common.{rules}
 use Rattle.rl_records.proofs.forms.call_form.Statement.{statement}
 use Rattle.rl_records.proofs.forms.call_form.Tie as tie
-use Rattle.rl_records.proofs.FormLaws.{call-other, call-is-err, call-unwrap, call-neither}
+use Rattle.rl_records.proofs.FormLaws.{call_other, call_is_err, call_unwrap, call_neither}
 
-ruleset laws = (call-other, call-is-err, call-unwrap, call-neither)
+ruleset laws = (call_other, call_is_err, call_unwrap, call_neither)
 
 returns : tie.Need-returns
 returns c = search (laws, rules)

@@ -1,9 +1,9 @@
 use Rattle.std.proofs.Common.{rules}
 use Rattle.rl_records.proofs.forms.form_at.Statement.{statement}
 use Rattle.rl_records.proofs.forms.form_at.Tie as tie
-use Rattle.rl_records.proofs.FormLaws.{form-missing, form-found}
+use Rattle.rl_records.proofs.FormLaws.{form_missing, form_found}
 
-ruleset laws = (form-missing, form-found)
+ruleset laws = (form_missing, form_found)
 
 returns : tie.Need-returns
 returns c = search (laws, rules)

@@ -1,9 +1,9 @@
 use Rattle.std.proofs.Common.{rules}
 use Rattle.rl_records.proofs.forms.form_in.Statement.{statement}
 use Rattle.rl_records.proofs.forms.form_in.Tie as tie
-use Rattle.rl_records.proofs.FormLaws.{form-null, form-int, form-sint, form-uint, form-suint, form-byte, form-sbyte, form-bbyte, form-bsbyte, form-str, form-bool, form-float, form-sfloat, form-identifier, form-binary, form-unary, form-grouping, form-assign, form-call, form-ok, form-err, form-other}
+use Rattle.rl_records.proofs.FormLaws.{form_null, form_int, form_sint, form_uint, form_suint, form_byte, form_sbyte, form_bbyte, form_bsbyte, form_str, form_bool, form_float, form_sfloat, form_identifier, form_binary, form_unary, form_grouping, form_assign, form_call, form_ok, form_err, form_other}
 
-ruleset laws = (form-null, form-int, form-sint, form-uint, form-suint, form-byte, form-sbyte, form-bbyte, form-bsbyte, form-str, form-bool, form-float, form-sfloat, form-identifier, form-binary, form-unary, form-grouping, form-assign, form-call, form-ok, form-err, form-other)
+ruleset laws = (form_null, form_int, form_sint, form_uint, form_suint, form_byte, form_sbyte, form_bbyte, form_bsbyte, form_str, form_bool, form_float, form_sfloat, form_identifier, form_binary, form_unary, form_grouping, form_assign, form_call, form_ok, form_err, form_other)
 
 add_at : tie.Need-overflow-add-at
 add_at c = search rules

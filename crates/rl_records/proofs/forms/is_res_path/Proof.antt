@@ -1,9 +1,9 @@
 use Rattle.std.proofs.Common.{rules}
 use Rattle.rl_records.proofs.forms.is_res_path.Statement.{statement}
 use Rattle.rl_records.proofs.forms.is_res_path.Tie as tie
-use Rattle.rl_records.proofs.FormLaws.{path-long, path-first, path-second, path-third}
+use Rattle.rl_records.proofs.FormLaws.{path_long, path_first, path_second, path_third}
 
-ruleset laws = (path-long, path-first, path-second, path-third)
+ruleset laws = (path_long, path_first, path_second, path_third)
 
 returns : tie.Need-returns
 returns c = search (laws, rules)

@@ -1,9 +1,9 @@
 use Rattle.std.proofs.Common.{rules}
 use Rattle.rl_records.proofs.statements.statement_at.Statement.{statement}
 use Rattle.rl_records.proofs.statements.statement_at.Tie as tie
-use Rattle.rl_records.proofs.StatementLaws.{statement-missing, statement-found}
+use Rattle.rl_records.proofs.StatementLaws.{statement_missing, statement_found}
 
-ruleset laws = (statement-missing, statement-found)
+ruleset laws = (statement_missing, statement_found)
 
 returns : tie.Need-returns
 returns c = search (laws, rules)

@@ -1,9 +1,9 @@
 use Rattle.std.proofs.Common.{rules}
 use Rattle.rl_records.proofs.statements.statement_in.Statement.{statement}
 use Rattle.rl_records.proofs.statements.statement_in.Tie as tie
-use Rattle.rl_records.proofs.StatementLaws.{form-declaration, form-expression, form-return, form-alone, form-conditional, form-branch, form-while, form-loop, form-break, form-continue, form-other}
+use Rattle.rl_records.proofs.StatementLaws.{form_declaration, form_expression, form_return, form_alone, form_conditional, form_branch, form_while, form_loop, form_break, form_continue, form_other}
 
-ruleset laws = (form-declaration, form-expression, form-return, form-alone, form-conditional, form-branch, form-while, form-loop, form-break, form-continue, form-other)
+ruleset laws = (form_declaration, form_expression, form_return, form_alone, form_conditional, form_branch, form_while, form_loop, form_break, form_continue, form_other)
 
 add_at : tie.Need-overflow-add-at
 add_at c = search rules

@@ -1,9 +1,9 @@
 use Rattle.std.proofs.Common.{rules}
 use Rattle.rl_records.proofs.texts.entry_at.Statement.{statement}
 use Rattle.rl_records.proofs.texts.entry_at.Tie as tie
-use Rattle.rl_records.proofs.TextLaws.{entry-none, entry-is}
+use Rattle.rl_records.proofs.TextLaws.{entry_none, entry_is}
 
-ruleset laws = (entry-none, entry-is)
+ruleset laws = (entry_none, entry_is)
 
 cast-most : tie.Need-overflow-cast-most
 cast-most c = search rules

@@ -1,9 +1,9 @@
 use Rattle.std.proofs.Common.{rules}
 use Rattle.rl_records.proofs.texts.interval_at.Statement.{statement}
 use Rattle.rl_records.proofs.texts.interval_at.Tie as tie
-use Rattle.rl_records.proofs.TextLaws.{interval-is}
+use Rattle.rl_records.proofs.TextLaws.{interval_is}
 
-ruleset laws = (interval-is)
+ruleset laws = (interval_is)
 
 u16-at-requires : tie.Need-u16-at-requires
 u16-at-requires c κs = search rules

@@ -1,9 +1,9 @@
 use Rattle.std.proofs.Common.{rules}
 use Rattle.rl_records.proofs.texts.optional_at.Statement.{statement}
 use Rattle.rl_records.proofs.texts.optional_at.Tie as tie
-use Rattle.rl_records.proofs.TextLaws.{optional-none, optional-some}
+use Rattle.rl_records.proofs.TextLaws.{optional_none, optional_some}
 
-ruleset laws = (optional-none, optional-some)
+ruleset laws = (optional_none, optional_some)
 
 u16-at-requires : tie.Need-u16-at-requires
 u16-at-requires c κs = search rules

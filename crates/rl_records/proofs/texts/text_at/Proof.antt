@@ -1,9 +1,9 @@
 use Rattle.std.proofs.Common.{rules}
 use Rattle.rl_records.proofs.texts.text_at.Statement.{statement}
 use Rattle.rl_records.proofs.texts.text_at.Tie as tie
-use Rattle.rl_records.proofs.TextLaws.{text-none, text-is}
+use Rattle.rl_records.proofs.TextLaws.{text_none, text_is}
 
-ruleset laws = (text-none, text-is)
+ruleset laws = (text_none, text_is)
 
 cast-part : tie.Need-overflow-cast-part
 cast-part c = search rules

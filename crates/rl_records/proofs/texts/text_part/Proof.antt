@@ -1,9 +1,9 @@
 use Rattle.std.proofs.Common.{rules}
 use Rattle.rl_records.proofs.texts.text_part.Statement.{statement}
 use Rattle.rl_records.proofs.texts.text_part.Tie as tie
-use Rattle.rl_records.proofs.TextLaws.{part_none, part-is}
+use Rattle.rl_records.proofs.TextLaws.{part_none, part_is}
 
-ruleset laws = (part_none, part-is)
+ruleset laws = (part_none, part_is)
 
 returns : tie.Need-returns
 returns c = search (laws, rules)

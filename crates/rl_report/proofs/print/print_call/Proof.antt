@@ -1,5 +1,5 @@
 use borrow.Author.Rules.{rules}
-use Rattle.rl_lines.proofs.CallLaws.{own-lines, own-entries}
+use Rattle.rl_lines.proofs.CallLaws.{own_lines, own_entries}
 use Rattle.rl_report.proofs.print.print_call.Statement.{statement}
 use Rattle.rl_report.proofs.print.print_call.Tie as tie
 
@@ -10,7 +10,7 @@ print-lines-requires : tie.Need-print-lines-requires
 print-lines-requires c κs =
     let lines = c.before.before.lines_of.ensures in
     let start = c.before.before.before.before.before in
-    (start.requires.0, (own-lines _ _ _ lines.0, own-entries _ _ _ lines.0 _ lines.1))
+    (start.requires.0, (own_lines _ _ _ lines.0, own_entries _ _ _ lines.0 _ lines.1))
 
 returns : tie.Need-returns
 returns c = search rules

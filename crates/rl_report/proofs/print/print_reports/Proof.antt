@@ -1,5 +1,5 @@
 use borrow.Author.Rules.{rules}
-use Rattle.rl_lines.proofs.OpenLaws.{opened-known, opened-classed}
+use Rattle.rl_lines.proofs.OpenLaws.{opened_known, opened_classed}
 use Rattle.rl_report.proofs.print.print_reports.Statement.{statement}
 use Rattle.rl_report.proofs.print.print_reports.Tie as tie
 
@@ -13,7 +13,7 @@ print-calls-requires : tie.Need-print-calls-requires
 print-calls-requires c κs =
     let o = c.before.before.before.before.before.before.before.before.«open».ensures.1.1 in
     let f = c.before.before.before.before.answer.given.1 in
-    (opened-known _ _ _ _ o _ _ f, opened-classed _ _ _ _ o _ _ f)
+    (opened_known _ _ _ _ o _ _ f, opened_classed _ _ _ _ o _ _ f)
 
 enum-known-answer-2 : tie.Need-enum-known-answer-2
 enum-known-answer-2 c = search rules

@@ -1,9 +1,9 @@
-use Rattle.rl_resolver.proofs.Beginning.{begun-is}
+use Rattle.rl_resolver.proofs.Beginning.{begun_is}
 use borrow.Author.Rules.{rules}
 use Rattle.rl_resolver.proofs.lowering.begun.Statement.{statement}
 use Rattle.rl_resolver.proofs.lowering.begun.Tie as tie
 
-ruleset laws = (begun-is)
+ruleset laws = (begun_is)
 
 function-at-requires : tie.Need-function-at-requires
 function-at-requires c κs = search (laws, rules)

@@ -1,6 +1,6 @@
 use lib.ListN.{length}
 use borrow.Author.Rules.{rules}
-use Rattle.rl_resolver.proofs.Answers.{unread, refused-by, admitted-there, limit-passed, image-made}
+use Rattle.rl_resolver.proofs.Answers.{unread, refused_by, admitted_there, limit_passed, image_made}
 use Rattle.rl_resolver.proofs.lowering.lower.Statement.{statement}
 use Rattle.rl_resolver.proofs.lowering.lower.Tie as tie
 
@@ -38,7 +38,7 @@ cast-put-lowered c =
           let read = known.before.before.before.before in
           let cleared = read.before.before.before.before.before in
           let first = cleared.before.before.before.before in
-          admitted-there _ _ _ (length first.before.args.out.now) _ cleared.clear-bytes.ensures _ read.read-starts.ensures.0 _ _ known.answer2.given.1 first.shared-slice-known.given _ read.read-starts.ensures.1.0 _ check.admit-lowering.ensures told.enum_told.given.1 _ read.read-starts.ensures.1.1
+          admitted_there _ _ _ (length first.before.args.out.now) _ cleared.clear-bytes.ensures _ read.read-starts.ensures.0 _ _ known.answer2.given.1 first.shared-slice-known.given _ read.read-starts.ensures.1.0 _ check.admit-lowering.ensures told.enum_told.given.1 _ read.read-starts.ensures.1.1
           ).1.0,
       rules,
     )
@@ -51,7 +51,7 @@ put-lowered-requires c κs =
     let read = known.before.before.before.before in
     let cleared = read.before.before.before.before.before in
     let first = cleared.before.before.before.before in
-    admitted-there _ _ _ (length first.before.args.out.now) _ cleared.clear-bytes.ensures _ read.read-starts.ensures.0 _ _ known.answer2.given.1 first.shared-slice-known.given _ read.read-starts.ensures.1.0 _ check.admit-lowering.ensures told.enum_told.given.1 _ read.read-starts.ensures.1.1
+    admitted_there _ _ _ (length first.before.args.out.now) _ cleared.clear-bytes.ensures _ read.read-starts.ensures.0 _ _ known.answer2.given.1 first.shared-slice-known.given _ read.read-starts.ensures.1.0 _ check.admit-lowering.ensures told.enum_told.given.1 _ read.read-starts.ensures.1.1
 
 enum-known-put : tie.Need-enum-known-put
 enum-known-put c = search rules
@@ -91,7 +91,7 @@ returns-2 c =
     let read = known.before.before.before.before in
     let cleared = read.before.before.before.before.before in
     let first = cleared.before.before.before.before in
-    refused-by _ _ _ (length first.before.args.out.now) _ cleared.clear-bytes.ensures _ read.read-starts.ensures.0 _ _ known.answer2.given.1 first.shared-slice-known.given _ read.read-starts.ensures.1.0 _ check.admit-lowering.ensures _ c.before.before.before.before.before.check.given.1 _ _ read.read-starts.auto.1.0 c.before.before.clear.ensures
+    refused_by _ _ _ (length first.before.args.out.now) _ cleared.clear-bytes.ensures _ read.read-starts.ensures.0 _ _ known.answer2.given.1 first.shared-slice-known.given _ read.read-starts.ensures.1.0 _ check.admit-lowering.ensures _ c.before.before.before.before.before.check.given.1 _ _ read.read-starts.auto.1.0 c.before.before.clear.ensures
 
 same-length-5 : tie.Need-same-length-5
 same-length-5 c = search rules
@@ -108,7 +108,7 @@ returns-3 c =
     let read = known.before.before.before.before in
     let cleared = read.before.before.before.before.before in
     let first = cleared.before.before.before.before in
-    image-made _ _ _ (length first.before.args.out.now) _ cleared.clear-bytes.ensures _ read.read-starts.ensures.0 _ _ known.answer2.given.1 first.shared-slice-known.given _ read.read-starts.ensures.1.0 _ check.admit-lowering.ensures told.enum_told.given.1 _ read.read-starts.ensures.1.1 _ _ put.put-lowered.ensures _ c.before.put.given.1 _ read.read-starts.ensures.1.0
+    image_made _ _ _ (length first.before.args.out.now) _ cleared.clear-bytes.ensures _ read.read-starts.ensures.0 _ _ known.answer2.given.1 first.shared-slice-known.given _ read.read-starts.ensures.1.0 _ check.admit-lowering.ensures told.enum_told.given.1 _ read.read-starts.ensures.1.1 _ _ put.put-lowered.ensures _ c.before.put.given.1 _ read.read-starts.ensures.1.0
 
 same-length-7 : tie.Need-same-length-7
 same-length-7 c = search rules
@@ -125,7 +125,7 @@ returns-4 c =
     let read = known.before.before.before.before in
     let cleared = read.before.before.before.before.before in
     let first = cleared.before.before.before.before in
-    limit-passed _ _ _ (length first.before.args.out.now) _ cleared.clear-bytes.ensures _ read.read-starts.ensures.0 _ _ known.answer2.given.1 first.shared-slice-known.given _ read.read-starts.ensures.1.0 _ check.admit-lowering.ensures told.enum_told.given.1 _ read.read-starts.ensures.1.1 _ _ put.put-lowered.ensures c.before.before.before.before.enum-told2.given.1 _ _ read.read-starts.auto.1.0 c.before.before.clear2.ensures
+    limit_passed _ _ _ (length first.before.args.out.now) _ cleared.clear-bytes.ensures _ read.read-starts.ensures.0 _ _ known.answer2.given.1 first.shared-slice-known.given _ read.read-starts.ensures.1.0 _ check.admit-lowering.ensures told.enum_told.given.1 _ read.read-starts.ensures.1.1 _ _ put.put-lowered.ensures c.before.before.before.before.enum-told2.given.1 _ _ read.read-starts.auto.1.0 c.before.before.clear2.ensures
 
 pub lower_spec : {M : Type 1} → statement M
 lower_spec =

@@ -1,8 +1,8 @@
 use Prim.Native.Nat.{ℕ}
 use mathlib.Core.Path.{sym}
 use lib.ListN.{length-replicate}
-use Rattle.rl_resolver.proofs.Beginning.{fresh-begun}
-use Rattle.rl_resolver.proofs.Finishing.{body-full, body-put}
+use Rattle.rl_resolver.proofs.Beginning.{fresh_begun}
+use Rattle.rl_resolver.proofs.Finishing.{body_full, body_put}
 use borrow.Author.Rules.{rules}
 use Rattle.rl_resolver.proofs.lowering.put_finished.Statement.{statement}
 use Rattle.rl_resolver.proofs.lowering.put_finished.Tie as tie
@@ -33,8 +33,8 @@ returns c =
     let made = c.before.before.before.before.before.before in
     let begun = made.before.before.before.before.before in
     let given = begun.before.before.before.before.before.requires in
-    let body = made.new-body.ensures begun.before.schema-table.ensures.0 given.1.0 (sym (length-replicate {A = ℕ} 16385 0)) given.0.well-formed (fresh-begun _ _ _ _ given.0 _ begun.begun.ensures) in
-    body-full _ _ _ _ given.0 given.1.0 _ given.1.1 _ begun.begun.ensures _ _ _ _ body c.if1.true
+    let body = made.new_body_lem.ensures begun.before.schema-table.ensures.0 given.1.0 (sym (length-replicate {A = ℕ} 16385 0)) given.0.well_formed (fresh_begun _ _ _ _ given.0 _ begun.begun.ensures) in
+    body_full _ _ _ _ given.0 given.1.0 _ given.1.1 _ begun.begun.ensures _ _ _ _ body c.if1.true
 
 slice-aggregate-assemble : tie.Need-slice-aggregate-assemble
 slice-aggregate-assemble c = search rules
@@ -50,8 +50,8 @@ returns-2 c =
     let made = c.before.before.before.before.before.before.before.before.before.before.before in
     let begun = made.before.before.before.before.before in
     let given = begun.before.before.before.before.before.requires in
-    let body = made.new-body.ensures begun.before.schema-table.ensures.0 given.1.0 (sym (length-replicate {A = ℕ} 16385 0)) given.0.well-formed (fresh-begun _ _ _ _ given.0 _ begun.begun.ensures) in
-    body-put _ _ _ _ given.0 given.1.0 _ given.1.1 _ begun.begun.ensures _ _ _ _ body c.before.before.before.before.before.if1.false _ _ c.before.before.assemble.ensures
+    let body = made.new_body_lem.ensures begun.before.schema-table.ensures.0 given.1.0 (sym (length-replicate {A = ℕ} 16385 0)) given.0.well_formed (fresh_begun _ _ _ _ given.0 _ begun.begun.ensures) in
+    body_put _ _ _ _ given.0 given.1.0 _ given.1.1 _ begun.begun.ensures _ _ _ _ body c.before.before.before.before.before.if1.false _ _ c.before.before.assemble.ensures
 
 pub put-finished-spec : {M : Type 1} → statement M
 put-finished-spec =

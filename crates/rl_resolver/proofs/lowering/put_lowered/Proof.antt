@@ -1,9 +1,9 @@
 use borrow.Author.Rules.{rules}
 use Rattle.rl_resolver.proofs.lowering.put_lowered.Statement.{statement}
 use Rattle.rl_resolver.proofs.lowering.put_lowered.Tie as tie
-use Rattle.rl_resolver.proofs.Finishing.{lowered-body, lowered-same}
+use Rattle.rl_resolver.proofs.Finishing.{lowered_body, lowered_same}
 
-ruleset laws = (lowered-body, lowered-same)
+ruleset laws = (lowered_body, lowered_same)
 
 has-contracts-requires : tie.Need-has-contracts-requires
 has-contracts-requires c κs = search rules

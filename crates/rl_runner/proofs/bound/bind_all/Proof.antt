@@ -3,9 +3,9 @@ use Rattle.rl_runner.proofs.bound.bind_all.Tie as tie
 use borrow.Author.Rules.{rules}
 use Prim.Native.Nat.{◌-◌}
 use Rattle.rl_admission.proofs.Arrays.{unmapped}
-use Rattle.rl_runner.proofs.BoundLaws.{Bound, bound-none, bound-one, bound_all, bound-most}
+use Rattle.rl_runner.proofs.BoundLaws.{Bound, bound_none, bound_one, bound_all, bound_most}
 
-ruleset laws = (bound-none, bound-one, bound_all, bound-most)
+ruleset laws = (bound_none, bound_one, bound_all, bound_most)
 
 abbrev invariant-loop : tie.invariant-loop
 invariant-loop image counts params arguments env₀ i₀ env i = Bound image counts params arguments env i
@@ -59,7 +59,7 @@ loop-less : tie.Need-loop-smaller invariant-loop decreases-loop
 loop-less c = search (laws, rules)
 
 loop-again : tie.Need-loop-preserved invariant-loop decreases-loop
-loop-again c = bound-one _ _ _ _ _ _ _ _ c.before.before.before.before.before.before.before.loop.invariant c.before.before.before.before.before.before.loop-test.true c.before.before.before.before.if1.false (search (rules, unmapped)) c.before.param-at.ensures c.binding.ensures
+loop-again c = bound_one _ _ _ _ _ _ _ _ c.before.before.before.before.before.before.before.loop.invariant c.before.before.before.before.before.before.loop-test.true c.before.before.before.before.if1.false (search (rules, unmapped)) c.before.param-at.ensures c.binding.ensures
 
 returns-2 : tie.Need-returns-2 invariant-loop decreases-loop
 returns-2 c = search (laws, rules)

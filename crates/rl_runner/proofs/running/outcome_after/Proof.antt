@@ -1,7 +1,7 @@
 use borrow.Author.Rules.{rules}
 use Rattle.rl_runner.proofs.running.outcome_after.Statement.{statement}
 use Rattle.rl_runner.proofs.running.outcome_after.Tie as tie
-use Rattle.rl_runner.proofs.EndLaws.{after-onward}
+use Rattle.rl_runner.proofs.EndLaws.{after_onward}
 
 enum_told : tie.Need-enum-told
 enum_told c = search rules
@@ -19,7 +19,7 @@ enum-known-flow : tie.Need-enum-known-flow
 enum-known-flow c = search rules
 
 returns : tie.Need-returns
-returns c = search (after-onward, rules)
+returns c = search (after_onward, rules)
 
 returns-2 : tie.Need-returns-2
 returns-2 c = search rules

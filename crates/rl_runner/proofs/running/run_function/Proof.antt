@@ -4,7 +4,7 @@ use Rattle.rl_runner.proofs.running.run_function.Tie as tie
 use Prim.Native.Nat.{ℕ}
 use native.Mathlib.Omega.{arith}
 use lib.ListN.{length-replicate}
-use Rattle.rl_runner.proofs.EndLaws.{function-ran}
+use Rattle.rl_runner.proofs.EndLaws.{function_ran}
 
 slice-aggregate-text-classes : tie.Need-slice-aggregate-text-classes
 slice-aggregate-text-classes c = search rules
@@ -35,7 +35,7 @@ sub-t27 : tie.Need-overflow-sub-t27
 sub-t27 c = search rules
 
 returns : tie.Need-returns
-returns c = function-ran _ _ _ c.before.before.before.before.before.before.before.before.before.before.before.before.before.shared-slice-known.given _ _ _ _ _ _ _ c.before.before.before.before.before.before.before.function-at.ensures c.before.before.before.before.before.before.before.before.before.before.before.before.before.before.requires.1.1.0 c.before.before.before.before.before.before.before.before.before.before.before.before.before.before.requires.1.1.1 c.before.before.before.before.bind_all.ensures.0 c.before.list.ensures c.outcome-after.ensures
+returns c = function_ran _ _ _ c.before.before.before.before.before.before.before.before.before.before.before.before.before.shared-slice-known.given _ _ _ _ _ _ _ c.before.before.before.before.before.before.before.function-at.ensures c.before.before.before.before.before.before.before.before.before.before.before.before.before.before.requires.1.1.0 c.before.before.before.before.before.before.before.before.before.before.before.before.before.before.requires.1.1.1 c.before.before.before.before.bind_all.ensures.0 c.before.list.ensures c.outcome-after.ensures
 
 pub run-function-spec : {M : Type 1} → statement M
 run-function-spec =

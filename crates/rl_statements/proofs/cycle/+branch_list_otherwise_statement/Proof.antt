@@ -32,25 +32,25 @@ use Rattle.rl_statements.proofs.views.else_at.Reads as else-at-reads
 use Rattle.rl_words.proofs.value_of_words.Reads as value-of-words-reads
 use Rattle.rl_statements.proofs.cycle.+branch_list_otherwise_statement.{statement}
 use Rattle.rl_statements.proofs.cycle.+branch_list_otherwise_statement.Tie.{close}
-use Rattle.rl_spec.specs.Found.{imageFound}
+use Rattle.rl_spec.specs.Found.{image_found}
 use Rattle.rl_statements.specs.Lists.{Listing, fuel}
-use Rattle.rl_statements.proofs.BindingLaws.{Sought, seek-begins, seek_hit, seek-miss}
+use Rattle.rl_statements.proofs.BindingLaws.{Sought, seek_begins, seek_hit, seek_miss}
 use borrow.Author.Rules.{rules}
-use Rattle.rl_statements.proofs.Falls.{falls-lighter, falls-paid, falls-compound, falls-pushed, falls-entered, falls-given}
-use Rattle.rl_statements.proofs.ListLaws.{list_over, list-spent, list-next, list-tested, list-skipped, list-compound, visit-spent, visit-node, push-frame, push-never, give-none, give-frame, name-found, name-missing, name-stored, name-bound, name-over, compound-below}
-use Rattle.rl_statements.proofs.TurnLaws.{list-begins, list-finished, turns-spent, turns-again}
+use Rattle.rl_statements.proofs.Falls.{falls_lighter, falls_paid, falls_compound, falls_pushed, falls_entered, falls_given}
+use Rattle.rl_statements.proofs.ListLaws.{list_over, list_spent, list_next, list_tested, list_skipped, list_compound, visit_spent, visit_node, push_frame, push_never, give_none, give_frame, name_found, name_missing, name_stored, name_bound, name_over, compound_below}
+use Rattle.rl_statements.proofs.TurnLaws.{list_begins, list_finished, turns_spent, turns_again}
 use native.Mathlib.Omega.{arith}
 use mathlib.Core.Path.{refl, sym, ◌∙◌}
-use Rattle.rl_statements.proofs.ViewLaws.{not-skipped}
-use Rattle.rl_statements.proofs.CycleLaws.{branch-lower, branch-taken, branch-missing, else-lower, else-branch, else-conditional, else-missing, statement-otherwise, statement-branch, statement-loop, statement-missing}
+use Rattle.rl_statements.proofs.ViewLaws.{not_skipped}
+use Rattle.rl_statements.proofs.CycleLaws.{branch_lower, branch_taken, branch_missing, else_lower, else_branch_lem, else_conditional_lem, else_missing, statement_otherwise, statement_branch, statement_loop, statement_missing}
 
-ruleset parts = (branch-lower, branch-taken, branch-missing, else-lower, else-branch, else-conditional, else-missing, statement-otherwise, statement-branch, statement-loop, statement-missing)
+ruleset parts = (branch_lower, branch_taken, branch_missing, else_lower, else_branch_lem, else_conditional_lem, else_missing, statement_otherwise, statement_branch, statement_loop, statement_missing)
 
-ruleset falling = (falls-lighter, falls-paid, falls-compound, falls-pushed, falls-entered, falls-given)
+ruleset falling = (falls_lighter, falls_paid, falls_compound, falls_pushed, falls_entered, falls_given)
 
-ruleset listing = (list_over, list-spent, list-next, list-tested, list-skipped, list-compound, visit-spent, visit-node, push-frame, push-never, give-none, give-frame, name-found, name-missing, name-stored, name-bound, name-over, list-begins, list-finished, turns-spent, turns-again)
+ruleset listing = (list_over, list_spent, list_next, list_tested, list_skipped, list_compound, visit_spent, visit_node, push_frame, push_never, give_none, give_frame, name_found, name_missing, name_stored, name_bound, name_over, list_begins, list_finished, turns_spent, turns_again)
 
-ruleset seeking = (seek-begins, seek_hit, seek-miss)
+ruleset seeking = (seek_begins, seek_hit, seek_miss)
 
 abbrev μ-branch : Measures 3 branch-kinds.ps ℕ
 μ-branch κs a = a.1.1.1.1.1.0 * 4 + 1
@@ -105,7 +105,7 @@ branch-enum-known-form : (t : ℕ) → branch-lts.Need-enum-known-form (branch-c
 branch-enum-known-form t c = search rules
 
 branch-list-requires : (t : ℕ) → branch-lts.Need-list-requires (branch-calls t) (branch-at t) branch.Post
-branch-list-requires t c κs = (omega (arith, c.before.before.before.before.before.before.before.requires.0, branch-lower _ _ _ _ c.before.before.before.branch-at.ensures _ _ c.before.form.given.1), (c.before.before.before.before.before.before.before.requires.1.0, c.before.before.before.before.before.before.before.requires.1.1))
+branch-list-requires t c κs = (omega (arith, c.before.before.before.before.before.before.before.requires.0, branch_lower _ _ _ _ c.before.before.before.branch-at.ensures _ _ c.before.form.given.1), (c.before.before.before.before.before.before.before.requires.1.0, c.before.before.before.before.before.before.before.requires.1.1))
 
 branch-enum-told : (t : ℕ) → branch-lts.Need-enum-told (branch-calls t) (branch-at t) branch.Post
 branch-enum-told t c = search rules
@@ -126,7 +126,7 @@ list-μ-loop2 image starts counts classes bound outermost looping condition budg
 
 abbrev list-Inv-loop : list-lts.invariant-loop
 list-Inv-loop image starts counts classes bound outermost looping condition budget e₀ left₀ base₀ done₀ first count frames₀ top₀ state₀ e left base done frames top state =
-    Listing (imageFound image starts counts) bound outermost looping condition (record { first = first; count = count }) budget e₀ e left base done frames top state
+    Listing (image_found image starts counts) bound outermost looping condition (record { first = first; count = count }) budget e₀ e left base done frames top state
 
 abbrev list-μ-loop : list-lts.decreases-loop
 list-μ-loop image starts counts classes bound outermost looping condition budget e₀ left₀ base₀ done₀ first count frames₀ top₀ state₀ e left base done frames top state =
@@ -213,7 +213,7 @@ list-loop-less-3 : (t : ℕ) → list-lts.Need-loop-smaller-3 (list-calls t) (li
 list-loop-less-3 t c = search (falling, rules)
 
 list-loop-again-3 : (t : ℕ) → list-lts.Need-loop-preserved-3 (list-calls t) (list_at t) list.Post list-Inv-loop2 list-μ-loop2 list-Inv-loop list-μ-loop
-list-loop-again-3 t c = list-next _ _ _ _ _ _ _ _ _ _ _ _ _ _ _ _ _ c.before.before.before.before.before.before.before.loop.invariant c.before.before.before.before.before.enum_told.given.1 c.before.before.before.before.if1.false c.before.before.before.if2.false c.before.is_last.ensures (c.before.before.entry_at.ensures c.before.before.before.before.before.before.before.before.before.before.before.before.before.before.args.starts.now) c.begun.ensures.0 c.begun.ensures.1 c.before.before.before.before.before.before.before.before.before.before.before.before.before.before.requires.1.0.low
+list-loop-again-3 t c = list_next _ _ _ _ _ _ _ _ _ _ _ _ _ _ _ _ _ c.before.before.before.before.before.before.before.loop.invariant c.before.before.before.before.before.enum_told.given.1 c.before.before.before.before.if1.false c.before.before.before.if2.false c.before.is_last.ensures (c.before.before.entry_at.ensures c.before.before.before.before.before.before.before.before.before.before.before.before.before.before.args.starts.now) c.begun.ensures.0 c.begun.ensures.1 c.before.before.before.before.before.before.before.before.before.before.before.before.before.before.requires.1.0.low
 
 list-enum-known-state : (t : ℕ) → list-lts.Need-enum-known-state (list-calls t) (list_at t) list.Post list-Inv-loop2 list-μ-loop2 list-Inv-loop list-μ-loop
 list-enum-known-state t c = search rules
@@ -234,7 +234,7 @@ list-enum-known-state-2 : (t : ℕ) → list-lts.Need-enum-known-state-2 (list-c
 list-enum-known-state-2 t c = search rules
 
 list-statement-requires : (t : ℕ) → list-lts.Need-statement-requires (list-calls t) (list_at t) list.Post list-Inv-loop2 list-μ-loop2 list-Inv-loop list-μ-loop
-list-statement-requires t c κs = (omega (arith, c.before.before.before.before.before.before.before.before.before.before.requires.0, compound-below _ _ _ _ _ _ _ _ _ _ _ _ _ _ _ c.before.before.before.loop.invariant c.before.state2.given.1), (c.before.before.before.before.before.before.before.before.before.before.requires.1.0, c.before.before.before.loop.invariant.held))
+list-statement-requires t c κs = (omega (arith, c.before.before.before.before.before.before.before.before.before.before.requires.0, compound_below _ _ _ _ _ _ _ _ _ _ _ _ _ _ _ c.before.before.before.loop.invariant c.before.state2.given.1), (c.before.before.before.before.before.before.before.before.before.before.requires.1.0, c.before.before.before.loop.invariant.held))
 
 list-followed-requires : (t : ℕ) → list-lts.Need-followed-requires (list-calls t) (list_at t) list.Post list-Inv-loop2 list-μ-loop2 list-Inv-loop list-μ-loop
 list-followed-requires t c κs = search rules
@@ -282,7 +282,7 @@ list-loop-less-9 : (t : ℕ) → list-lts.Need-loop-smaller-9 (list-calls t) (li
 list-loop-less-9 t c = search (falling, rules)
 
 list-loop-again-9 : (t : ℕ) → list-lts.Need-loop-preserved-9 (list-calls t) (list_at t) list.Post list-Inv-loop2 list-μ-loop2 list-Inv-loop list-μ-loop
-list-loop-again-9 t c = visit-spent _ _ _ _ _ _ _ _ _ _ _ _ _ _ _ _ (push-frame _ _ _ _ _ _ _ _ _ _ _ _ _ _ _ _ _ c.before.before.before.before.before.loop.invariant c.before.before.before.state4.given.1 c.before.if5.true) refl c.if6.true
+list-loop-again-9 t c = visit_spent _ _ _ _ _ _ _ _ _ _ _ _ _ _ _ _ (push_frame _ _ _ _ _ _ _ _ _ _ _ _ _ _ _ _ _ c.before.before.before.before.before.loop.invariant c.before.before.before.state4.given.1 c.before.if5.true) refl c.if6.true
 
 list-sub-left-3 : (t : ℕ) → list-lts.Need-overflow-sub-left-3 (list-calls t) (list_at t) list.Post list-Inv-loop2 list-μ-loop2 list-Inv-loop list-μ-loop
 list-sub-left-3 t c = search rules
@@ -294,7 +294,7 @@ list-loop-less-10 : (t : ℕ) → list-lts.Need-loop-smaller-10 (list-calls t) (
 list-loop-less-10 t c = search (falling, rules)
 
 list-loop-again-10 : (t : ℕ) → list-lts.Need-loop-preserved-10 (list-calls t) (list_at t) list.Post list-Inv-loop2 list-μ-loop2 list-Inv-loop list-μ-loop
-list-loop-again-10 t c = visit-node _ _ _ _ _ _ _ _ _ _ _ _ _ _ _ _ _ (push-frame _ _ _ _ _ _ _ _ _ _ _ _ _ _ _ _ _ c.before.before.before.before.before.before.loop.invariant c.before.before.before.before.state4.given.1 c.before.before.if5.true) refl c.before.if6.false c.entered2.ensures.0 c.entered2.ensures.1
+list-loop-again-10 t c = visit_node _ _ _ _ _ _ _ _ _ _ _ _ _ _ _ _ _ (push_frame _ _ _ _ _ _ _ _ _ _ _ _ _ _ _ _ _ c.before.before.before.before.before.before.loop.invariant c.before.before.before.before.state4.given.1 c.before.before.if5.true) refl c.before.if6.false c.entered2.ensures.0 c.entered2.ensures.1
 
 list-loop-less-11 : (t : ℕ) → list-lts.Need-loop-smaller-11 (list-calls t) (list_at t) list.Post list-Inv-loop2 list-μ-loop2 list-Inv-loop list-μ-loop
 list-loop-less-11 t c = search (falling, rules)
@@ -333,13 +333,13 @@ list-loop2-less-2 : (t : ℕ) → list-lts.Need-loop2-smaller-2 (list-calls t) (
 list-loop2-less-2 t c = search (seeking, rules)
 
 list-loop2-again-2 : (t : ℕ) → list-lts.Need-loop2-preserved-2 (list-calls t) (list_at t) list.Post list-Inv-loop2 list-μ-loop2 list-Inv-loop list-μ-loop
-list-loop2-again-2 t c = seek-miss _ _ _ _ _ _ _ _ c.before.before.before.loop2.invariant c.before.before.loop2-test.true c.before.before.before.before.class_of.ensures c.before.class-of2.ensures c.if7.false
+list-loop2-again-2 t c = seek_miss _ _ _ _ _ _ _ _ c.before.before.before.loop2.invariant c.before.before.loop2-test.true c.before.before.before.before.class_of.ensures c.before.class-of2.ensures c.if7.false
 
 list-loop-less-12 : (t : ℕ) → list-lts.Need-loop-smaller-12 (list-calls t) (list_at t) list.Post list-Inv-loop2 list-μ-loop2 list-Inv-loop list-μ-loop
 list-loop-less-12 t c = search (falling, rules)
 
 list-loop-again-12 : (t : ℕ) → list-lts.Need-loop-preserved-12 (list-calls t) (list_at t) list.Post list-Inv-loop2 list-μ-loop2 list-Inv-loop list-μ-loop
-list-loop-again-12 t c = name-missing _ _ _ _ _ _ _ _ _ _ _ _ _ _ _ _ _ _ _ _ c.before.before.before.before.before.before.before.loop.invariant c.before.before.before.before.before.state5.given.1 c.before.before.before.before.before.before.before.before.before.before.before.before.before.before.requires.1.0.same c.before.before.loop2.invariant c.if8.true c.before.loop2-test.false
+list-loop-again-12 t c = name_missing _ _ _ _ _ _ _ _ _ _ _ _ _ _ _ _ _ _ _ _ c.before.before.before.before.before.before.before.loop.invariant c.before.before.before.before.before.state5.given.1 c.before.before.before.before.before.before.before.before.before.before.before.before.before.before.requires.1.0.same c.before.before.loop2.invariant c.if8.true c.before.loop2-test.false
 
 list-sub-p-2 : (t : ℕ) → list-lts.Need-overflow-sub-p-2 (list-calls t) (list_at t) list.Post list-Inv-loop2 list-μ-loop2 list-Inv-loop list-μ-loop
 list-sub-p-2 t c = search rules
@@ -363,7 +363,7 @@ list-loop-less-13 : (t : ℕ) → list-lts.Need-loop-smaller-13 (list-calls t) (
 list-loop-less-13 t c = search (falling, rules)
 
 list-loop-again-13 : (t : ℕ) → list-lts.Need-loop-preserved-13 (list-calls t) (list_at t) list.Post list-Inv-loop2 list-μ-loop2 list-Inv-loop list-μ-loop
-list-loop-again-13 t c = name-stored _ _ _ _ _ _ _ _ _ _ _ _ _ _ _ _ _ _ _ _ c.before.before.before.before.before.before.before.before.before.before.loop.invariant c.before.before.before.before.before.before.before.before.state5.given.1 c.before.before.before.before.before.before.before.before.before.before.before.before.before.before.before.before.before.requires.1.0.same c.before.before.before.before.before.loop2.invariant _ c.before.if9.true c.before.before.before.if8.false c.binding.ensures
+list-loop-again-13 t c = name_stored _ _ _ _ _ _ _ _ _ _ _ _ _ _ _ _ _ _ _ _ c.before.before.before.before.before.before.before.before.before.before.loop.invariant c.before.before.before.before.before.before.before.before.state5.given.1 c.before.before.before.before.before.before.before.before.before.before.before.before.before.before.before.before.before.requires.1.0.same c.before.before.before.before.before.loop2.invariant _ c.before.if9.true c.before.before.before.if8.false c.binding.ensures
 
 list-cast-value-of-words : (t : ℕ) → list-lts.Need-overflow-cast-value-of-words (list-calls t) (list_at t) list.Post list-Inv-loop2 list-μ-loop2 list-Inv-loop list-μ-loop
 list-cast-value-of-words t c = search rules
@@ -375,7 +375,7 @@ list-loop-less-14 : (t : ℕ) → list-lts.Need-loop-smaller-14 (list-calls t) (
 list-loop-less-14 t c = search (falling, rules)
 
 list-loop-again-14 : (t : ℕ) → list-lts.Need-loop-preserved-14 (list-calls t) (list_at t) list.Post list-Inv-loop2 list-μ-loop2 list-Inv-loop list-μ-loop
-list-loop-again-14 t c = name-found _ _ _ _ _ _ _ _ _ _ _ _ _ _ _ _ _ _ _ _ c.before.before.before.before.before.before.before.before.before.before.before.loop.invariant c.before.before.before.before.before.before.before.before.before.state5.given.1 c.before.before.before.before.before.before.before.before.before.before.before.before.before.before.before.before.before.before.requires.1.0.same c.before.before.before.before.before.before.loop2.invariant _ c.before.before.if9.false c.before.before.before.before.if8.false c.value-of-words.ensures
+list-loop-again-14 t c = name_found _ _ _ _ _ _ _ _ _ _ _ _ _ _ _ _ _ _ _ _ c.before.before.before.before.before.before.before.before.before.before.before.loop.invariant c.before.before.before.before.before.before.before.before.before.state5.given.1 c.before.before.before.before.before.before.before.before.before.before.before.before.before.before.before.before.before.before.requires.1.0.same c.before.before.before.before.before.before.loop2.invariant _ c.before.before.if9.false c.before.before.before.before.if8.false c.value-of-words.ensures
 
 list-enum-known-state-6 : (t : ℕ) → list-lts.Need-enum-known-state-6 (list-calls t) (list_at t) list.Post list-Inv-loop2 list-μ-loop2 list-Inv-loop list-μ-loop
 list-enum-known-state-6 t c = search rules
@@ -396,7 +396,7 @@ list-loop-less-15 : (t : ℕ) → list-lts.Need-loop-smaller-15 (list-calls t) (
 list-loop-less-15 t c = search (falling, rules)
 
 list-loop-again-15 : (t : ℕ) → list-lts.Need-loop-preserved-15 (list-calls t) (list_at t) list.Post list-Inv-loop2 list-μ-loop2 list-Inv-loop list-μ-loop
-list-loop-again-15 t c = name-bound _ _ _ _ _ _ _ _ _ _ _ _ _ _ _ _ _ c.before.before.before.before.before.loop.invariant c.before.before.before.state6.given.1 c.before.if10.true c.binding2.ensures
+list-loop-again-15 t c = name_bound _ _ _ _ _ _ _ _ _ _ _ _ _ _ _ _ _ c.before.before.before.before.before.loop.invariant c.before.before.before.state6.given.1 c.before.if10.true c.binding2.ensures
 
 list-loop-less-16 : (t : ℕ) → list-lts.Need-loop-smaller-16 (list-calls t) (list_at t) list.Post list-Inv-loop2 list-μ-loop2 list-Inv-loop list-μ-loop
 list-loop-less-16 t c = search (falling, rules)
@@ -429,7 +429,7 @@ list-loop-less-18 : (t : ℕ) → list-lts.Need-loop-smaller-18 (list-calls t) (
 list-loop-less-18 t c = search (falling, rules)
 
 list-loop-again-18 : (t : ℕ) → list-lts.Need-loop-preserved-18 (list-calls t) (list_at t) list.Post list-Inv-loop2 list-μ-loop2 list-Inv-loop list-μ-loop
-list-loop-again-18 t c = give-frame _ _ _ _ _ _ _ _ _ _ _ _ _ _ _ _ _ c.before.before.before.before.before.before.loop.invariant c.before.before.before.before.state7.given.1 c.before.before.if11.false refl (c.resumed.ensures.0 c.before.before.before.before.before.before.before.before.before.before.before.before.before.args.starts.now) (c.resumed.ensures.1 _)
+list-loop-again-18 t c = give_frame _ _ _ _ _ _ _ _ _ _ _ _ _ _ _ _ _ c.before.before.before.before.before.before.loop.invariant c.before.before.before.before.state7.given.1 c.before.before.if11.false refl (c.resumed.ensures.0 c.before.before.before.before.before.before.before.before.before.before.before.before.before.args.starts.now) (c.resumed.ensures.1 _)
 
 list-enum-known-state-8 : (t : ℕ) → list-lts.Need-enum-known-state-8 (list-calls t) (list_at t) list.Post list-Inv-loop2 list-μ-loop2 list-Inv-loop list-μ-loop
 list-enum-known-state-8 t c = search rules
@@ -444,13 +444,13 @@ list-enum-known-turn : (t : ℕ) → list-lts.Need-enum-known-turn (list-calls t
 list-enum-known-turn t c = search rules
 
 list-returns : (t : ℕ) → list-lts.Need-returns (list-calls t) (list_at t) list.Post list-Inv-loop2 list-μ-loop2 list-Inv-loop list-μ-loop
-list-returns t c = list-finished _ _ _ _ _ _ c.before.before.before.before.before.before.before.before.before.before.before.before.before.before.before.args.looping c.before.before.before.before.before.before.before.before.before.before.before.before.before.before.before.args.condition _ _ _ _ _ _ _ _ c.before.before.before.before.smaller.ensures _ _ c.before.before.before.before.before.before.before.before.loop.invariant c.before.before.before.before.before.before.state8.given.1 (sym c.before.before.before.turn-after.ensures ∙ c.before.turn.given.1) _ _ refl
+list-returns t c = list_finished _ _ _ _ _ _ c.before.before.before.before.before.before.before.before.before.before.before.before.before.before.before.args.looping c.before.before.before.before.before.before.before.before.before.before.before.before.before.before.before.args.condition _ _ _ _ _ _ _ _ c.before.before.before.before.smaller.ensures _ _ c.before.before.before.before.before.before.before.before.loop.invariant c.before.before.before.before.before.before.state8.given.1 (sym c.before.before.before.turn-after.ensures ∙ c.before.turn.given.1) _ _ refl
 
 list-enum-told-2 : (t : ℕ) → list-lts.Need-enum-told-2 (list-calls t) (list_at t) list.Post list-Inv-loop2 list-μ-loop2 list-Inv-loop list-μ-loop
 list-enum-told-2 t c = search rules
 
 list-returns-2 : (t : ℕ) → list-lts.Need-returns-2 (list-calls t) (list_at t) list.Post list-Inv-loop2 list-μ-loop2 list-Inv-loop list-μ-loop
-list-returns-2 t c = turns-spent _ _ _ _ _ _ c.before.before.before.before.before.before.before.before.before.before.before.before.before.before.before.args.looping c.before.before.before.before.before.before.before.before.before.before.before.before.before.before.before.args.condition _ _ _ _ _ _ _ _ c.before.before.before.before.smaller.ensures _ c.before.before.before.before.before.before.before.before.loop.invariant c.before.before.before.before.before.before.state8.given.1 (sym c.before.before.before.turn-after.ensures ∙ c.before.enum-told2.given.1) c.if12.true _ _ refl
+list-returns-2 t c = turns_spent _ _ _ _ _ _ c.before.before.before.before.before.before.before.before.before.before.before.before.before.before.before.args.looping c.before.before.before.before.before.before.before.before.before.before.before.before.before.before.before.args.condition _ _ _ _ _ _ _ _ c.before.before.before.before.smaller.ensures _ c.before.before.before.before.before.before.before.before.loop.invariant c.before.before.before.before.before.before.state8.given.1 (sym c.before.before.before.turn-after.ensures ∙ c.before.enum-told2.given.1) c.if12.true _ _ refl
 
 list-sub-left-4 : (t : ℕ) → list-lts.Need-overflow-sub-left-4 (list-calls t) (list_at t) list.Post list-Inv-loop2 list-μ-loop2 list-Inv-loop list-μ-loop
 list-sub-left-4 t c = search rules
@@ -462,7 +462,7 @@ list-loop-less-19 : (t : ℕ) → list-lts.Need-loop-smaller-19 (list-calls t) (
 list-loop-less-19 t c = search (falling, rules)
 
 list-loop-again-19 : (t : ℕ) → list-lts.Need-loop-preserved-19 (list-calls t) (list_at t) list.Post list-Inv-loop2 list-μ-loop2 list-Inv-loop list-μ-loop
-list-loop-again-19 t c = turns-again _ _ _ _ _ _ c.before.before.before.before.before.before.before.before.before.before.before.before.before.before.before.before.args.looping c.before.before.before.before.before.before.before.before.before.before.before.before.before.before.before.before.args.condition _ _ _ _ _ _ _ _ c.before.before.before.before.before.smaller.ensures _ _ c.before.before.before.before.before.before.before.before.before.loop.invariant c.before.before.before.before.before.before.before.state8.given.1 (sym c.before.before.before.before.turn-after.ensures ∙ c.before.before.enum-told2.given.1) c.before.if12.false c.condition-first.ensures.0 c.condition-first.ensures.1 c.before.before.before.before.before.before.before.before.before.before.before.before.before.before.before.before.requires.1.0.low
+list-loop-again-19 t c = turns_again _ _ _ _ _ _ c.before.before.before.before.before.before.before.before.before.before.before.before.before.before.before.before.args.looping c.before.before.before.before.before.before.before.before.before.before.before.before.before.before.before.before.args.condition _ _ _ _ _ _ _ _ c.before.before.before.before.before.smaller.ensures _ _ c.before.before.before.before.before.before.before.before.before.loop.invariant c.before.before.before.before.before.before.before.state8.given.1 (sym c.before.before.before.before.turn-after.ensures ∙ c.before.before.enum-told2.given.1) c.before.if12.false c.condition-first.ensures.0 c.condition-first.ensures.1 c.before.before.before.before.before.before.before.before.before.before.before.before.before.before.before.before.requires.1.0.low
 
 abbrev otherwise-calls : ℕ → otherwise-lts.Claims
 otherwise-calls t = (
@@ -492,7 +492,7 @@ otherwise-enum-known-form-2 : (t : ℕ) → otherwise-lts.Need-enum-known-form-2
 otherwise-enum-known-form-2 t c = search rules
 
 otherwise-statement-requires : (t : ℕ) → otherwise-lts.Need-statement-requires (otherwise-calls t) (otherwise-at t) otherwise.Post
-otherwise-statement-requires t c κs = (omega (arith, c.before.before.before.before.before.before.before.requires.0, else-lower _ _ _ _ c.before.before.before.else-at.ensures _ c.before.form2.given.1), (c.before.before.before.before.before.before.before.requires.1.0, c.before.before.before.before.before.before.before.requires.1.1))
+otherwise-statement-requires t c κs = (omega (arith, c.before.before.before.before.before.before.before.requires.0, else_lower _ _ _ _ c.before.before.before.else-at.ensures _ c.before.form2.given.1), (c.before.before.before.before.before.before.before.requires.1.0, c.before.before.before.before.before.before.before.requires.1.1))
 
 otherwise-enum-told : (t : ℕ) → otherwise-lts.Need-enum-told (otherwise-calls t) (otherwise-at t) otherwise.Post
 otherwise-enum-told t c = search rules
@@ -546,7 +546,7 @@ statement-returns : (t : ℕ) → statement-lts.Need-returns (statement-calls t)
 statement-returns t c = search (parts, rules)
 
 statement-returns-2 : (t : ℕ) → statement-lts.Need-returns-2 (statement-calls t) (statement-at t) statement'.Post
-statement-returns-2 t c = statement-branch _ _ _ _ _ c.before.before.before.before.before.compound-at.ensures _ _ _ c.before.before.before.form.given.1 c.before.branch.ensures (sym (not-skipped _ c.match2.keys2))
+statement-returns-2 t c = statement_branch _ _ _ _ _ c.before.before.before.before.before.compound-at.ensures _ _ _ c.before.before.before.form.given.1 c.before.branch.ensures (sym (not_skipped _ c.match2.keys2))
 
 statement-returns-3 : (t : ℕ) → statement-lts.Need-returns-3 (statement-calls t) (statement-at t) statement'.Post
 statement-returns-3 t c = search (parts, rules)

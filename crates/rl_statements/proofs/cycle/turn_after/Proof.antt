@@ -1,9 +1,9 @@
 use borrow.Author.Rules.{rules}
 use Rattle.rl_statements.proofs.cycle.turn_after.Statement.{statement}
 use Rattle.rl_statements.proofs.cycle.turn_after.Tie as tie
-use Rattle.rl_statements.proofs.ViewLaws.{turn-breaks, turn-skipped, turn-over, turn-list}
+use Rattle.rl_statements.proofs.ViewLaws.{turn_breaks, turn_skipped, turn_over, turn_list}
 
-ruleset laws = (turn-breaks, turn-skipped, turn-over, turn-list)
+ruleset laws = (turn_breaks, turn_skipped, turn_over, turn_list)
 
 enum_told : tie.Need-enum-told
 enum_told c = search rules

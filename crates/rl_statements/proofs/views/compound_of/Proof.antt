@@ -1,9 +1,9 @@
 use borrow.Author.Rules.{rules}
 use Rattle.rl_statements.proofs.views.compound_of.Statement.{statement}
 use Rattle.rl_statements.proofs.views.compound_of.Tie as tie
-use Rattle.rl_statements.proofs.ViewLaws.{compound-conditional, compound-while, compound-loop, not-compound}
+use Rattle.rl_statements.proofs.ViewLaws.{compound_conditional, compound_while, compound_loop, not_compound}
 
-ruleset laws = (compound-conditional, compound-while, compound-loop, not-compound)
+ruleset laws = (compound_conditional, compound_while, compound_loop, not_compound)
 
 enum-known-form : tie.Need-enum-known-form
 enum-known-form c = search rules

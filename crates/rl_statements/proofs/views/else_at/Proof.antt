@@ -1,9 +1,9 @@
 use borrow.Author.Rules.{rules}
 use Rattle.rl_statements.proofs.views.else_at.Statement.{statement}
 use Rattle.rl_statements.proofs.views.else_at.Tie as tie
-use Rattle.rl_statements.proofs.ViewLaws.{no_other, other-late, else-view}
+use Rattle.rl_statements.proofs.ViewLaws.{no_other, other_late, else_view}
 
-ruleset laws = (no_other, other-late, else-view)
+ruleset laws = (no_other, other_late, else_view)
 
 enum-known-other : tie.Need-enum-known-other
 enum-known-other c = search rules

@@ -4,15 +4,15 @@ use mathlib.Core.Logic.{inl, inr}
 use native.Mathlib.Omega.{arith}
 use lib.ListN.{length}
 use borrow.Author.Rules.{rules}
-use Rattle.rl_spec.specs.Found.{imageFound}
-use Rattle.rl_spec.specs.Lower.{transformArm}
+use Rattle.rl_spec.specs.Found.{image_found}
+use Rattle.rl_spec.specs.Lower.{transform_arm}
 use Rattle.rl_context.specs.Does.{at}
-use Rattle.rl_images.specs.Lowering.AddsLower.{adds-arm}
-use Rattle.rl_context.proofs.Copying.{kind-in}
-use Rattle.rl_context.specs.Guards.{clausesIn}
-use Rattle.rl_transform.specs.Transforms.{walkBelow, Ready, ArmsIn}
-use Rattle.rl_transform.proofs.Loops.{Flat, flat-none, flat-more, flat-all, Each, each_none, each_more, each_all}
-use Rattle.rl_transform.proofs.Steps.{adds-walk, below-untouched, below-done, statement-full, statement-return, statement-alone, statement-conditional, statement-match, statement-loop, statement-kept, field-low, flag-low, place-fits, next_fits, body-done, branch-body, branch-list, branch_kept, branch-earlier, else-earlier, conditional-alone, conditional-both, arm-made, arms-in, match-done, kind-here, loop-list}
+use Rattle.rl_images.specs.Lowering.AddsLower.{adds_arm}
+use Rattle.rl_context.proofs.Copying.{kind_in}
+use Rattle.rl_context.specs.Guards.{clauses_in}
+use Rattle.rl_transform.specs.Transforms.{walk_below, Ready, ArmsIn}
+use Rattle.rl_transform.proofs.Loops.{Flat, flat_none, flat_more, flat_all, Each, each_none, each_more, each_all}
+use Rattle.rl_transform.proofs.Steps.{adds_walk, below_untouched, below_done, statement_full, statement_return, statement_alone, statement_conditional, statement_match, statement_loop, statement_kept, field_low, flag_low, place_fits, next_fits, body_done, branch_body, branch_list, branch_kept, branch_earlier, else_earlier, conditional_alone, conditional_both, arm_made, arms_in, match_done, kind_here, loop_list}
 use borrow.Fn.Kinds.{In}
 use borrow.Fn.PlainCycle.{Measures, is, falls, and}
 use Rattle.rl_transform.proofs.cycle.transform_arms.Reads as transform-arms
@@ -44,7 +44,7 @@ use Rattle.rl_arena.proofs.statement_start.Reads as statement-start-reads
 use Rattle.rl_bytes.proofs.second_u16.Reads as second-u16-reads
 use Rattle.rl_bytes.proofs.u16_at.Reads as u16-at-reads
 use Rattle.rl_context.proofs.Ctx.new_list.Reads as new-list-reads
-use Rattle.rl_context.proofs.Ctx.null.Reads as null-reads
+use Rattle.rl_context.proofs.Ctx.null.Reads as null_reads
 use Rattle.rl_context.proofs.Ctx.push.Reads as push-reads
 use Rattle.rl_context.proofs.Ctx.wrap_return.Reads as wrap-return-reads
 use Rattle.rl_records.proofs.entry_at.Reads as entry-at-reads
@@ -314,8 +314,8 @@ transform-statement-calls t = (
   u16-at-reads.Learnt,
   wrap-return-reads.Asked,
   wrap-return-reads.Learnt,
-  null-reads.Asked,
-  null-reads.Learnt,
+  null_reads.Asked,
+  null_reads.Learnt,
   transform-conditional-below t,
   transform-conditional.Post,
   pushed-reads.Asked,
@@ -331,14 +331,14 @@ transform-statement-calls t = (
 abbrev transform-arms-Inv-loop : transform-arms-lts.invariant-loop
 transform-arms-Inv-loop image starts counts rows ensured limit first count scratch₀ waiting₀ next₀ i₀ scratch waiting next i =
     (i ≤ count) × ((length scratch ≡ length scratch₀) × ((length waiting ≡ length waiting₀) × ((count < 65536) ×
-    (Ready image starts counts rows ensured → limit ≤ counts.statements → ArmsIn image starts counts first count → Each (imageFound image starts counts) (transformArm (walkBelow (clausesIn (imageFound image starts counts) ensured) limit)) first count (at next₀ scratch₀ waiting₀) (at next scratch waiting) i))))
+    (Ready image starts counts rows ensured → limit ≤ counts.statements → ArmsIn image starts counts first count → Each (image_found image starts counts) (transform_arm (walk_below (clauses_in (image_found image starts counts) ensured) limit)) first count (at next₀ scratch₀ waiting₀) (at next scratch waiting) i))))
 
 abbrev transform-arms-μ-loop : transform-arms-lts.decreases-loop
 transform-arms-μ-loop image starts counts rows ensured limit first count scratch₀ waiting₀ next₀ i₀ scratch waiting next i =
     count - i
 
 transform-arms-loop-holds : (t : ℕ) → transform-arms-lts.Need-loop-init (transform-arms-calls t) (transform-arms-at t) transform-arms.Post transform-arms-Inv-loop transform-arms-μ-loop
-transform-arms-loop-holds t c = (omega arith, (refl, (refl, (search rules, λ r h k. each_none _ _ (adds-arm _ (adds-walk _ _)) _ _ _))))
+transform-arms-loop-holds t c = (omega arith, (refl, (refl, (search rules, λ r h k. each_none _ _ (adds_arm _ (adds_walk _ _)) _ _ _))))
 
 transform-arms-cast-entry-at : (t : ℕ) → transform-arms-lts.Need-overflow-cast-entry-at (transform-arms-calls t) (transform-arms-at t) transform-arms.Post transform-arms-Inv-loop transform-arms-μ-loop
 transform-arms-cast-entry-at t c = search rules
@@ -371,7 +371,7 @@ transform-arms-loop-again t c = (
       (
         c.before.before.before.before.before.before.before.before.before.before.before.before.before.loop.invariant.1.1.1.0,
         λ r h k.
-            each_more _ _ (adds-arm _ (adds-walk _ _)) _ _ _ _ _ _ _ (c.before.before.before.before.before.before.before.before.before.before.before.before.before.loop.invariant.1.1.1.1 r h k) c.before.before.before.before.before.before.before.before.before.before.before.before.loop-test.true _ _ (c.before.before.before.before.before.before.before.before.before.before.before.entry_at.ensures _) (arm-made _ _ _ _ _ r _ _ _ _ _ _ _ _ k c.before.before.before.before.before.before.before.before.before.before.before.before.loop-test.true (c.before.before.before.before.before.before.before.before.before.before.before.entry_at.ensures _) (c.before.before.before.before.before.before.before.before.transform-body.ensures r h)) (c.before.before.pushed.ensures _),
+            each_more _ _ (adds_arm _ (adds_walk _ _)) _ _ _ _ _ _ _ (c.before.before.before.before.before.before.before.before.before.before.before.before.before.loop.invariant.1.1.1.1 r h k) c.before.before.before.before.before.before.before.before.before.before.before.before.loop-test.true _ _ (c.before.before.before.before.before.before.before.before.before.before.before.entry_at.ensures _) (arm_made _ _ _ _ _ r _ _ _ _ _ _ _ _ k c.before.before.before.before.before.before.before.before.before.before.before.before.loop-test.true (c.before.before.before.before.before.before.before.before.before.before.before.entry_at.ensures _) (c.before.before.before.before.before.before.before.before.transform-body.ensures r h)) (c.before.before.pushed.ensures _),
       ),
     ),
   ),
@@ -384,13 +384,13 @@ transform-arms-same-length-2 : (t : ℕ) → transform-arms-lts.Need-same-length
 transform-arms-same-length-2 t c = search rules
 
 transform-arms-returns : (t : ℕ) → transform-arms-lts.Need-returns (transform-arms-calls t) (transform-arms-at t) transform-arms.Post transform-arms-Inv-loop transform-arms-μ-loop
-transform-arms-returns t c = λ r h k. each_all _ _ (adds-arm _ (adds-walk _ _)) _ _ _ _ _ (c.before.loop.invariant.1.1.1.1 r h k) c.loop-test.false
+transform-arms-returns t c = λ r h k. each_all _ _ (adds_arm _ (adds_walk _ _)) _ _ _ _ _ (c.before.loop.invariant.1.1.1.1 r h k) c.loop-test.false
 
 transform-below-push-requires : (t : ℕ) → transform-below-lts.Need-push-requires (transform-below-calls t) (transform-below-at t) transform-below.Post
 transform-below-push-requires t c κs = search rules
 
 transform-below-returns : (t : ℕ) → transform-below-lts.Need-returns (transform-below-calls t) (transform-below-at t) transform-below.Post
-transform-below-returns t c = λ r h. below-untouched _ _ _ _ _ _ _ _ c.before.before.before.before.if1.true (c.before.before.push.ensures _)
+transform-below-returns t c = λ r h. below_untouched _ _ _ _ _ _ _ _ c.before.before.before.before.if1.true (c.before.before.push.ensures _)
 
 transform-below-transform-statement-requires :
     (t : ℕ) → transform-below-lts.Need-transform-statement-requires (transform-below-calls t) (transform-below-at t) transform-below.Post
@@ -406,7 +406,7 @@ transform-below-same-length-3 : (t : ℕ) → transform-below-lts.Need-same-leng
 transform-below-same-length-3 t c = search rules
 
 transform-below-returns-2 : (t : ℕ) → transform-below-lts.Need-returns-2 (transform-below-calls t) (transform-below-at t) transform-below.Post
-transform-below-returns-2 t c = λ r h. below-done _ _ _ _ _ _ _ _ c.before.before.before.before.before.before.before.if1.false (c.before.before.before.before.transform-statement.ensures r (omega (arith, c.before.before.before.before.before.before.before.if1.false, h)))
+transform-below-returns-2 t c = λ r h. below_done _ _ _ _ _ _ _ _ c.before.before.before.before.before.before.before.if1.false (c.before.before.before.before.transform-statement.ensures r (omega (arith, c.before.before.before.before.before.before.before.if1.false, h)))
 
 transform-body-statement-start-requires :
     (t : ℕ) → transform-body-lts.Need-statement-start-requires (transform-body-calls t) (transform-body-at t) transform-body.Post
@@ -422,7 +422,7 @@ transform-body-list-place-requires : (t : ℕ) → transform-body-lts.Need-list-
 transform-body-list-place-requires t c κs = search rules
 
 transform-body-add-place : (t : ℕ) → transform-body-lts.Need-overflow-add-place (transform-body-calls t) (transform-body-at t) transform-body.Post
-transform-body-add-place t c = place-fits _ c.before.kind_at.result _ (search rules) c.list-place.ensures
+transform-body-add-place t c = place_fits _ c.before.kind_at.result _ (search rules) c.list-place.ensures
 
 transform-body-u16-at-requires : (t : ℕ) → transform-body-lts.Need-u16-at-requires (transform-body-calls t) (transform-body-at t) transform-body.Post
 transform-body-u16-at-requires t c κs = search rules
@@ -457,9 +457,9 @@ transform-body-same-length-2 t c = search rules
 
 transform-body-returns : (t : ℕ) → transform-body-lts.Need-returns (transform-body-calls t) (transform-body-at t) transform-body.Post
 transform-body-returns t c = λ r h k l.
-    body-done _ _ _ _ _ r _ _ _ _ k c.before.before.before.before.before.before.before.before.before.before.before.before.before.before.before.before.before.before.before.before.before.before.before.statement-start.ensures (c.before.before.before.before.before.before.before.before.before.before.before.before.before.before.before.before.before.before.before.before.before.before.kind_at.ensures ∙ kind-in _ _) _ _ _ _ _ _ _ _ _ _ l _ c.before.before.before.before.before.before.before.before.before.before.before.before.before.before.before.before.before.before.before.before.before.list-place.ensures c.before.before.before.before.before.before.before.before.before.before.before.before.before.before.before.before.before.before.before.before.u16-at.ensures c.before.before.before.before.before.before.before.before.before.before.before.before.before.before.before.before.before.before.before.second-u16.ensures refl
-    (c.before.before.before.before.before.before.before.before.before.before.before.before.before.before.before.before.transform-returns.ensures r h) c.before.before.before.before.before.before.before.before.before.new-list.ensures c.before.before.before.before.before.before.list-word.ensures _ _ c.before.before.before.before.before.list-field.ensures c.before.before.before.before.flag-field.ensures
-    (c.before.before.rebuild.ensures _ r.rows_are k (field-low c.before.before.before.before.before.before.before.before.before.before.before.before.before.before.before.before.before.before.before.before.before.before.kind_at.result _ c.before.before.before.before.before.list-field.ensures) (flag-low c.before.before.before.before.before.before.before.before.before.before.before.before.before.before.before.before.before.before.before.before.before.before.kind_at.result _ c.before.before.before.before.flag-field.ensures))
+    body_done _ _ _ _ _ r _ _ _ _ k c.before.before.before.before.before.before.before.before.before.before.before.before.before.before.before.before.before.before.before.before.before.before.before.statement-start.ensures (c.before.before.before.before.before.before.before.before.before.before.before.before.before.before.before.before.before.before.before.before.before.before.kind_at.ensures ∙ kind_in _ _) _ _ _ _ _ _ _ _ _ _ l _ c.before.before.before.before.before.before.before.before.before.before.before.before.before.before.before.before.before.before.before.before.before.list-place.ensures c.before.before.before.before.before.before.before.before.before.before.before.before.before.before.before.before.before.before.before.before.u16-at.ensures c.before.before.before.before.before.before.before.before.before.before.before.before.before.before.before.before.before.before.before.second-u16.ensures refl
+    (c.before.before.before.before.before.before.before.before.before.before.before.before.before.before.before.before.transform-returns.ensures r h) c.before.before.before.before.before.before.before.before.before.new-list.ensures c.before.before.before.before.before.before.list_word.ensures _ _ c.before.before.before.before.before.list-field.ensures c.before.before.before.before.flag-field.ensures
+    (c.before.before.rebuild.ensures _ r.rows_are k (field_low c.before.before.before.before.before.before.before.before.before.before.before.before.before.before.before.before.before.before.before.before.before.before.kind_at.result _ c.before.before.before.before.before.list-field.ensures) (flag_low c.before.before.before.before.before.before.before.before.before.before.before.before.before.before.before.before.before.before.before.before.before.before.kind_at.result _ c.before.before.before.before.flag-field.ensures))
 
 transform-branch-statement-start-requires : (t : ℕ) → transform-branch-lts.Need-statement-start-requires (transform-branch-calls t) (transform-branch-at t) transform-branch.Post
 transform-branch-statement-start-requires t c κs = search rules
@@ -477,10 +477,10 @@ transform-branch-same-length-2 : (t : ℕ) → transform-branch-lts.Need-same-le
 transform-branch-same-length-2 t c = search rules
 
 transform-branch-returns : (t : ℕ) → transform-branch-lts.Need-returns (transform-branch-calls t) (transform-branch-at t) transform-branch.Post
-transform-branch-returns t c = λ r h k. branch-body _ _ _ _ _ r _ _ _ _ _ k c.before.before.before.before.before.before.before.before.before.statement-start.ensures (c.before.before.before.before.before.before.before.before.kind_at.ensures ∙ kind-in _ _) _ _ c.before.before.before.before.before.before.before.if1.true (c.before.before.before.before.transform-body.ensures r h k (branch-list _ _ _ _ _ r _ _ _ k c.before.before.before.before.before.before.before.before.before.statement-start.ensures (c.before.before.before.before.before.before.before.before.kind_at.ensures ∙ kind-in _ _) c.before.before.before.before.before.before.before.if1.true))
+transform-branch-returns t c = λ r h k. branch_body _ _ _ _ _ r _ _ _ _ _ k c.before.before.before.before.before.before.before.before.before.statement-start.ensures (c.before.before.before.before.before.before.before.before.kind_at.ensures ∙ kind_in _ _) _ _ c.before.before.before.before.before.before.before.if1.true (c.before.before.before.before.transform-body.ensures r h k (branch_list _ _ _ _ _ r _ _ _ k c.before.before.before.before.before.before.before.before.before.statement-start.ensures (c.before.before.before.before.before.before.before.before.kind_at.ensures ∙ kind_in _ _) c.before.before.before.before.before.before.before.if1.true))
 
 transform-branch-returns-2 : (t : ℕ) → transform-branch-lts.Need-returns-2 (transform-branch-calls t) (transform-branch-at t) transform-branch.Post
-transform-branch-returns-2 t c = λ r h k. branch_kept _ _ _ _ _ r _ _ _ _ _ k c.before.before.statement-start.ensures (c.before.kind_at.ensures ∙ kind-in _ _) c.if1.false
+transform-branch-returns-2 t c = λ r h k. branch_kept _ _ _ _ _ r _ _ _ _ _ k c.before.before.statement-start.ensures (c.before.kind_at.ensures ∙ kind_in _ _) c.if1.false
 
 transform-conditional-statement-start-requires : (t : ℕ) → transform-conditional-lts.Need-statement-start-requires (transform-conditional-calls t) (transform-conditional-at t) transform-conditional.Post
 transform-conditional-statement-start-requires t c κs = search rules
@@ -526,9 +526,9 @@ transform-conditional-same-length-2 t c = c.before.before.before.before.before.b
 
 transform-conditional-returns : (t : ℕ) → transform-conditional-lts.Need-returns (transform-conditional-calls t) (transform-conditional-at t) transform-conditional.Post
 transform-conditional-returns t c = λ r h k.
-    conditional-both _ _ _ _ _ r _ _ h c.before.before.before.before.before.before.before.before.before.before.before.before.before.before.before.before.before.before.before.before.before.before.before.statement-start.ensures k _ _ _ _ _ _ _ _ _ _ c.before.before.before.before.before.before.before.before.before.before.before.before.before.before.before.before.before.before.before.before.before.before.u16-at.ensures c.before.before.before.before.before.before.before.before.before.before.before.before.before.before.optional-at.ensures c.before.before.before.before.before.before.before.before.before.before.before.before.other.given.1
-    (c.before.before.before.before.before.before.before.before.before.before.before.before.before.before.before.before.before.before.before.transform-branch.ensures r (omega (arith, h)) (branch-earlier _ _ _ _ _ r _ _ h c.before.before.before.before.before.before.before.before.before.before.before.before.before.before.before.before.before.before.before.before.before.before.before.statement-start.ensures k _ c.before.before.before.before.before.before.before.before.before.before.before.before.before.before.before.before.before.before.before.before.before.before.u16-at.ensures))
-    (c.before.before.before.before.before.before.before.before.transform-branch2.ensures r (omega (arith, h)) (else-earlier _ _ _ _ _ r _ _ h c.before.before.before.before.before.before.before.before.before.before.before.before.before.before.before.before.before.before.before.before.before.before.before.statement-start.ensures k _ _ c.before.before.before.before.before.before.before.before.before.before.before.before.before.before.optional-at.ensures c.before.before.before.before.before.before.before.before.before.before.before.before.other.given.1))
+    conditional_both _ _ _ _ _ r _ _ h c.before.before.before.before.before.before.before.before.before.before.before.before.before.before.before.before.before.before.before.before.before.before.before.statement-start.ensures k _ _ _ _ _ _ _ _ _ _ c.before.before.before.before.before.before.before.before.before.before.before.before.before.before.before.before.before.before.before.before.before.before.u16-at.ensures c.before.before.before.before.before.before.before.before.before.before.before.before.before.before.optional-at.ensures c.before.before.before.before.before.before.before.before.before.before.before.before.other.given.1
+    (c.before.before.before.before.before.before.before.before.before.before.before.before.before.before.before.before.before.before.before.transform-branch.ensures r (omega (arith, h)) (branch_earlier _ _ _ _ _ r _ _ h c.before.before.before.before.before.before.before.before.before.before.before.before.before.before.before.before.before.before.before.before.before.before.before.statement-start.ensures k _ c.before.before.before.before.before.before.before.before.before.before.before.before.before.before.before.before.before.before.before.before.before.before.u16-at.ensures))
+    (c.before.before.before.before.before.before.before.before.transform-branch2.ensures r (omega (arith, h)) (else_earlier _ _ _ _ _ r _ _ h c.before.before.before.before.before.before.before.before.before.before.before.before.before.before.before.before.before.before.before.before.before.before.before.statement-start.ensures k _ _ c.before.before.before.before.before.before.before.before.before.before.before.before.before.before.optional-at.ensures c.before.before.before.before.before.before.before.before.before.before.before.before.other.given.1))
     (c.before.before.rebuild-conditional.ensures _ r.rows_are h)
 
 transform-conditional-same-length-3 : (t : ℕ) → transform-conditional-lts.Need-same-length-3 (transform-conditional-calls t) (transform-conditional-at t) transform-conditional.Post
@@ -539,8 +539,8 @@ transform-conditional-same-length-4 t c = search rules
 
 transform-conditional-returns-2 : (t : ℕ) → transform-conditional-lts.Need-returns-2 (transform-conditional-calls t) (transform-conditional-at t) transform-conditional.Post
 transform-conditional-returns-2 t c = λ r h k.
-    conditional-alone _ _ _ _ _ r _ _ h c.before.before.before.before.before.before.before.before.before.before.before.before.before.before.before.statement-start.ensures k _ _ _ _ _ _ _ c.before.before.before.before.before.before.before.before.before.before.before.before.before.before.u16-at.ensures c.before.before.before.before.before.before.optional-at.ensures c.before.before.before.before.enum_told.given.1
-    (c.before.before.before.before.before.before.before.before.before.before.before.transform-branch.ensures r (omega (arith, h)) (branch-earlier _ _ _ _ _ r _ _ h c.before.before.before.before.before.before.before.before.before.before.before.before.before.before.before.statement-start.ensures k _ c.before.before.before.before.before.before.before.before.before.before.before.before.before.before.u16-at.ensures))
+    conditional_alone _ _ _ _ _ r _ _ h c.before.before.before.before.before.before.before.before.before.before.before.before.before.before.before.statement-start.ensures k _ _ _ _ _ _ _ c.before.before.before.before.before.before.before.before.before.before.before.before.before.before.u16-at.ensures c.before.before.before.before.before.before.optional-at.ensures c.before.before.before.before.enum_told.given.1
+    (c.before.before.before.before.before.before.before.before.before.before.before.transform-branch.ensures r (omega (arith, h)) (branch_earlier _ _ _ _ _ r _ _ h c.before.before.before.before.before.before.before.before.before.before.before.before.before.before.before.statement-start.ensures k _ c.before.before.before.before.before.before.before.before.before.before.before.before.before.before.u16-at.ensures))
     (c.before.before.rebuild-conditional2.ensures _ r.rows_are h)
 
 transform-match-statement-start-requires :
@@ -580,13 +580,13 @@ transform-match-same-length-2 t c = search rules
 
 transform-match-returns : (t : ℕ) → transform-match-lts.Need-returns (transform-match-calls t) (transform-match-at t) transform-match.Post
 transform-match-returns t c = λ r h k.
-    match-done _ _ _ _ _ r _ _ h c.before.before.before.before.before.before.before.before.before.before.before.before.before.before.before.before.before.before.before.statement-start.ensures k _ _ _ refl c.before.before.before.before.before.before.before.before.before.before.before.before.before.before.before.before.before.before.u16-at.ensures c.before.before.before.before.before.before.before.before.before.before.before.before.before.before.before.before.before.second-u16.ensures _ _ _ _ _ _ _ _ refl (c.before.before.before.before.before.before.before.before.before.before.before.before.before.before.transform-arms.ensures r (omega (arith, h)) (arms-in _ _ _ _ _ r _ _ h c.before.before.before.before.before.before.before.before.before.before.before.before.before.before.before.before.before.before.before.statement-start.ensures k _ _ _ refl c.before.before.before.before.before.before.before.before.before.before.before.before.before.before.before.before.before.before.u16-at.ensures c.before.before.before.before.before.before.before.before.before.before.before.before.before.before.before.before.before.second-u16.ensures)) c.before.before.before.before.before.before.before.new-list.ensures c.before.before.before.before.list-word.ensures
+    match_done _ _ _ _ _ r _ _ h c.before.before.before.before.before.before.before.before.before.before.before.before.before.before.before.before.before.before.before.statement-start.ensures k _ _ _ refl c.before.before.before.before.before.before.before.before.before.before.before.before.before.before.before.before.before.before.u16-at.ensures c.before.before.before.before.before.before.before.before.before.before.before.before.before.before.before.before.before.second-u16.ensures _ _ _ _ _ _ _ _ refl (c.before.before.before.before.before.before.before.before.before.before.before.before.before.before.transform-arms.ensures r (omega (arith, h)) (arms_in _ _ _ _ _ r _ _ h c.before.before.before.before.before.before.before.before.before.before.before.before.before.before.before.before.before.before.before.statement-start.ensures k _ _ _ refl c.before.before.before.before.before.before.before.before.before.before.before.before.before.before.before.before.before.before.u16-at.ensures c.before.before.before.before.before.before.before.before.before.before.before.before.before.before.before.before.before.second-u16.ensures)) c.before.before.before.before.before.before.before.new-list.ensures c.before.before.before.before.list_word.ensures
     (c.before.before.rebuild.ensures _ r.rows_are h (omega arith) (omega arith))
 
 abbrev transform-returns-Inv-loop : transform-returns-lts.invariant-loop
 transform-returns-Inv-loop image starts counts rows ensured limit first count scratch₀ waiting₀ next₀ i₀ scratch waiting next i =
     (i ≤ count) × ((length scratch ≡ length scratch₀) × ((length waiting ≡ length waiting₀) ×
-    (Ready image starts counts rows ensured → limit ≤ counts.statements → Flat (imageFound image starts counts) (walkBelow (clausesIn (imageFound image starts counts) ensured) limit) first count (at next₀ scratch₀ waiting₀) (at next scratch waiting) i)))
+    (Ready image starts counts rows ensured → limit ≤ counts.statements → Flat (image_found image starts counts) (walk_below (clauses_in (image_found image starts counts) ensured) limit) first count (at next₀ scratch₀ waiting₀) (at next scratch waiting) i)))
 
 abbrev transform-returns-μ-loop : transform-returns-lts.decreases-loop
 transform-returns-μ-loop image starts counts rows ensured limit first count scratch₀ waiting₀ next₀ i₀ scratch waiting next i =
@@ -596,7 +596,7 @@ transform-returns-loop-holds : (t : ℕ) → transform-returns-lts.Need-loop-ini
     transform-returns.Post
     transform-returns-Inv-loop
     transform-returns-μ-loop
-transform-returns-loop-holds t c = (omega arith, (refl, (refl, λ r h. flat-none _ _ (adds-walk _ _) _ _ _)))
+transform-returns-loop-holds t c = (omega arith, (refl, (refl, λ r h. flat_none _ _ (adds_walk _ _) _ _ _)))
 
 transform-returns-cast-entry-at : (t : ℕ) → transform-returns-lts.Need-overflow-cast-entry-at (transform-returns-calls t) (transform-returns-at t)
     transform-returns.Post
@@ -646,7 +646,7 @@ transform-returns-loop-again t c = (
     (
       search rules,
       λ r h.
-          flat-more _ _ (adds-walk _ _) _ _ _ _ _ _ (c.before.before.before.before.before.before.before.before.before.loop.invariant.1.1.1 r h) c.before.before.before.before.before.before.before.before.loop-test.true _ (c.before.before.before.before.before.before.before.entry_at.ensures _) (c.before.before.before.before.transform-below.ensures r h),
+          flat_more _ _ (adds_walk _ _) _ _ _ _ _ _ (c.before.before.before.before.before.before.before.before.before.loop.invariant.1.1.1 r h) c.before.before.before.before.before.before.before.before.loop-test.true _ (c.before.before.before.before.before.before.before.entry_at.ensures _) (c.before.before.before.before.transform-below.ensures r h),
     ),
   ),
 )
@@ -667,10 +667,10 @@ transform-returns-returns : (t : ℕ) → transform-returns-lts.Need-returns (tr
     transform-returns.Post
     transform-returns-Inv-loop
     transform-returns-μ-loop
-transform-returns-returns t c = λ r h. flat-all _ _ (adds-walk _ _) _ _ _ _ _ (c.before.loop.invariant.1.1.1 r h) c.loop-test.false
+transform-returns-returns t c = λ r h. flat_all _ _ (adds_walk _ _) _ _ _ _ _ (c.before.loop.invariant.1.1.1 r h) c.loop-test.false
 
 transform-statement-returns : (t : ℕ) → transform-statement-lts.Need-returns (transform-statement-calls t) (transform-statement-at t) transform-statement.Post
-transform-statement-returns t c = λ r h. statement-full _ _ _ _ _ _ c.if1.true
+transform-statement-returns t c = λ r h. statement_full _ _ _ _ _ _ c.if1.true
 
 transform-statement-statement-start-requires :
     (t : ℕ) → transform-statement-lts.Need-statement-start-requires (transform-statement-calls t) (transform-statement-at t) transform-statement.Post
@@ -699,7 +699,7 @@ transform-statement-same-length-2 : (t : ℕ) → transform-statement-lts.Need-s
 transform-statement-same-length-2 t c = search rules
 
 transform-statement-returns-2 : (t : ℕ) → transform-statement-lts.Need-returns-2 (transform-statement-calls t) (transform-statement-at t) transform-statement.Post
-transform-statement-returns-2 t c = λ r h. statement-return _ _ _ _ _ _ _ h c.before.before.before.before.before.before.before.before.before.before.statement-start.ensures (c.before.before.before.before.before.before.before.before.before.kind_at.ensures ∙ kind-in _ _) _ _ _ c.before.before.before.before.before.before.before.before.if2.true c.before.before.before.before.before.before.before.u16-at.ensures (c.before.before.before.before.wrap-return.ensures r.rows_are r.conditions)
+transform-statement-returns-2 t c = λ r h. statement_return _ _ _ _ _ _ _ h c.before.before.before.before.before.before.before.before.before.before.statement-start.ensures (c.before.before.before.before.before.before.before.before.before.kind_at.ensures ∙ kind_in _ _) _ _ _ c.before.before.before.before.before.before.before.before.if2.true c.before.before.before.before.before.before.before.u16-at.ensures (c.before.before.before.before.wrap-return.ensures r.rows_are r.conditions)
 
 transform-statement-null-requires : (t : ℕ) → transform-statement-lts.Need-null-requires (transform-statement-calls t) (transform-statement-at t) transform-statement.Post
 transform-statement-null-requires t c κs = search rules
@@ -715,7 +715,7 @@ transform-statement-same-length-4 : (t : ℕ) → transform-statement-lts.Need-s
 transform-statement-same-length-4 t c = search rules
 
 transform-statement-returns-3 : (t : ℕ) → transform-statement-lts.Need-returns-3 (transform-statement-calls t) (transform-statement-at t) transform-statement.Post
-transform-statement-returns-3 t c = λ r h. statement-alone _ _ _ _ _ _ _ h c.before.before.before.before.before.before.before.before.before.before.before.before.before.before.statement-start.ensures (c.before.before.before.before.before.before.before.before.before.before.before.before.before.kind_at.ensures ∙ kind-in _ _) _ _ _ _ c.before.before.before.before.before.before.before.before.before.before.before.if3.true (c.before.before.before.before.before.before.before.before.before.null.ensures _ 0 _) (c.before.before.before.before.wrap-return2.ensures r.rows_are r.conditions)
+transform-statement-returns-3 t c = λ r h. statement_alone _ _ _ _ _ _ _ h c.before.before.before.before.before.before.before.before.before.before.before.before.before.before.statement-start.ensures (c.before.before.before.before.before.before.before.before.before.before.before.before.before.kind_at.ensures ∙ kind_in _ _) _ _ _ _ c.before.before.before.before.before.before.before.before.before.before.before.if3.true (c.before.before.before.before.before.before.before.before.before.null.ensures _ 0 _) (c.before.before.before.before.wrap-return2.ensures r.rows_are r.conditions)
 
 transform-statement-transform-conditional-requires :
     (t : ℕ) → transform-statement-lts.Need-transform-conditional-requires (transform-statement-calls t) (transform-statement-at t) transform-statement.Post
@@ -731,7 +731,7 @@ transform-statement-same-length-6 : (t : ℕ) → transform-statement-lts.Need-s
 transform-statement-same-length-6 t c = search rules
 
 transform-statement-returns-4 : (t : ℕ) → transform-statement-lts.Need-returns-4 (transform-statement-calls t) (transform-statement-at t) transform-statement.Post
-transform-statement-returns-4 t c = λ r h. statement-conditional _ _ _ _ _ _ _ h c.before.before.before.before.before.before.before.before.before.before.before.before.before.before.before.statement-start.ensures (c.before.before.before.before.before.before.before.before.before.before.before.before.before.before.kind_at.ensures ∙ kind-in _ _) _ _ _ _ c.before.before.before.before.before.before.before.before.before.before.before.if4.true (c.before.before.before.before.before.before.before.before.transform-conditional.ensures r h (kind-here _ _ _ _ _ r _ _ _ h c.before.before.before.before.before.before.before.before.before.before.before.before.before.before.before.statement-start.ensures (c.before.before.before.before.before.before.before.before.before.before.before.before.before.before.kind_at.ensures ∙ kind-in _ _) _ c.before.before.before.before.before.before.before.before.before.before.before.if4.true)) (c.before.before.pushed.ensures _)
+transform-statement-returns-4 t c = λ r h. statement_conditional _ _ _ _ _ _ _ h c.before.before.before.before.before.before.before.before.before.before.before.before.before.before.before.statement-start.ensures (c.before.before.before.before.before.before.before.before.before.before.before.before.before.before.kind_at.ensures ∙ kind_in _ _) _ _ _ _ c.before.before.before.before.before.before.before.before.before.before.before.if4.true (c.before.before.before.before.before.before.before.before.transform-conditional.ensures r h (kind_here _ _ _ _ _ r _ _ _ h c.before.before.before.before.before.before.before.before.before.before.before.before.before.before.before.statement-start.ensures (c.before.before.before.before.before.before.before.before.before.before.before.before.before.before.kind_at.ensures ∙ kind_in _ _) _ c.before.before.before.before.before.before.before.before.before.before.before.if4.true)) (c.before.before.pushed.ensures _)
 
 transform-statement-transform-match-requires :
     (t : ℕ) → transform-statement-lts.Need-transform-match-requires (transform-statement-calls t) (transform-statement-at t) transform-statement.Post
@@ -747,7 +747,7 @@ transform-statement-same-length-8 : (t : ℕ) → transform-statement-lts.Need-s
 transform-statement-same-length-8 t c = search rules
 
 transform-statement-returns-5 : (t : ℕ) → transform-statement-lts.Need-returns-5 (transform-statement-calls t) (transform-statement-at t) transform-statement.Post
-transform-statement-returns-5 t c = λ r h. statement-match _ _ _ _ _ _ _ h c.before.before.before.before.before.before.before.before.before.before.before.before.before.before.before.before.statement-start.ensures (c.before.before.before.before.before.before.before.before.before.before.before.before.before.before.before.kind_at.ensures ∙ kind-in _ _) _ _ _ _ c.before.before.before.before.before.before.before.before.before.before.before.if5.true (c.before.before.before.before.before.before.before.before.transform-match.ensures r h (kind-here _ _ _ _ _ r _ _ _ h c.before.before.before.before.before.before.before.before.before.before.before.before.before.before.before.before.statement-start.ensures (c.before.before.before.before.before.before.before.before.before.before.before.before.before.before.before.kind_at.ensures ∙ kind-in _ _) _ c.before.before.before.before.before.before.before.before.before.before.before.if5.true)) (c.before.before.pushed2.ensures _)
+transform-statement-returns-5 t c = λ r h. statement_match _ _ _ _ _ _ _ h c.before.before.before.before.before.before.before.before.before.before.before.before.before.before.before.before.statement-start.ensures (c.before.before.before.before.before.before.before.before.before.before.before.before.before.before.before.kind_at.ensures ∙ kind_in _ _) _ _ _ _ c.before.before.before.before.before.before.before.before.before.before.before.if5.true (c.before.before.before.before.before.before.before.before.transform-match.ensures r h (kind_here _ _ _ _ _ r _ _ _ h c.before.before.before.before.before.before.before.before.before.before.before.before.before.before.before.before.statement-start.ensures (c.before.before.before.before.before.before.before.before.before.before.before.before.before.before.before.kind_at.ensures ∙ kind_in _ _) _ c.before.before.before.before.before.before.before.before.before.before.before.if5.true)) (c.before.before.pushed2.ensures _)
 
 transform-statement-push-requires : (t : ℕ) → transform-statement-lts.Need-push-requires (transform-statement-calls t) (transform-statement-at t) transform-statement.Post
 transform-statement-push-requires t c κs = search rules
@@ -756,7 +756,7 @@ transform-statement-same-length-9 : (t : ℕ) → transform-statement-lts.Need-s
 transform-statement-same-length-9 t c = search rules
 
 transform-statement-returns-6 : (t : ℕ) → transform-statement-lts.Need-returns-6 (transform-statement-calls t) (transform-statement-at t) transform-statement.Post
-transform-statement-returns-6 t c = λ r h. statement-kept _ _ _ _ _ _ _ h c.before.before.before.before.before.before.before.before.before.before.statement-start.ensures (c.before.before.before.before.before.before.before.before.before.kind_at.ensures ∙ kind-in _ _) _ _ c.before.before.before.before.before.before.before.before.if2.false c.before.before.before.before.before.before.before.if3.false c.before.before.before.before.before.before.if4.false c.before.before.before.before.before.if5.false (inl c.before.before.before.before.if6.true) (c.before.before.push.ensures _)
+transform-statement-returns-6 t c = λ r h. statement_kept _ _ _ _ _ _ _ h c.before.before.before.before.before.before.before.before.before.before.statement-start.ensures (c.before.before.before.before.before.before.before.before.before.kind_at.ensures ∙ kind_in _ _) _ _ c.before.before.before.before.before.before.before.before.if2.false c.before.before.before.before.before.before.before.if3.false c.before.before.before.before.before.before.if4.false c.before.before.before.before.before.if5.false (inl c.before.before.before.before.if6.true) (c.before.before.push.ensures _)
 
 transform-statement-push-requires-2 : (t : ℕ) → transform-statement-lts.Need-push-requires-2 (transform-statement-calls t) (transform-statement-at t) transform-statement.Post
 transform-statement-push-requires-2 t c κs = search rules
@@ -765,7 +765,7 @@ transform-statement-same-length-10 : (t : ℕ) → transform-statement-lts.Need-
 transform-statement-same-length-10 t c = search rules
 
 transform-statement-returns-7 : (t : ℕ) → transform-statement-lts.Need-returns-7 (transform-statement-calls t) (transform-statement-at t) transform-statement.Post
-transform-statement-returns-7 t c = λ r h. statement-kept _ _ _ _ _ _ _ h c.before.before.before.before.before.before.before.before.before.before.before.statement-start.ensures (c.before.before.before.before.before.before.before.before.before.before.kind_at.ensures ∙ kind-in _ _) _ _ c.before.before.before.before.before.before.before.before.before.if2.false c.before.before.before.before.before.before.before.before.if3.false c.before.before.before.before.before.before.before.if4.false c.before.before.before.before.before.before.if5.false (inr c.before.before.before.before.if7.true) (c.before.before.push2.ensures _)
+transform-statement-returns-7 t c = λ r h. statement_kept _ _ _ _ _ _ _ h c.before.before.before.before.before.before.before.before.before.before.before.statement-start.ensures (c.before.before.before.before.before.before.before.before.before.before.kind_at.ensures ∙ kind_in _ _) _ _ c.before.before.before.before.before.before.before.before.before.if2.false c.before.before.before.before.before.before.before.before.if3.false c.before.before.before.before.before.before.before.if4.false c.before.before.before.before.before.before.if5.false (inr c.before.before.before.before.if7.true) (c.before.before.push2.ensures _)
 
 transform-statement-transform-body-requires :
     (t : ℕ) → transform-statement-lts.Need-transform-body-requires (transform-statement-calls t) (transform-statement-at t) transform-statement.Post
@@ -781,7 +781,7 @@ transform-statement-same-length-12 : (t : ℕ) → transform-statement-lts.Need-
 transform-statement-same-length-12 t c = search rules
 
 transform-statement-returns-8 : (t : ℕ) → transform-statement-lts.Need-returns-8 (transform-statement-calls t) (transform-statement-at t) transform-statement.Post
-transform-statement-returns-8 t c = λ r h. statement-loop _ _ _ _ _ _ _ h c.before.before.before.before.before.before.before.before.before.before.before.before.before.before.before.before.before.before.statement-start.ensures (c.before.before.before.before.before.before.before.before.before.before.before.before.before.before.before.before.before.kind_at.ensures ∙ kind-in _ _) _ _ _ _ c.before.before.before.before.before.before.before.before.before.before.before.before.if6.false c.before.before.before.before.before.before.before.before.before.before.before.if7.false (c.before.before.before.before.before.before.before.before.transform-body.ensures r (omega (arith, h)) h (loop-list _ _ _ _ _ r _ _ _ h c.before.before.before.before.before.before.before.before.before.before.before.before.before.before.before.before.before.before.statement-start.ensures (c.before.before.before.before.before.before.before.before.before.before.before.before.before.before.before.before.before.kind_at.ensures ∙ kind-in _ _) c.before.before.before.before.before.before.before.before.before.before.before.before.if6.false c.before.before.before.before.before.before.before.before.before.before.before.if7.false)) (c.before.before.pushed3.ensures _)
+transform-statement-returns-8 t c = λ r h. statement_loop _ _ _ _ _ _ _ h c.before.before.before.before.before.before.before.before.before.before.before.before.before.before.before.before.before.before.statement-start.ensures (c.before.before.before.before.before.before.before.before.before.before.before.before.before.before.before.before.before.kind_at.ensures ∙ kind_in _ _) _ _ _ _ c.before.before.before.before.before.before.before.before.before.before.before.before.if6.false c.before.before.before.before.before.before.before.before.before.before.before.if7.false (c.before.before.before.before.before.before.before.before.transform-body.ensures r (omega (arith, h)) h (loop_list _ _ _ _ _ r _ _ _ h c.before.before.before.before.before.before.before.before.before.before.before.before.before.before.before.before.before.before.statement-start.ensures (c.before.before.before.before.before.before.before.before.before.before.before.before.before.before.before.before.before.kind_at.ensures ∙ kind_in _ _) c.before.before.before.before.before.before.before.before.before.before.before.before.if6.false c.before.before.before.before.before.before.before.before.before.before.before.if7.false)) (c.before.before.pushed3.ensures _)
 
 pub +transform-arms-transform-below-transform-body-transform-branch-transform-conditional-transform-match-transform-returns-transform-statement-spec :
     {M : Type 1} → statement M
@@ -912,8 +912,8 @@ pub +transform-arms-transform-below-transform-body-transform-branch-transform-co
       u16-at-reads.Learnt,
       wrap-return-reads.Asked,
       wrap-return-reads.Learnt,
-      null-reads.Asked,
-      null-reads.Learnt,
+      null_reads.Asked,
+      null_reads.Learnt,
       transform-conditional-below t,
       transform-conditional.Post,
       pushed-reads.Asked,

@@ -2,11 +2,11 @@ use native.Mathlib.Omega.{arith}
 use borrow.Author.Rules.{rules}
 use Prim.Native.Nat.{◌+◌}
 use mathlib.Core.Path.{refl}
-use Rattle.rl_transform.proofs.Rebuilding.{Reading, reading-none, reading-index, reading-place, reading-more, reading-all}
+use Rattle.rl_transform.proofs.Rebuilding.{Reading, reading_none, reading_index, reading_place, reading_more, reading_all}
 use Rattle.rl_transform.proofs.rebuild.fields_of.Statement.{statement}
 use Rattle.rl_transform.proofs.rebuild.fields_of.Tie as tie
 
-ruleset laws = (reading-index, reading-place, reading-more, reading-all)
+ruleset laws = (reading_index, reading_place, reading_more, reading_all)
 
 abbrev invariant-loop : tie.invariant-loop
 invariant-loop image row start words₀ rest₀ place₀ j₀ words rest place j = Reading image row (start + 1) words rest place j
@@ -18,7 +18,7 @@ add-place : tie.Need-overflow-add-place invariant-loop decreases-loop
 add-place c = search rules
 
 loop-holds : tie.Need-loop-init invariant-loop decreases-loop
-loop-holds c = reading-none _ _ _ _ (search rules) (omega arith) refl
+loop-holds c = reading_none _ _ _ _ (search rules) (omega arith) refl
 
 cast-code : tie.Need-overflow-cast-code invariant-loop decreases-loop
 cast-code c = search rules

@@ -1,8 +1,8 @@
 use mathlib.Core.Path.{◌∙◌}
 use borrow.Author.Rules.{rules}
-use Rattle.rl_schema.proofs.Rows.{row-codes}
-use Rattle.rl_context.proofs.Copying.{kind-in}
-use Rattle.rl_transform.proofs.Rebuilding.{makes-rebuilt}
+use Rattle.rl_schema.proofs.Rows.{row_codes}
+use Rattle.rl_context.proofs.Copying.{kind_in}
+use Rattle.rl_transform.proofs.Rebuilding.{makes_rebuilt}
 use Rattle.rl_transform.proofs.rebuild.rebuild.Statement.{statement}
 use Rattle.rl_transform.proofs.rebuild.rebuild.Tie as tie
 
@@ -41,16 +41,16 @@ same_length c = search rules
 
 returns : tie.Need-returns
 returns c = λ w r h j k.
-    makes-rebuilt _ _ _ _ _ _ h
+    makes_rebuilt _ _ _ _ _ _ h
     c.before.before.before.before.before.before.before.before.before.before.before.before.before.before.statement-start.ensures
-    (c.before.before.before.before.before.before.before.before.before.before.before.before.before.kind_at.ensures ∙ kind-in _ _) _
-    (row-codes _ _ _ r c.before.before.before.before.before.before.before.before.before.before.before.before.row_of.ensures) _
+    (c.before.before.before.before.before.before.before.before.before.before.before.before.before.kind_at.ensures ∙ kind_in _ _) _
+    (row_codes _ _ _ r c.before.before.before.before.before.before.before.before.before.before.before.before.row_of.ensures) _
     c.before.before.before.before.before.before.before.before.before.before.before.fields-of.ensures.0
     c.before.before.before.before.before.before.before.before.before.before.before.fields-of.ensures.1 _ _ _ _ j k _ _
     c.before.before.before.before.before.before.before.before.before.put-long.ensures
     c.before.before.before.before.before.before.put-long2.ensures _ _ _
     (c.before.before.new-statement.ensures _ 0 w
-    (row-codes _ _ _ r c.before.before.before.before.before.before.before.before.before.before.before.before.row_of.ensures))
+    (row_codes _ _ _ r c.before.before.before.before.before.before.before.before.before.before.before.before.row_of.ensures))
 
 pub rebuild-spec : {M : Type 1} → statement M
 rebuild-spec =

@@ -1,9 +1,9 @@
 use borrow.Author.Rules.{rules}
 use Rattle.rl_words.proofs.literals.float32.Statement.{statement}
 use Rattle.rl_words.proofs.literals.float32.Tie as tie
-use Rattle.rl_words.proofs.LiteralLaws.{nan32, no-nan32, widens}
+use Rattle.rl_words.proofs.LiteralLaws.{nan32, no_nan32, widens}
 
-ruleset laws = (nan32, no-nan32, widens)
+ruleset laws = (nan32, no_nan32, widens)
 
 returns : tie.Need-returns
 returns c = search (laws, rules)

@@ -1,9 +1,9 @@
 use borrow.Author.Rules.{rules}
 use Rattle.rl_words.proofs.literals.float64.Statement.{statement}
 use Rattle.rl_words.proofs.literals.float64.Tie as tie
-use Rattle.rl_words.proofs.LiteralLaws.{nan64, no-nan64}
+use Rattle.rl_words.proofs.LiteralLaws.{nan64, no_nan64}
 
-ruleset laws = (nan64, no-nan64)
+ruleset laws = (nan64, no_nan64)
 
 returns : tie.Need-returns
 returns c = search (laws, rules)

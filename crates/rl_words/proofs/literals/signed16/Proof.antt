@@ -1,9 +1,9 @@
 use borrow.Author.Rules.{rules}
 use Rattle.rl_words.proofs.literals.signed16.Statement.{statement}
 use Rattle.rl_words.proofs.literals.signed16.Tie as tie
-use Rattle.rl_words.proofs.LiteralLaws.{low16, high16-fits, high16}
+use Rattle.rl_words.proofs.LiteralLaws.{low16, high16_fits, high16}
 
-ruleset laws = (low16, high16-fits, high16)
+ruleset laws = (low16, high16_fits, high16)
 
 cast-result : tie.Need-overflow-cast-result
 cast-result c = search rules

@@ -1,9 +1,9 @@
 use borrow.Author.Rules.{rules}
 use Rattle.rl_words.proofs.literals.signed32.Statement.{statement}
 use Rattle.rl_words.proofs.literals.signed32.Tie as tie
-use Rattle.rl_words.proofs.LiteralLaws.{low32, high32-fits, high32}
+use Rattle.rl_words.proofs.LiteralLaws.{low32, high32_fits, high32}
 
-ruleset laws = (low32, high32-fits, high32)
+ruleset laws = (low32, high32_fits, high32)
 
 cast-result : tie.Need-overflow-cast-result
 cast-result c = search rules

@@ -1,9 +1,9 @@
 use borrow.Author.Rules.{rules}
 use Rattle.rl_words.proofs.literals.signed64.Statement.{statement}
 use Rattle.rl_words.proofs.literals.signed64.Tie as tie
-use Rattle.rl_words.proofs.LiteralLaws.{low64, high64-fits, high64}
+use Rattle.rl_words.proofs.LiteralLaws.{low64, high64_fits, high64}
 
-ruleset laws = (low64, high64-fits, high64)
+ruleset laws = (low64, high64_fits, high64)
 
 cast-result : tie.Need-overflow-cast-result
 cast-result c = search rules

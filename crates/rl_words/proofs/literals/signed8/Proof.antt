@@ -1,9 +1,9 @@
 use borrow.Author.Rules.{rules}
 use Rattle.rl_words.proofs.literals.signed8.Statement.{statement}
 use Rattle.rl_words.proofs.literals.signed8.Tie as tie
-use Rattle.rl_words.proofs.LiteralLaws.{low8, high8-fits, high8}
+use Rattle.rl_words.proofs.LiteralLaws.{low8, high8_fits, high8}
 
-ruleset laws = (low8, high8-fits, high8)
+ruleset laws = (low8, high8_fits, high8)
 
 cast-result : tie.Need-overflow-cast-result
 cast-result c = search rules

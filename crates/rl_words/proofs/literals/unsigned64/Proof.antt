@@ -1,9 +1,9 @@
 use borrow.Author.Rules.{rules}
 use Rattle.rl_words.proofs.literals.unsigned64.Statement.{statement}
 use Rattle.rl_words.proofs.literals.unsigned64.Tie as tie
-use Rattle.rl_words.proofs.LiteralLaws.{unsigned_is, unsigned-none}
+use Rattle.rl_words.proofs.LiteralLaws.{unsigned_is, unsigned_none}
 
-ruleset laws = (unsigned_is, unsigned-none)
+ruleset laws = (unsigned_is, unsigned_none)
 
 cast-t3 : tie.Need-overflow-cast-t3
 cast-t3 c = search rules

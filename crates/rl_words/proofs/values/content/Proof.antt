@@ -1,7 +1,7 @@
 use borrow.Author.Rules.{rules}
 use Rattle.rl_words.proofs.values.content.Statement.{statement}
 use Rattle.rl_words.proofs.values.content.Tie as tie
-use Rattle.rl_words.proofs.ValueLaws.{content-const}
+use Rattle.rl_words.proofs.ValueLaws.{content_const}
 
 plain-in-requires : tie.Need-plain-in-requires
 plain-in-requires c κs = search rules
@@ -16,7 +16,7 @@ returns : tie.Need-returns
 returns c = search rules
 
 returns-2 : tie.Need-returns-2
-returns-2 c = search (content-const, rules)
+returns-2 c = search (content_const, rules)
 
 pub content-spec : {M : Type 1} → statement M
 content-spec = tie.close (tie.spec plain-in-requires enum_told enum-known-p returns returns-2)

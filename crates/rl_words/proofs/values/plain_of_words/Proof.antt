@@ -1,9 +1,9 @@
 use borrow.Author.Rules.{rules}
 use Rattle.rl_words.proofs.values.plain_of_words.Statement.{statement}
 use Rattle.rl_words.proofs.values.plain_of_words.Tie as tie
-use Rattle.rl_words.proofs.ValueLaws.{plain-null, plain-const}
+use Rattle.rl_words.proofs.ValueLaws.{plain_null, plain_const}
 
-ruleset laws = (plain-null, plain-const)
+ruleset laws = (plain_null, plain_const)
 
 words-value-requires : tie.Need-words-value-requires
 words-value-requires c κs = search rules

@@ -1,9 +1,9 @@
 use borrow.Author.Rules.{rules}
 use Rattle.rl_words.proofs.values.value_of_words.Statement.{statement}
 use Rattle.rl_words.proofs.values.value_of_words.Tie as tie
-use Rattle.rl_words.proofs.ValueLaws.{words-bare, words-ok, words-err}
+use Rattle.rl_words.proofs.ValueLaws.{words_bare, words_ok, words_err}
 
-ruleset laws = (words-bare, words-ok, words-err)
+ruleset laws = (words_bare, words_ok, words_err)
 
 plain-of-words-requires : tie.Need-plain-of-words-requires
 plain-of-words-requires c κs = search rules

@@ -1,9 +1,9 @@
 use borrow.Author.Rules.{rules}
 use Rattle.rl_words.proofs.values.value_payload.Statement.{statement}
 use Rattle.rl_words.proofs.values.value_payload.Tie as tie
-use Rattle.rl_words.proofs.ValueLaws.{payload-is, payload-back}
+use Rattle.rl_words.proofs.ValueLaws.{payload_is, payload_back}
 
-ruleset laws = (payload-is, payload-back)
+ruleset laws = (payload_is, payload_back)
 
 content-requires : tie.Need-content-requires
 content-requires c κs = search rules

@@ -1,9 +1,9 @@
 use borrow.Author.Rules.{rules}
 use Rattle.rl_words.proofs.values.value_sort.Statement.{statement}
 use Rattle.rl_words.proofs.values.value_sort.Tie as tie
-use Rattle.rl_words.proofs.ValueLaws.{sort-fits, sort-alone, sort-below, sort-bare, sort-ok, sort-err}
+use Rattle.rl_words.proofs.ValueLaws.{sort_fits, sort_alone, sort_below, sort_bare, sort_ok, sort_err}
 
-ruleset laws = (sort-fits, sort-alone, sort-below, sort-bare, sort-ok, sort-err)
+ruleset laws = (sort_fits, sort_alone, sort_below, sort_bare, sort_ok, sort_err)
 
 content-requires : tie.Need-content-requires
 content-requires c κs = search rules
