@@ -53,6 +53,16 @@ def of_function(path):
     return len(parts) == 2 and "/" in parts[1] and parts[1].rsplit("/", 1)[1] in ("Proof.antt", "Answers.antt", "Invariants.antt")
 
 
+def of_libraries(text):
+    """The names that a file takes from the libraries, which keep their spelling there."""
+    taken = set()
+    for module, items in re.findall(r"\buse ([^\s;{]+?)\.\{([^}]*)\}", text):
+        if not module.startswith("Rattle.rl_"):
+            for item in items.split(","):
+                taken.update(item.split(" as ")[-1].split())
+    return taken
+
+
 def table():
     own, made, seen = set(), set(), collections.defaultdict(set)
     for path in files("crates", ".antt"):
@@ -137,7 +147,9 @@ def main():
         new = text
         if path.endswith(".antt"):
             new = turn_lemmas(text)
-        new = turn_antt(new, turned if not of_function(path) else own_only)
+        names = own_only if of_function(path) else turned
+        borrowed = of_libraries(text)
+        new = turn_antt(new, {w: n for w, n in names.items() if w not in borrowed} if borrowed & names.keys() else names)
         if new != text:
             with open(path, "w", encoding="utf-8") as f:
                 f.write(new)

@@ -1,4 +1,6 @@
 // Both forms of comparing texts, byte by byte and by words, for the benchmark. No export of the library reaches this crate.
+#![tactic(auto)]
+
 ghost use Rattle.std.specs.Prelude.{◌≡◌};
 ghost use Rattle.rl_spec.specs.Values.{same_text, less_text};
 

@@ -17,7 +17,7 @@ use Rattle.rl_spec.specs.Read.{number_of, answer_of}
 use Rattle.rl_spec.specs.Image.{image_of}
 use Rattle.rl_spec.specs.Fold.{work_unless}
 use Rattle.rl_spec.specs.Records.{function_at}
-use Rattle.rl_spec.specs.Runner.{is_for, all_have_lem, given, ran_in, run_by, run_of, run_number}
+use Rattle.rl_spec.specs.Runner.{is_for, all_have, given, ran_in, run_by, run_of, run_number}
 use Rattle.rl_spec.specs.Boundary.{above, arguments_of, outcome_words, run_packed, run_words}
 use Rattle.rl_images.specs.Reading.Places.{place_small}
 
@@ -42,7 +42,7 @@ run_place s k f args budget q p h = go (answer_of s k) refl h
     go : (a : Answer) → answer_of s k ≡ a → run_by s f args budget a ≡ Refused q p → p ≤ 65535
     go (read.Refused c n) e g = let m : n ≡ p = ap place g in omega (arith, place_small s k c n e)
     go (read.Accepted m c) e g =
-        let z : 0 ≡ p = sym (chosen (not (ltb f c.functions)) (not (is_for args.count (function_at (image_of s) f).params.count)) (not (all_have_lem c (given args))) (ltb 1000000 budget) (ran_in (image_of s) f (given args) budget) refl) ∙ ap place g in
+        let z : 0 ≡ p = sym (chosen (not (ltb f c.functions)) (not (is_for args.count (function_at (image_of s) f).params.count)) (not (all_have c (given args))) (ltb 1000000 budget) (ran_in (image_of s) f (given args) budget) refl) ∙ ap place g in
         omega arith
 
 -- ---- the ways out

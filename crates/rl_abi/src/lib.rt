@@ -1,4 +1,6 @@
 // The functions that C and Rust call. include/rl_contracts.h declares them for C.
+#![tactic(auto)]
+
 ghost use Rattle.std.specs.Prelude.{◌≡◌, length};
 ghost use Rattle.rl_spec.specs.Read.{packed, answer_of, work_of};
 ghost use Rattle.rl_spec.specs.Fold.{fold_of, fold_number, work_unless};

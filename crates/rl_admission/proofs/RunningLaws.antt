@@ -22,7 +22,7 @@ use Rattle.rl_spec.specs.declared.Value.{Value}
 use Rattle.rl_spec.specs.declared.Value.TheVariants.{Plain as Bare, Ok, Err}
 use Rattle.rl_spec.specs.Image.{Image}
 use Rattle.rl_spec.specs.Records.{function_at}
-use Rattle.rl_spec.specs.Runner.{plain_has, value_has, all_have_lem, given}
+use Rattle.rl_spec.specs.Runner.{plain_has, value_has, all_have, given}
 use Rattle.rl_admission.specs.declared.Admission.{Admission}
 use Rattle.rl_admission.specs.declared.Admission.TheVariants.{Admitted, Refused}
 use Rattle.rl_admission.specs.Running.{run_admission}
@@ -44,12 +44,12 @@ module _ (c : Counts) (v : Value) (p : Plain) (b : Bool) (e : b ≡ plain_has c 
 
 -- ---- the values that are given
 
-module _ (c : Counts) (args : Arguments) (i : ℕ) (len : length args.values ≡ 16) (e : all_have_lem c (given args) ≡ all_have_lem c (drop i (given args))) where
+module _ (c : Counts) (args : Arguments) (i : ℕ) (len : length args.values ≡ 16) (e : all_have c (given args) ≡ all_have c (drop i (given args))) where
   long : length (given args) ≡ min args.count 16
   long = length-take args.count args.values ∙ ap (min args.count) len
 
-  pub have_all : min args.count 16 ≤ i → true ≡ all_have_lem c (given args)
-  unfolding all_have_lem
+  pub have_all : min args.count 16 ≤ i → true ≡ all_have c (given args)
+  unfolding all_have
   have_all h = rw (e, drop_of_length-le (given args) {i = i} (rw long h)) refl
 
   module _ (h : i < 16) (k : i < args.count) (a : Argument) where
@@ -60,12 +60,12 @@ module _ (c : Counts) (args : Arguments) (i : ℕ) (len : length args.values ≡
         ∙ ap (λ x. x ∷ drop (suc i) (given args)) (get_or-take args.count args.values i a k))
 
     module _ (b : Bool) (d : b ≡ value_has c (get_or args.values i a).value) where
-      pub have_not : b ≡ false → false ≡ all_have_lem c (given args)
-      unfolding all_have_lem
+      pub have_not : b ≡ false → false ≡ all_have c (given args)
+      unfolding all_have
       have_not f = rw (e, next, ← d, f) refl
 
-      pub have_more : b ≡ true → all_have_lem c (given args) ≡ all_have_lem c (drop (i + 1) (given args))
-      unfolding all_have_lem
+      pub have_more : b ≡ true → all_have c (given args) ≡ all_have c (drop (i + 1) (given args))
+      unfolding all_have
       have_more f = rw (e, next, ← d, f) refl
 
 -- ---- the table
@@ -88,7 +88,7 @@ module _ (im : Image) (c : Counts) (f : ℕ) (args : Arguments) (budget : ℕ) w
       unfolding run_admission
       over_sixteen k = rw (lt-ltb f c.functions h, ← e, eq-eqb args.count x.params.count g, lt-ltb 16 args.count k) refl
 
-      module _ (k : args.count ≤ 16) (b : Bool) (d : b ≡ all_have_lem c (given args)) where
+      module _ (k : args.count ≤ 16) (b : Bool) (d : b ≡ all_have c (given args)) where
         pub no_text : b ≡ false → Answers (Refused NoSuchText)
         unfolding run_admission
         no_text t = rw (lt-ltb f c.functions h, ← e, eq-eqb args.count x.params.count g, le-ltb 16 args.count k, ← d, t) refl

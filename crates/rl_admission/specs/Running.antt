@@ -7,7 +7,7 @@ use Rattle.rl_spec.specs.declared.RunAnswer.{RunAnswer}
 use Rattle.rl_spec.specs.declared.RunAnswer.TheVariants as run
 use Rattle.rl_spec.specs.Image.{Image}
 use Rattle.rl_spec.specs.Records.{function_at}
-use Rattle.rl_spec.specs.Runner.{is_for, all_have_lem, given}
+use Rattle.rl_spec.specs.Runner.{is_for, all_have, given}
 use Rattle.rl_admission.specs.declared.Admission.{Admission}
 use Rattle.rl_admission.specs.declared.Admission.TheVariants.{Admitted, Refused}
 
@@ -15,7 +15,7 @@ unfoldable pub run_admission : Image → Counts → ℕ → Arguments → ℕ �
 run_admission im c f args budget =
     cond (not (ltb f c.functions)) (Refused NoSuchFunction)
     (cond (not (is_for args.count (function_at im f).params.count)) (Refused WrongValues)
-    (cond (not (all_have_lem c (given args))) (Refused NoSuchText)
+    (cond (not (all_have c (given args))) (Refused NoSuchText)
     (cond (ltb 1000000 budget) (Refused BudgetOverLimit) Admitted)))
 
 abbrev pub run_or : Admission → RunAnswer → RunAnswer

@@ -1,4 +1,6 @@
 // What is checked between reading and lowering or running.
+#![tactic(auto)]
+
 mod lowering;
 mod running;
 

@@ -16,7 +16,7 @@ use Rattle.rl_spec.specs.declared.Id.{Id}
 use Rattle.rl_spec.specs.declared.Sort.{Sort}
 use Rattle.rl_spec.specs.Bytes.{num_at, u16_at, u32_at}
 use Rattle.rl_spec.specs.Schema.{sort_of, width_of}
-use Rattle.rl_spec.specs.Image.{Field, no_field, first, second, is_pair, field_in_lem, fields_at, record_in}
+use Rattle.rl_spec.specs.Image.{Field, no_field, first, second, is_pair, field_in, fields_at, record_in}
 use Rattle.rl_bytes.proofs.Laws.{one, two, four}
 use Rattle.rl_schema.specs.Codes.{codes}
 use Rattle.rl_schema.proofs.Rows.{codes_none, codes_more}
@@ -114,20 +114,20 @@ width_fits c o e m f = omega (arith, width_small c o e m f)
 
 module _ (s : List ℕ) (c at : ℕ) (o : Sort) (e : o ≡ sort_of c) (b : Bool) (f : b ≡ is_pair o) where
   module _ (t : b ≡ true) (r : ℕ) where
-    pub first_pair : r ≡ u16_at s at → r ≡ first (field_in_lem s (sort_of c) at)
+    pub first_pair : r ≡ u16_at s at → r ≡ first (field_in s (sort_of c) at)
     first_pair g = rw (← e, ← f, t) g
 
-    pub second_pair : r ≡ u16_at s (at + 2) → r ≡ second (field_in_lem s (sort_of c) at)
+    pub second_pair : r ≡ u16_at s (at + 2) → r ≡ second (field_in s (sort_of c) at)
     second_pair g = rw (← e, ← f, t) g
 
   module _ (t : b ≡ false) where
-    pub first_number : (m : ℕ) → m ≡ width_of o → (r : ℕ) → r ≡ number_in s at m → r ≡ first (field_in_lem s (sort_of c) at)
+    pub first_number : (m : ℕ) → m ≡ width_of o → (r : ℕ) → r ≡ number_in s at m → r ≡ first (field_in s (sort_of c) at)
     unfolding number_in
     first_number m g r h =
         let w : is_width m ≡ true = rw (g, e) (narrow c).0 in
         rw (← e, ← f, t, ← g) (rw w at h)
 
-    pub second_number : 0 ≡ second (field_in_lem s (sort_of c) at)
+    pub second_number : 0 ≡ second (field_in s (sort_of c) at)
     second_number = rw (← e, ← f, t) refl
 
 -- ---- the fields: `whole` is what the loop has to answer, and v its invariant
@@ -157,7 +157,7 @@ module _ (c : ℕ) (o : Sort) (e : o ≡ sort_of c) (m : ℕ) (f : m ≡ width_o
 
 -- the field that stands at a spot
 abbrev field_by : List ℕ → Spot → Field
-field_by s (spot.Field c at) = field_in_lem s (sort_of c) at
+field_by s (spot.Field c at) = field_in s (sort_of c) at
 field_by s spot.Nothing = no_field
 
 spot_field : (s cs : List ℕ) (at j : ℕ) → field_by s (spot_of cs at j) ≡ get_or (fields_at s cs at) j no_field
@@ -178,8 +178,8 @@ module _ (s : List ℕ) (row at j : ℕ) (x : Spot) (e : x ≡ spot_of (codes ro
     second_nothing = rw (found no_field (ap (field_by s) g)) refl
 
   module _ (c q : ℕ) (g : x ≡ spot.Field c q) (r : ℕ) where
-    pub first_found : r ≡ first (field_in_lem s (sort_of c) q) → r ≡ first (get_or (fields_at s (codes row) (at + 1)) j no_field)
-    first_found h = rw (found (field_in_lem s (sort_of c) q) (ap (field_by s) g)) h
+    pub first_found : r ≡ first (field_in s (sort_of c) q) → r ≡ first (get_or (fields_at s (codes row) (at + 1)) j no_field)
+    first_found h = rw (found (field_in s (sort_of c) q) (ap (field_by s) g)) h
 
-    pub second_found : r ≡ second (field_in_lem s (sort_of c) q) → r ≡ second (get_or (fields_at s (codes row) (at + 1)) j no_field)
-    second_found h = rw (found (field_in_lem s (sort_of c) q) (ap (field_by s) g)) h
+    pub second_found : r ≡ second (field_in s (sort_of c) q) → r ≡ second (get_or (fields_at s (codes row) (at + 1)) j no_field)
+    second_found h = rw (found (field_in s (sort_of c) q) (ap (field_by s) g)) h

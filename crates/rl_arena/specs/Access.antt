@@ -14,7 +14,7 @@ use Rattle.rl_spec.specs.declared.Section.{Section}
 use Rattle.rl_spec.specs.declared.Section.TheVariants.{Expressions, Statements}
 use Rattle.rl_spec.specs.Bytes.{num_at}
 use Rattle.rl_spec.specs.Read.{answer_of, starts_of}
-use Rattle.rl_spec.specs.Image.{no_field, record_of_lem, field_of, fields_at, record_in, image_of}
+use Rattle.rl_spec.specs.Image.{no_field, record_of, field_of, fields_at, record_in, image_of}
 use Rattle.rl_schema.specs.Codes.{codes, table}
 use Rattle.rl_schema.proofs.Rows.{row_codes}
 use Rattle.rl_images.specs.Reading.Starts.{StandsAt, starts_expression, starts_statement}
@@ -40,10 +40,10 @@ module _ (s : List ℕ) (at kind : ℕ) (k : kind ≡ (record_in s at).kind) whe
 
   module _ (o : Section) (i : ℕ) (h : StandsAt s o i at) where
     -- THEOREMS: the kind and the fields of the record that stands at a place
-    pub kind_of : kind ≡ (record_of_lem (image_of s) o i).kind
+    pub kind_of : kind ≡ (record_of (image_of s) o i).kind
     kind_of = rw (← h.found) k
 
-    pub field_of_lem : (rows : List ℕ) (row : ℕ) → rows ≡ table → row ≡ get_or rows kind 0 → (j : ℕ) → get_or (fields_at s (codes row) (at + 1)) j no_field ≡ field_of (record_of_lem (image_of s) o i) j
+    pub field_of_lem : (rows : List ℕ) (row : ℕ) → rows ≡ table → row ≡ get_or rows kind 0 → (j : ℕ) → get_or (fields_at s (codes row) (at + 1)) j no_field ≡ field_of (record_of (image_of s) o i) j
     field_of_lem rows row e f j = rw (← h.found) (field_of_row rows row e f j)
 
 -- ---- accepted images
@@ -55,10 +55,10 @@ module _ (s : List ℕ) (k : ℕ) (a : ArenaNo) (c : Counts) (e : answer_of s k 
       expression_stands = rw p (starts_expression s k a c e i l)
 
       -- THEOREMS: the kind and the fields of an expression
-      pub expression_kind : kind ≡ (record_of_lem (image_of s) Expressions i).kind
+      pub expression_kind : kind ≡ (record_of (image_of s) Expressions i).kind
       expression_kind = kind_of s at kind q Expressions i expression_stands
 
-      pub expression_field : (rows : List ℕ) (row : ℕ) → rows ≡ table → row ≡ get_or rows kind 0 → (j : ℕ) → get_or (fields_at s (codes row) (at + 1)) j no_field ≡ field_of (record_of_lem (image_of s) Expressions i) j
+      pub expression_field : (rows : List ℕ) (row : ℕ) → rows ≡ table → row ≡ get_or rows kind 0 → (j : ℕ) → get_or (fields_at s (codes row) (at + 1)) j no_field ≡ field_of (record_of (image_of s) Expressions i) j
       expression_field rows row f g j = field_of_lem s at kind q Expressions i expression_stands rows row f g j
 
     module _ (l : i < c.statements) (p : at ≡ get_or (starts_of s k) (c.expressions + i) 0) where
@@ -66,10 +66,10 @@ module _ (s : List ℕ) (k : ℕ) (a : ArenaNo) (c : Counts) (e : answer_of s k 
       statement_stands = rw p (starts_statement s k a c e i l)
 
       -- THEOREMS: the same of a statement
-      pub statement_kind : kind ≡ (record_of_lem (image_of s) Statements i).kind
+      pub statement_kind : kind ≡ (record_of (image_of s) Statements i).kind
       statement_kind = kind_of s at kind q Statements i statement_stands
 
-      pub statement_field : (rows : List ℕ) (row : ℕ) → rows ≡ table → row ≡ get_or rows kind 0 → (j : ℕ) → get_or (fields_at s (codes row) (at + 1)) j no_field ≡ field_of (record_of_lem (image_of s) Statements i) j
+      pub statement_field : (rows : List ℕ) (row : ℕ) → rows ≡ table → row ≡ get_or rows kind 0 → (j : ℕ) → get_or (fields_at s (codes row) (at + 1)) j no_field ≡ field_of (record_of (image_of s) Statements i) j
       statement_field rows row f g j = field_of_lem s at kind q Statements i statement_stands rows row f g j
 
 -- ---- ids

@@ -1,4 +1,6 @@
 // Looks into an image that the reader has accepted. Every function answers for every argument: what is not there reads as 0.
+#![tactic(auto)]
+
 ghost use Rattle.std.specs.Prelude.{◌≡◌, ◌+◌, get_or};
 ghost use Rattle.rl_spec.specs.Bytes.{u32_at};
 ghost use Rattle.rl_spec.specs.Schema.{sort_of};

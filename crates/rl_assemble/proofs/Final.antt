@@ -10,7 +10,7 @@ use borrow.Author.Tests.{eq-eqb, ne_eqb}
 use Rattle.rl_spec.specs.declared.Counts.{Counts}
 use Rattle.rl_spec.specs.declared.Interval.{Interval}
 use Rattle.rl_spec.specs.declared.Section.TheVariants.{Texts, Lists, Expressions, Statements, Parameters, Clauses, Functions, Calls}
-use Rattle.rl_spec.specs.Image.{pair, Rec, Image, records_of, size_of, record_of_lem, bytes_of, encode_records, encode, WellFormed}
+use Rattle.rl_spec.specs.Image.{pair, Rec, Image, records_of, size_of, record_of, bytes_of, encode_records, encode, WellFormed}
 use Rattle.rl_spec.specs.Found.{parameters_at}
 use Rattle.rl_spec.specs.Lower.{bodied, with_body}
 use Rattle.rl_laws.specs.Tests.{by_eqb}
@@ -110,7 +110,7 @@ module _ (im : Image) (wf : WellFormed im) (new : New) (ctx : Ctx) (z : List ℕ
           statements = records_of im Statements ++ new.statements;
           parameters = records_of im Parameters;
           clauses = records_of im Clauses;
-          functions = set (records_of im Functions) f (bodied (record_of_lem im Functions f) (pair list.first list.count));
+          functions = set (records_of im Functions) f (bodied (record_of im Functions f) (pair list.first list.count));
           calls = records_of im Calls;
         }
 

@@ -2,7 +2,7 @@
 -- Assumes nothing.
 use Prim.Native.Nat.{ℕ, zero, suc, ◌+◌, ◌*◌, ◌<◌}
 use mathlib.Core.Path.{◌≡◌, refl, ap, ap₂, sym, ◌∙◌}
-use mathlib.Core.List.{List, [], ◌∷◌, ◌++◌, append_assoc, append_nil}
+use mathlib.Core.List.{List, [], ◌∷◌, ◌++◌, append_assoc, append-nil}
 use native.Mathlib.Omega.{arith}
 use lib.ListN.{length, get_or, set, take, drop, length-append}
 use lib.Seq.{set_split, set-get_or, get_or-take, length-take-le}
@@ -66,7 +66,7 @@ layout_length bytes o =
 regroup : (h n₀ n₁ n₂ n₃ n₄ n₅ n₆ n₇ n₈ b t l e s p c f k : List ℕ) →
     h ++ n₀ ++ (n₁ ++ (n₂ ++ (n₃ ++ (n₄ ++ (n₅ ++ (n₆ ++ (n₇ ++ (n₈ ++ [])))))))) ++ b ++ (t ++ (l ++ (e ++ (s ++ (p ++ (c ++ (f ++ (k ++ [])))))))) ≡
     h ++ ((n₀ ++ n₁ ++ n₂ ++ n₃ ++ n₄) ++ ((n₅ ++ n₆ ++ n₇ ++ n₈) ++ (b ++ (t ++ (l ++ (e ++ (s ++ (p ++ (c ++ (f ++ k))))))))))
-regroup h n₀ n₁ n₂ n₃ n₄ n₅ n₆ n₇ n₈ b t l e s p c f k = simp (append_assoc, append_nil)
+regroup h n₀ n₁ n₂ n₃ n₄ n₅ n₆ n₇ n₈ b t l e s p c f k = simp (append_assoc, append-nil)
 
 pub laid : (arena : ℕ) (bytes : List ℕ) (o : Sections) → encode (image_with arena bytes o) ≡ layout arena bytes o
 unfolding encode encode_counts encode_sections

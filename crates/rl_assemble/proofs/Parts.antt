@@ -2,14 +2,14 @@
 -- Assumes nothing.
 use Prim.Native.Nat.{ℕ, ◌+◌, ◌*◌, ◌≤◌}
 use mathlib.Core.Path.{◌≡◌, refl, ap, ap₂, sym, ◌∙◌}
-use mathlib.Core.List.{List, [], ◌∷◌, ◌++◌, append_nil}
+use mathlib.Core.List.{List, [], ◌∷◌, ◌++◌, append-nil}
 use native.Mathlib.Omega.{arith}
 use native.Mathlib.Nat.{add-zero}
 use lib.ListN.{length, take, drop, length-append, length-drop}
 use lib.Seq.{take-length, take_all}
 use Rattle.rl_spec.specs.declared.Section.{Section}
 use Rattle.rl_spec.specs.declared.Section.TheVariants.{Texts, Lists, Expressions, Statements, Parameters, Clauses, Functions, Calls}
-use Rattle.rl_spec.specs.Schema.{sections, sort_of, fields_of, fields_in_lem, schema}
+use Rattle.rl_spec.specs.Schema.{sections, sort_of, fields_of, fields_in, schema}
 use Rattle.rl_spec.specs.Fields.{lists_at}
 use Rattle.rl_spec.specs.Image.{Image, records_of, size_of, no_record, bytes_of, encode_records, encode, widths_of, WellFormed}
 use Rattle.rl_spec.specs.Found.{parameters_at, functions_at}
@@ -64,27 +64,27 @@ module _ (im : Image) (wf : WellFormed im) where
   -- ---- lengths
 
   pub texts_length : size_in im Texts ≡ size_of im Texts * 5
-  unfolding widths_of fields_of fields_in_lem schema sort_of
+  unfolding widths_of fields_of fields_in schema sort_of
   texts_length = length_records 5 no_record (records_of im Texts) (length_at im wf Texts refl)
 
   pub lists_length : size_in im Lists ≡ size_of im Lists * 3
-  unfolding widths_of fields_of fields_in_lem schema sort_of
+  unfolding widths_of fields_of fields_in schema sort_of
   lists_length = length_records 3 no_record (records_of im Lists) (length_at im wf Lists refl)
 
   pub parameters_length : size_in im Parameters ≡ size_of im Parameters * 17
-  unfolding widths_of fields_of fields_in_lem schema sort_of
+  unfolding widths_of fields_of fields_in schema sort_of
   parameters_length = length_records 17 no_record (records_of im Parameters) (length_at im wf Parameters refl)
 
   pub clauses_length : size_in im Clauses ≡ size_of im Clauses * 5
-  unfolding widths_of fields_of fields_in_lem schema sort_of
+  unfolding widths_of fields_of fields_in schema sort_of
   clauses_length = length_records 5 no_record (records_of im Clauses) (length_at im wf Clauses refl)
 
   pub functions_length : size_in im Functions ≡ size_of im Functions * 24
-  unfolding widths_of fields_of fields_in_lem schema sort_of
+  unfolding widths_of fields_of fields_in schema sort_of
   functions_length = length_records 24 no_record (records_of im Functions) (length_at im wf Functions refl)
 
   pub calls_length : size_in im Calls ≡ size_of im Calls * 11
-  unfolding widths_of fields_of fields_in_lem schema sort_of
+  unfolding widths_of fields_of fields_in schema sort_of
   calls_length = length_records 11 no_record (records_of im Calls) (length_at im wf Calls refl)
 
   pub rest_length : length (rest_of (of_image im)) ≡ size_in im Parameters + (size_in im Clauses + (size_in im Functions + size_in im Calls))
@@ -113,7 +113,7 @@ module _ (im : Image) (wf : WellFormed im) where
   -- ---- what stands there
 
   st₀ : BytesAt (encode im) 0 (layout im.arena im.bytes (of_image im))
-  st₀ = record { before = []; rest = []; whole = whole ∙ sym (append_nil _); place = refl }
+  st₀ = record { before = []; rest = []; whole = whole ∙ sym (append-nil _); place = refl }
 
   pub front_stands : BytesAt (encode im) 0 (1 ∷ bytes_of 4 im.arena)
   front_stands = left (1 ∷ bytes_of 4 im.arena) _ st₀

@@ -2,7 +2,7 @@
 -- Assumes nothing.
 use Prim.Native.Nat.{ℕ, ◌+◌, ◌-◌, ◌*◌}
 use mathlib.Core.Path.{◌≡◌, refl, ap, ap₂, ◌∙◌, subst}
-use mathlib.Core.List.{List, ◌++◌, append_nil}
+use mathlib.Core.List.{List, ◌++◌, append-nil}
 use native.Mathlib.Omega.{arith}
 use lib.ListN.{length, get_or, drop_of_length-le}
 use borrow.Author.Tests.{ne_eqb}
@@ -33,7 +33,7 @@ module _ {l m n : List ℕ} {at a b : ℕ} {x y : List ℕ} where
 pub filled : (l : List ℕ) (n : ℕ) (two : List ℕ) → length l ≡ 2 → two ≡ over l 0 (bytes_of 2 n) → two ≡ bytes_of 2 n
 unfolding over
 filled l n two h e =
-    e ∙ ap (λ r. bytes_of 2 n ++ r) (drop_of_length-le l {i = 0 + length (bytes_of 2 n)} (omega (arith, length_bytes 2 n))) ∙ append_nil (bytes_of 2 n)
+    e ∙ ap (λ r. bytes_of 2 n ++ r) (drop_of_length-le l {i = 0 + length (bytes_of 2 n)} (omega (arith, length_bytes 2 n))) ∙ append-nil (bytes_of 2 n)
 
 module _ {l₀ l₁ l₂ l₃ l₄ l₅ : List ℕ} {at a b c d e : ℕ} where
   pub counts_put : (ctx : Ctx) → Puts l₀ at (bytes_of 2 ctx.bytes) a l₁ → Puts l₁ a (bytes_of 2 ctx.texts) b l₂ →

@@ -7,8 +7,8 @@ use native.Mathlib.Omega.{arith}
 use lib.ListN.{length, get_or, set, length-append}
 use Rattle.rl_spec.specs.declared.Interval.{Interval}
 use Rattle.rl_spec.specs.declared.Section.TheVariants.{Parameters, Clauses, Functions, Calls}
-use Rattle.rl_spec.specs.Schema.{sort_of, width_of, fields_of, fields_in_lem, schema}
-use Rattle.rl_spec.specs.Image.{Field, pair, Rec, Image, records_of, size_of, record_of_lem, no_field, no_record, bytes_of, encode_field, encode_record, encode_records, encode, widths_of, WellFormed}
+use Rattle.rl_spec.specs.Schema.{sort_of, width_of, fields_of, fields_in, schema}
+use Rattle.rl_spec.specs.Image.{Field, pair, Rec, Image, records_of, size_of, record_of, no_field, no_record, bytes_of, encode_field, encode_record, encode_records, encode, widths_of, WellFormed}
 use Rattle.rl_spec.specs.Found.{parameters_at}
 use Rattle.rl_spec.specs.Lower.{bodied}
 use Rattle.rl_images.specs.Encoding.BytesAt.{BytesAt, left, right, length_bytes}
@@ -23,17 +23,17 @@ module _ (im : Image) (wf : WellFormed im) (f : ℕ) (l : f < size_of im Functio
   fs = records_of im Functions
 
   abbrev r : Rec
-  r = record_of_lem im Functions f
+  r = record_of im Functions f
 
   alike : (n : ℕ) → n < length fs → length (encode_record (get_or fs n no_record)) ≡ 24
-  unfolding widths_of fields_of fields_in_lem schema sort_of
+  unfolding widths_of fields_of fields_in schema sort_of
   alike = length_at im wf Functions refl
 
   kind_is : r.kind ≡ 82
   kind_is = kind_at im wf Functions refl f l
 
   seven : 4 < length r.fields
-  unfolding fields_of fields_in_lem schema
+  unfolding fields_of fields_in schema
   seven = omega (arith, as_many (fields_of r.kind) r.fields (sized_at im wf Functions f l) ∙ ap (λ k. length (fields_of k)) kind_is)
 
   abbrev body_sort : Field → List ℕ
@@ -70,12 +70,12 @@ module _ (im : Image) (wf : WellFormed im) (f : ℕ) (l : f < size_of im Functio
       ∙ pieces old
 
   front_length : length front ≡ size_in im Parameters + (size_in im Clauses + (f * 24 + 12))
-  unfolding widths_of fields_of fields_in_lem schema sort_of
+  unfolding widths_of fields_of fields_in schema sort_of
   front_length =
       rw (length-append, length-append, length_before 24 fs f 4 alike l (sized_at im wf Functions f l) seven, kind_is) refl
 
   old_length : length (body_sort old) ≡ 4
-  unfolding fields_of fields_in_lem schema sort_of
+  unfolding fields_of fields_in schema sort_of
   old_length =
       field_width (fields_of r.kind) r.fields 4 (sized_at im wf Functions f l) seven
       ∙ ap (λ k. width_of (sort_of (get_or (fields_of k) 4 0))) kind_is

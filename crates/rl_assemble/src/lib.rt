@@ -1,4 +1,6 @@
 // The bytes of a lowered image: what the image has of each section, then what is new, and the function's new body list.
+#![tactic(auto)]
+
 ghost use Rattle.std.specs.Prelude.{◌≡◌, true, ◌+◌, ◌*◌, ◌≤◌, ◌<◌, length};
 ghost use Rattle.rl_spec.specs.declared.Section.TheVariants.{Functions};
 ghost use Rattle.rl_spec.specs.Image.{Image, pair, bytes_of, size_of};

@@ -17,7 +17,7 @@ use Rattle.rl_spec.specs.declared.Section.TheVariants.{Lists}
 use Rattle.rl_spec.specs.declared.Step.{Step}
 use Rattle.rl_spec.specs.declared.Step.TheVariants.{Next, Stop}
 use Rattle.rl_spec.specs.Bytes.{past}
-use Rattle.rl_spec.specs.Schema.{in_section, fields_of, fields_in_lem, schema, sort_of}
+use Rattle.rl_spec.specs.Schema.{in_section, fields_of, fields_in, schema, sort_of}
 use Rattle.rl_spec.specs.Fields.{height_step, record_at, fields_from, field_at, value_of}
 use Rattle.rl_spec.specs.Read.{after, bad, out_of, records_from}
 use Rattle.rl_laws.specs.Tests.{by_ltb}
@@ -72,7 +72,7 @@ kind_only k = by_ltb k 3 (λ p. rw (lt-ltb k 3 p, ne_eqb k 3 (λ e. omega arith)
 
 module _ (s w p : List ℕ) (c : Counts) (at : ℕ) where
   only_field : (b : Bool) → past s (at + 1) 2 ≡ b → height_step Lists at (fields_from s w p c Lists (fields_of 3) (at + 1) 0) ≡ cond b (Stop BytesEnd (at + 1)) (Next (at + 1 + 2) 1)
-  unfolding fields_of fields_in_lem schema sort_of fields_from field_at value_of
+  unfolding fields_of fields_in schema sort_of fields_from field_at value_of
   only_field true e = rw e refl
   only_field false e = rw e refl
 

@@ -3,7 +3,7 @@
 use Prim.Native.Nat.{ℕ, zero, suc, ◌+◌, ◌-◌, ◌≤◌, ◌<◌, min}
 use mathlib.Core.Path.{◌≡◌, refl, ap, ap₂, sym, ◌∙◌, subst}
 use mathlib.Core.Bool.{Bool, true, false, not, cond, ◌&&◌}
-use mathlib.Core.List.{List, [], ◌∷◌, ◌++◌, map, append_nil}
+use mathlib.Core.List.{List, [], ◌∷◌, ◌++◌, map, append-nil}
 use mathlib.Core.Option.{Option, none, some}
 use native.Mathlib.Omega.{arith}
 use native.Mathlib.Nat.{add-zero}
@@ -139,7 +139,7 @@ module _ (im : Image) (ctx : Ctx) (scratch waiting side : List ℕ) (long : leng
             (λ f. ends_full (full (stays_full d f)) (after (st.full f) (λ _ x h. all_over ws x h more)))
             (λ f.
             subst (λ z. Ends im 0 all ws (and_then z (λ _. m >>= k)) res t) (sym (st.live f).is)
-            (from ws (st.live f).here f (subst (λ z. Live im 0 (st.live f).here z ctx scratch waiting) (append_nil ws) (st.live f).live)))
+            (from ws (st.live f).here f (subst (λ z. Live im 0 (st.live f).here z ctx scratch waiting) (append-nil ws) (st.live f).live)))
 
 -- ---- the body under ensures
 
@@ -213,7 +213,7 @@ module _ (s p : List ℕ) (c : Counts) (rows : List ℕ) (body ensured : Interva
         (λ x y ws l e m f v.
         subst (λ z. Ends of 0 all ws z ss t) (sym (ap (λ z. cond z (wrap_return (number (last_of y.image ss) 1) es >>= λ seq. give (seq ++ take (length ss - 1) ss)) (give ss) y) (bare_then x y ws l e ∙ b)))
         (subst (λ z. Ends of 0 all ws (some (z, y)) z t) (whole y m)
-        (w.does ws (some (tt, y)) (ends_live f (subst (λ z. Live of 0 y z (waiting_with done ctx.waiting) scratch' waiting) (sym (append_nil ws)) v)))))
+        (w.does ws (some (tt, y)) (ends_live f (subst (λ z. Live of 0 y z (waiting_with done ctx.waiting) scratch' waiting) (sym (append-nil ws)) v)))))
         (adds_flat (adds_statement es) numbers)
       where
         whole : (y : Context) → Live of 0 y ss done scratch' side' → take count side' ≡ ss
@@ -232,7 +232,7 @@ module _ (s p : List ℕ) (c : Counts) (rows : List ℕ) (body ensured : Interva
         (λ f. stays_full w (stays_full d' f))
         (λ x y ws l e m f v.
         subst (λ z. Ends of 0 all ws z (seq ++ take most side') t) (sym (wrapped x y ws l e m))
-        (both_done.does ws (some (tt, y)) (ends_live f (subst (λ z. Live of 0 y z (waiting_with done ctx.waiting) scratch' waiting) (sym (append_nil ws)) v))))
+        (both_done.does ws (some (tt, y)) (ends_live f (subst (λ z. Live of 0 y z (waiting_with done ctx.waiting) scratch' waiting) (sym (append-nil ws)) v))))
         (adds_flat (adds_statement es) numbers)
       where
         both_done : Does of 0 0 all (wrap_return value es >>= λ z. give (z ++ take most side')) (at (waiting_with done ctx.waiting) scratch' waiting) (seq ++ take most side') t

@@ -13,8 +13,8 @@ use Rattle.rl_spec.specs.declared.Counts.{Counts}
 use Rattle.rl_spec.specs.declared.Interval.{Interval}
 use Rattle.rl_spec.specs.declared.Section.TheVariants.{Statements}
 use Rattle.rl_spec.specs.Bytes.{u16_at}
-use Rattle.rl_spec.specs.Schema.{sort_of, schema, fields_in_lem, fields_of}
-use Rattle.rl_spec.specs.Image.{Image, record_of_lem, entry_of, fields_at, record_in}
+use Rattle.rl_spec.specs.Schema.{sort_of, schema, fields_in, fields_of}
+use Rattle.rl_spec.specs.Image.{Image, record_of, entry_of, fields_at, record_in}
 use Rattle.rl_spec.specs.Found.{record_as, image_found}
 use Rattle.rl_spec.specs.Tree.{number}
 use Rattle.rl_spec.specs.Ranges.{up_from}
@@ -72,7 +72,7 @@ module _ (s p : List ℕ) (c : Counts) (body : Interval) (fit : BodyFits s p c b
       same = omega (arith, some)
 
   last_is : (kind : ℕ) → kind ≡ get_or s start 0 → last_of im (entries_in im body) ≡ record_as s kind start
-  last_is kind q = ap (record_of_lem im Statements) (last_number im body.first body.count some ∙ sym l) ∙ statement_is s p c last start kind in_range e q
+  last_is kind q = ap (record_of im Statements) (last_number im body.first body.count some ∙ sym l) ∙ statement_is s p c last start kind in_range e q
 
   pub some_bare : (kind : ℕ) → kind ≡ (record_in s start).kind → eqb kind 65 ≡ ends_bare im (entries_in im body)
   unfolding record_as
@@ -80,7 +80,7 @@ module _ (s p : List ℕ) (c : Counts) (body : Interval) (fit : BodyFits s p c b
       sym (ap₂ (λ a b. not a && b) (not_empty (entry_of im) body.first body.count some) (ap (λ r. eqb r.kind 65) (last_is kind (q ∙ kind_in s start))))
 
   pub value_is : (value : ℕ) → value ≡ u16_at s (start + 5) → ends_bare im (entries_in im body) ≡ true → value ≡ number (last_of im (entries_in im body)) 1
-  unfolding record_as fields_at fields_of fields_in_lem schema sort_of
+  unfolding record_as fields_at fields_of fields_in schema sort_of
   value_is value v b =
       v ∙ ap (u16_at s) place ∙ sym (two s (start + 1 + 4)) ∙ sym (ap (λ r. number r 1) (last_is (get_or s start 0) refl ∙ ap (λ k. record_as s k start) is_65))
     where

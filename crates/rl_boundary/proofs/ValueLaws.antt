@@ -2,7 +2,7 @@
 -- Assumes nothing.
 use Prim.Native.Nat.{ℕ, zero, suc, ◌+◌, ◌-◌, ◌*◌, ◌/◌, ◌≤◌, ◌<◌, min}
 use mathlib.Core.Path.{◌≡◌, refl, sym, ap, ◌∙◌}
-use mathlib.Core.Bool.{Bool, true, false, ◌&&◌, not, cond, not_not}
+use mathlib.Core.Bool.{Bool, true, false, ◌&&◌, not, cond, not-not}
 use mathlib.Core.List.{List, [], ◌∷◌, ◌++◌, map}
 use native.Mathlib.Omega.{arith}
 use native.Mathlib.Numerals.{add-one}
@@ -67,7 +67,7 @@ module _ (words : List ℕ) (i : ℕ) (whole : Bool) (v : whole ≡ are_values (
     next = v ∙ ap are_values pair ∙ ap (λ (b : Bool). b && are_values (drop (i + 2) words)) (sym e)
 
     told : (b : Bool) → not r ≡ b → r ≡ not b
-    told b f = sym (not_not r) ∙ ap not f
+    told b f = sym (not-not r) ∙ ap not f
 
     pub values_bad : not r ≡ true → false ≡ whole
     values_bad f = sym (next ∙ rw (told true f) refl)

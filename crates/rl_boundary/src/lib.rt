@@ -1,4 +1,6 @@
 // Values, outcomes and answers as the words of the boundary with C and Rust.
+#![tactic(auto)]
+
 mod answers;
 mod values;
 

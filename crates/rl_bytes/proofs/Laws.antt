@@ -3,7 +3,7 @@
 use Prim.Native.Nat.{ℕ, ◌+◌, ◌-◌, ◌*◌, ◌≤◌, ◌<◌}
 use mathlib.Core.Path.{◌≡◌, refl, sym, ◌∙◌}
 use mathlib.Core.Bool.{true}
-use mathlib.Core.List.{List, ◌++◌, append_nil}
+use mathlib.Core.List.{List, ◌++◌, append-nil}
 use native.Mathlib.Omega.{arith}
 use lib.ListN.{length, get_or, take, drop, set, replicate, length-drop, drop_of_length-le, get_or-eq_default}
 use lib.Seq.{drop-length, set_out, take-nil, take_all}
@@ -83,7 +83,7 @@ unfolding past
 past_far s a n h = sym (lt-ltb (length s) (a + n) (omega arith))
 
 pub filled : (w v : List ℕ) (i : ℕ) → w ≡ replicate i 0 ++ drop i v → i ≡ length v → w ≡ replicate (length v) 0
-filled w v i e q = e ∙ rw (q, drop-length v) (append_nil (replicate (length v) 0))
+filled w v i e q = e ∙ rw (q, drop-length v) (append-nil (replicate (length v) 0))
 
 -- ---- a part of a slice
 

@@ -1,4 +1,6 @@
 // Access to bytes and to words, for every place: what is past the end reads as 0 and is not written.
+#![tactic(auto)]
+
 ghost use Rattle.std.specs.Prelude.{◌≡◌, ◌+◌, ◌-◌, ◌*◌, min, max, length, get_or, set, replicate, take, drop};
 ghost use Rattle.rl_spec.specs.Bytes.{num_at, u16_at, u32_at, past};
 

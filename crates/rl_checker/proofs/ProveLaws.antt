@@ -2,7 +2,7 @@
 -- Assumes nothing.
 use Prim.Native.Nat.{ℕ, suc, ◌+◌, ◌-◌, ◌*◌, ◌≤◌, ◌<◌, min}
 use mathlib.Core.Path.{◌≡◌, refl, sym, ap, subst, ◌∙◌}
-use mathlib.Core.List.{List, [], ◌++◌, append_nil, append_assoc}
+use mathlib.Core.List.{List, [], ◌++◌, append-nil, append_assoc}
 use native.Mathlib.Omega.{arith}
 use lib.ListN.{length, replicate, length-replicate}
 use Rattle.rl_spec.specs.declared.Counts.{Counts}
@@ -66,7 +66,7 @@ module _ (im : Image) (c : Counts) (cs w₀ m₀ l₀ : List ℕ) (most : ℕ) w
     each_end h cl ro sh =
         let x = t.so_far cl ro sh in
         let z : most - call ≡ 0 = omega arith in
-        let whole : all_entries im (min c.calls 256) 0 ≡ x.0 = ap (λ (n : ℕ). all_entries im n 0) (sym t.limit) ∙ x.1.1 ∙ rw z (append_nil x.0) in
+        let whole : all_entries im (min c.calls 256) 0 ≡ x.0 = ap (λ (n : ℕ). all_entries im n 0) (sym t.limit) ∙ x.1.1 ∙ rw z (append-nil x.0) in
         subst (λ (e : List ℕ). Shown l e at) (sym whole) x.1.0
 
     pub each_bound : at ≤ 134215680

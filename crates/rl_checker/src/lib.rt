@@ -1,4 +1,6 @@
 // rl-checker's contracts.rs over an image: folding a node, proving a call, proving all calls.
+#![tactic(auto)]
+
 mod folding;
 mod proving;
 

@@ -2,6 +2,8 @@
 // The texts form a prefix tree. A text's link names its parent, an earlier text, and the place of their first mismatch. A search
 // for a text goes down from parent to child: it meets only texts that have its own link, and compares from that place on. The
 // same text was sought the same way before, so it is met. The work is linear in the texts' bytes, beside one link for each pair.
+#![tactic(auto)]
+
 ghost use Rattle.std.specs.Prelude.{◌≡◌, List, ℕ, ◌%◌, ◌<◌, ◌≤◌, length};
 ghost use Rattle.rl_spec.specs.Values.{same_text};
 ghost use Rattle.rl_spec.specs.Image.{text_of};

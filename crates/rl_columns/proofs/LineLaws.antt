@@ -2,7 +2,7 @@
 -- Assumes nothing.
 use Prim.Native.Nat.{ℕ, ◌+◌, ◌-◌, min}
 use mathlib.Core.Path.{◌≡◌, refl, sym, ap, ◌∙◌}
-use mathlib.Core.List.{List, [], ◌∷◌, ◌++◌, append_nil}
+use mathlib.Core.List.{List, [], ◌∷◌, ◌++◌, append-nil}
 use native.Mathlib.Omega.{arith}
 use lib.ListN.{length, take, drop, length-map, length-take}
 use Rattle.rl_spec.specs.Utf8.{encode_scalar, encode_text, scalars_of}
@@ -39,7 +39,7 @@ module _ (columns : ℕ) (t : List ℕ) (e : scalars_of t ≡ t) where
   unfolding left
   no_spaces =
       let z : shown - length (fitted shown t) ≡ 0 = omega (arith, fitted_length shown) in
-      rw z (append_nil (fitted shown t) ∙ fitted_same)
+      rw z (append-nil (fitted shown t) ∙ fitted_same)
 
   right_is : left (columns - shown) [] ++ left shown t ≡ right columns t
   unfolding right

@@ -1,5 +1,7 @@
 // The fields of a page's line and the line itself, put into a lent buffer at a place; each function answers the place after what it put.
 // What has no room is left out.
+#![tactic(auto)]
+
 ghost use Rattle.std.specs.Prelude.{◌≡◌, ◌++◌, drop};
 ghost use Rattle.rl_spec.specs.Utf8.{char_width, encode_scalar, encode_text};
 ghost use Rattle.rl_spec.specs.Message.{decimal};

@@ -3,8 +3,8 @@
 use Rattle.std.proofs.Common.{◌≡◌, ℕ, ◌<◌, List, [], ◌∷◌, ◌++◌, length, get_or, sym, refl, ap, ◌∙◌, subst, arith, length-append}
 use mathlib.Core.Option.{Option, none, some}
 use Rattle.rl_spec.specs.declared.Section.TheVariants.{Expressions}
-use Rattle.rl_spec.specs.Schema.{sort_of, schema, fields_in_lem, fields_of}
-use Rattle.rl_spec.specs.Image.{Field, num, Rec, records_of, size_of, no_record, record_of_lem}
+use Rattle.rl_spec.specs.Schema.{sort_of, schema, fields_in, fields_of}
+use Rattle.rl_spec.specs.Image.{Field, num, Rec, records_of, size_of, no_record, record_of}
 use Rattle.rl_spec.specs.Tree.{below}
 use Rattle.rl_spec.specs.Make.{Context, Make, and_then, ◌>>=◌, give, image_so_far, append, made}
 use Rattle.rl_spec.specs.Lower.{expr, clone_fields, clone_record, deep_clone_expr}
@@ -19,7 +19,7 @@ use Rattle.rl_context.specs.Guards.{Leaf, an_integer, a_string, a_bool, an_ident
 -- the expression at an index
 pub record Has (x : Context) (n : ℕ) (r : Rec) : Type 0 where
   pub inside : n < size_of x.image Expressions
-  pub is : record_of_lem x.image Expressions n ≡ r
+  pub is : record_of x.image Expressions n ≡ r
 
 pub has_later : {x y : Context} {n : ℕ} {r : Rec} → Later x y → Has x n r → Has y n r
 has_later {n = n} l h =
@@ -69,11 +69,11 @@ expr_new kind fields x e = weaker (expr_gives kind fields x) is_new
 clone_is : (id : ℕ) (x : Context) (r : Rec) → Has x id r → deep_clone_expr id x ≡ clone_record (below id give deep_clone_expr) id r x
 unfolding deep_clone_expr
 clone_is id x r h =
-    ap (λ m. m x) (descend_is give (λ id clone. image_so_far >>= λ im. clone_record clone id (record_of_lem im Expressions id)) id)
+    ap (λ m. m x) (descend_is give (λ id clone. image_so_far >>= λ im. clone_record clone id (record_of im Expressions id)) id)
     ∙ ap (λ z. clone_record (below id give deep_clone_expr) id z x) h.is
 
 leaf_record : (clone : ℕ → Make ℕ) (id kind : ℕ) (σ w : ℕ) → Leaf kind → clone_record clone id (made kind (num σ ∷ num w ∷ [])) ≡ append Expressions (made kind (num σ ∷ num w ∷ []) ∷ [])
-unfolding clone_fields fields_of fields_in_lem schema sort_of
+unfolding clone_fields fields_of fields_in schema sort_of
 leaf_record clone id kind σ w an_integer = refl
 leaf_record clone id kind σ w a_string = refl
 leaf_record clone id kind σ w a_bool = refl
@@ -112,7 +112,7 @@ module _ (clone : ℕ → Make ℕ) (id σ tok l r : ℕ) (left right : Rec) whe
   binary_record : (x : Context) → clone l x ≡ append Expressions (left ∷ []) x →
       ((n : ℕ) (y : Context) → append Expressions (left ∷ []) x ≡ some (n, y) → clone r y ≡ append Expressions (right ∷ []) y) →
       clone_record clone id (made 32 (num σ ∷ num l ∷ num tok ∷ num r ∷ [])) x ≡ copied x
-  unfolding from_left clone_fields fields_of fields_in_lem schema sort_of
+  unfolding from_left clone_fields fields_of fields_in schema sort_of
   binary_record x e h = ap from_left e ∙ left_flat (append Expressions (left ∷ []) x) h
 
 -- a comparison whose operands come before it

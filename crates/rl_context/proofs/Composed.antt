@@ -1,6 +1,6 @@
 -- Computations that are carried out one after the other.
 -- Assumes nothing.
-use Rattle.std.proofs.Common.{◌≡◌, ℕ, Bool, true, false, T, List, [], ◌∷◌, ◌++◌, length, sym, refl, ap, ◌∙◌, subst, append_assoc, append_nil}
+use Rattle.std.proofs.Common.{◌≡◌, ℕ, Bool, true, false, T, List, [], ◌∷◌, ◌++◌, length, sym, refl, ap, ◌∙◌, subst, append_assoc, append-nil}
 use mathlib.Core.Option.{Option, none, some}
 use Rattle.rl_spec.specs.declared.Interval.{Interval}
 use Rattle.rl_spec.specs.Image.{pair, Image}
@@ -71,7 +71,7 @@ module _ {A B C : Type 0} {im : Image} {k l : ℕ} {p : A → List ℕ} {q : B �
       subst (λ z. Ends im l r ws (z x) (g b) u) (sym is)
       (there x
       (e.does (ws ++ p a) (some (tt, x))
-      (ends_live v (subst (λ z. Live im k x z t.ctx t.scratch t.waiting) (sym (append_nil (ws ++ p a))) h))))
+      (ends_live v (subst (λ z. Live im k x z t.ctx t.scratch t.waiting) (sym (append-nil (ws ++ p a))) h))))
 
   follows : (o : Option (A × Context)) → Ends im k p ws o a t → Ends im l r ws (and_then o f) (g b) u
   follows o h =
@@ -151,4 +151,4 @@ does_list {im} {j} {k} {m} {s} {t} {u} {ns} {list} first q d h = record { does =
         waits : t.ctx.full ≡ false → first ≡ length ws
         waits v =
             by_full s (λ w. not_both (stays_full d w) v)
-            (λ w. q ∙ (st.live w).live.waits.count ∙ ap length (append_nil ws))
+            (λ w. q ∙ (st.live w).live.waits.count ∙ ap length (append-nil ws))

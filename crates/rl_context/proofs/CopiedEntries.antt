@@ -11,7 +11,7 @@ use Rattle.rl_spec.specs.declared.Sort.{Sort}
 use Rattle.rl_spec.specs.declared.Sort.TheVariants.{Raw, Byte, Scalar, Part, One, Maybe, Many, Range, OperandSort, Operand}
 use Rattle.rl_spec.specs.Bytes.{num_at, u16_at}
 use Rattle.rl_spec.specs.Schema.{sort_of, width_of}
-use Rattle.rl_spec.specs.Image.{Field, num, pair, Image, size_of, first, entry_of, is_pair, field_in_lem, FieldFits, WellFormed}
+use Rattle.rl_spec.specs.Image.{Field, num, pair, Image, size_of, first, entry_of, is_pair, field_in, FieldFits, WellFormed}
 use Rattle.rl_spec.specs.Found.{image_found}
 use Rattle.rl_spec.specs.Ranges.{up_from}
 use Rattle.rl_spec.specs.Make.{Context, Make, and_then, ◌>>=◌, give, image_so_far, new_list, entries_of}
@@ -90,29 +90,29 @@ module _ (s p : List ℕ) (c : Counts) (id code place : ℕ) (sort : Sort) (q : 
   by_plan : Said o q
   by_plan = said_by o q (g ∙ ap plan_of e)
 
-  field_keeps : Keeps (nothing {A = Unit {0}}) (λ _. clone_field (clone_below id) o (field_in_lem s o place)) (nothing {A = Field})
-  field_keeps = keeps_more nothing (λ _. adds_field (clone_below id) (adds_below id) o (field_in_lem s o place))
+  field_keeps : Keeps (nothing {A = Unit {0}}) (λ _. clone_field (clone_below id) o (field_in s o place)) (nothing {A = Field})
+  field_keeps = keeps_more nothing (λ _. adds_field (clone_below id) (adds_below id) o (field_in s o place))
 
-  pub field_kept : (scratch w : List ℕ) (ctx ctx' : Ctx) (word : ℕ) → q ≡ plan.Keep → ctx' ≡ ctx → word_field o word ≡ field_in_lem s o place →
+  pub field_kept : (scratch w : List ℕ) (ctx ctx' : Ctx) (word : ℕ) → q ≡ plan.Keep → ctx' ≡ ctx → word_field o word ≡ field_in s o place →
       CopiesField im s id code place (at ctx scratch w) word (at ctx' scratch w)
   field_kept scratch w ctx ctx' word k v f =
       subst (λ z. CopiesField im s id code place (at ctx scratch w) word (at z scratch w)) (sym v)
-      (does_same (clone_field (clone_below id) o (field_in_lem s o place)) field_keeps (λ x ws l. ap (λ m. m x) (subst (Said o) k by_plan (clone_below id) (field_in_lem s o place) ∙ ap give (sym f)))
+      (does_same (clone_field (clone_below id) o (field_in s o place)) field_keeps (λ x ws l. ap (λ m. m x) (subst (Said o) k by_plan (clone_below id) (field_in s o place) ∙ ap give (sym f)))
       (does_give im 0 (word_field o word) (at ctx scratch w)))
 
   module _ (child : ℕ) (k : q ≡ plan.Node) (f : child ≡ u16_at s place) where
     node_said : (is_pair o ≡ false) × ((width_of o ≡ 2) × ((clone : ℕ → Make ℕ) (f : Field) → clone_field clone o f ≡ (clone (first f) >>= λ n. give (num n))))
     node_said = subst (Said o) k by_plan
 
-    child_is : first (field_in_lem s o place) ≡ child
+    child_is : first (field_in s o place) ≡ child
     child_is = ap (λ b. first (cond b (pair (u16_at s place) (u16_at s (place + 2))) (num (num_at s place (width_of o))))) node_said.0 ∙ ap (num_at s place) node_said.1.0 ∙ two s place ∙ sym f
 
-    field_is : clone_field (clone_below id) o (field_in_lem s o place) ≡ (clone_below id child >>= λ n. give (num n))
-    field_is = node_said.1.1 (clone_below id) (field_in_lem s o place) ∙ ap (λ n. clone_below id n >>= λ m. give (num m)) child_is
+    field_is : clone_field (clone_below id) o (field_in s o place) ≡ (clone_below id child >>= λ n. give (num n))
+    field_is = node_said.1.1 (clone_below id) (field_in s o place) ∙ ap (λ n. clone_below id n >>= λ m. give (num m)) child_is
 
     copied : (t u : State) (index word : ℕ) → Does im 0 0 nothing (clone_below id child) t index u → word ≡ index → CopiesField im s id code place t word u
     copied t u index word d w =
-        subst (λ z. Does im 0 0 nothing (clone_field (clone_below id) o (field_in_lem s o place)) t z u) (ap num (sym w) ∙ sym (ap (λ b. cond b (pair (word % 65536) (word / 65536)) (num word)) node_said.0))
+        subst (λ z. Does im 0 0 nothing (clone_field (clone_below id) o (field_in s o place)) t z u) (ap num (sym w) ∙ sym (ap (λ b. cond b (pair (word % 65536) (word / 65536)) (num word)) node_said.0))
         (subst (λ m. Does im 0 0 nothing m t (num index) u) (sym field_is) (does_bind d (keeps_more nothing (λ n. adds_give (num n))) (does_give im 0 (num index) u)))
 
     pub field_shared : (scratch v : List ℕ) (ctx ctx' : Ctx) (word : ℕ) → id ≤ child → ctx' ≡ ctx → word ≡ child →
@@ -130,7 +130,7 @@ module _ (s p : List ℕ) (c : Counts) (id code place : ℕ) (sort : Sort) (q : 
     list_said : Said o (plan.List left right)
     list_said = subst (Said o) k by_plan
 
-    pair_is : field_in_lem s o place ≡ pair a n
+    pair_is : field_in s o place ≡ pair a n
     pair_is = ap (λ b. cond b (pair (u16_at s place) (u16_at s (place + 2))) (num (num_at s place (width_of o)))) list_said.0 ∙ ap₂ pair (sym f) (sym h)
 
     pub list_fits : Fitting im s id code place → WellFormed im → a + n ≤ size_of im Lists
@@ -139,13 +139,13 @@ module _ (s p : List ℕ) (c : Counts) (id code place : ℕ) (sort : Sort) (q : 
     pub field_listed : (t u v : State) (list : Interval) (word waits : ℕ) → Fitting im s id code place → waits ≡ t.ctx.waiting → CopiesEntries im id a n left right t u →
         Listed waits u list v → pair (word % 65536) (word / 65536) ≡ pair list.first list.count → CopiesField im s id code place t word v
     field_listed t u v list word waits fit w d g is =
-        subst (λ z. Does im 0 0 nothing (clone_field (clone_below id) o (field_in_lem s o place)) t z v) (sym is ∙ sym (ap (λ b. cond b (pair (word % 65536) (word / 65536)) (num word)) list_said.0))
-        (does_same (clone_field (clone_below id) o (field_in_lem s o place)) field_keeps same (does_list waits w d.1 g))
+        subst (λ z. Does im 0 0 nothing (clone_field (clone_below id) o (field_in s o place)) t z v) (sym is ∙ sym (ap (λ b. cond b (pair (word % 65536) (word / 65536)) (num word)) list_said.0))
+        (does_same (clone_field (clone_below id) o (field_in s o place)) field_keeps same (does_list waits w d.1 g))
       where
         same : (x : Context) (ws : List ℕ) → Live im 0 x ws t.ctx t.scratch t.waiting →
-            clone_field (clone_below id) o (field_in_lem s o place) x ≡ (clone_entries (clone_below id) left right (map (entry_of im) (up_from a n)) >>= new_list) x
+            clone_field (clone_below id) o (field_in s o place) x ≡ (clone_entries (clone_below id) left right (map (entry_of im) (up_from a n)) >>= new_list) x
         same x ws l =
-            ap (λ m. m x) (list_said.1.0 (clone_below id) (field_in_lem s o place))
+            ap (λ m. m x) (list_said.1.0 (clone_below id) (field_in s o place))
             ∙ ap (λ z. (clone_entries (clone_below id) left right (entries_of x.image z) >>= new_list) x) pair_is
             ∙ ap (λ z. (clone_entries (clone_below id) left right z >>= new_list) x) (old_entries x ws t l a n (list_fits fit l.image))
 

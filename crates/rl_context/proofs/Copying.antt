@@ -6,7 +6,7 @@ use lib.Seq.{take-set-le}
 use Rattle.rl_spec.specs.declared.Counts.{Counts}
 use Rattle.rl_spec.specs.declared.Section.TheVariants.{Lists, Expressions}
 use Rattle.rl_spec.specs.Schema.{sort_of, width_of, fields_of}
-use Rattle.rl_spec.specs.Image.{Field, Image, size_of, no_record, records_of, record_of_lem, field_of, entry_of, first, field_in_lem, fields_at, record_in, FieldFits, FieldsFit, WellFormed}
+use Rattle.rl_spec.specs.Image.{Field, Image, size_of, no_record, records_of, record_of, field_of, entry_of, first, field_in, fields_at, record_in, FieldFits, FieldsFit, WellFormed}
 use Rattle.rl_images.specs.Images.FieldFacts.{first_fits, others_fit}
 use Rattle.rl_spec.specs.Found.{record_as, record_found, image_found}
 use Rattle.rl_spec.specs.Ranges.{up_from}
@@ -31,19 +31,19 @@ use Rattle.rl_context.specs.Copies.{clone_below, Fitting, Copies, CopiesField}
 
 -- a record of the image is one of the image that has grown
 pub old_record : {im : Image} {k : ℕ} {x : Context} {ws : List ℕ} {s : State} (id : ℕ) → Live im k x ws s.ctx s.scratch s.waiting → id < size_of im Expressions →
-    record_of_lem x.image Expressions id ≡ record_of_lem im Expressions id
+    record_of x.image Expressions id ≡ record_of im Expressions id
 old_record {im} id l h =
-    ap (λ z. record_of_lem z.image Expressions id) l.context ∙ get_or-append (records_of im Expressions) l.new.expressions no_record id h
+    ap (λ z. record_of z.image Expressions id) l.context ∙ get_or-append (records_of im Expressions) l.new.expressions no_record id h
 
-clone_step_lem : (id : ℕ) (x : Context) → deep_clone_expr id x ≡ clone_record (clone_below id) id (record_of_lem x.image Expressions id) x
+clone_step_lem : (id : ℕ) (x : Context) → deep_clone_expr id x ≡ clone_record (clone_below id) id (record_of x.image Expressions id) x
 unfolding deep_clone_expr
-clone_step_lem id x = λ i. descend_is give (λ n clone. image_so_far >>= λ im. clone_record clone n (record_of_lem im Expressions n)) id i x
+clone_step_lem id x = λ i. descend_is give (λ n clone. image_so_far >>= λ im. clone_record clone n (record_of im Expressions n)) id i x
 
 module _ (s p : List ℕ) (c : Counts) (id start kind : ℕ) (h : id < c.expressions) (e : start ≡ get_or p id 0) (q : kind ≡ get_or s start 0) where
   abbrev im : Image
   im = image_found s p c
 
-  pub record_is : record_of_lem im Expressions id ≡ record_as s kind start
+  pub record_is : record_of im Expressions id ≡ record_as s kind start
   unfolding record_found
   record_is = record_found_lem s p c Expressions id h ∙ rw (← e, ← q) refl
 
@@ -74,7 +74,7 @@ module _ (s p : List ℕ) (c : Counts) (id start kind : ℕ) (h : id < c.express
 module _ (clone : ℕ → Make ℕ) (more : (j : ℕ) → Adds (clone j)) where
   next_field : (s : List ℕ) (rest place : ℕ) → rest < 2 ^ 64 → (rest ≡ 0 → ⊥) →
       clone_fields clone (codes rest) (fields_at s (codes rest) place)
-      ≡ (clone_field clone (sort_of (rest % 256)) (field_in_lem s (sort_of (rest % 256)) place)
+      ≡ (clone_field clone (sort_of (rest % 256)) (field_in s (sort_of (rest % 256)) place)
       >>= λ g. clone_fields clone (codes (rest / 256)) (fields_at s (codes (rest / 256)) (place + width_of (sort_of (rest % 256)))) >>= λ gs. give (g ∷ gs))
   unfolding clone_fields fields_at
   next_field s rest place l q = ap (λ cs. clone_fields clone cs (fields_at s cs place)) (codes_more rest l q)
@@ -130,7 +130,7 @@ module _ (s p : List ℕ) (c : Counts) (id row at : ℕ) (start : State) where
     unfolding fields_at
     copying_field q = λ wf. ((w.fits wf).0, fitted wf)
       where
-        fitted : (wf : WellFormed (image_found s p c)) → FieldFits (image_found s p c) Expressions id (w.fits wf).0 (sort_of (rest % 256)) (field_in_lem s (sort_of (rest % 256)) place)
+        fitted : (wf : WellFormed (image_found s p c)) → FieldFits (image_found s p c) Expressions id (w.fits wf).0 (sort_of (rest % 256)) (field_in s (sort_of (rest % 256)) place)
         fitted wf = first_fits (subst (λ cs. FieldsFit (image_found s p c) Expressions id (w.fits wf).0 (map sort_of cs) (fields_at s cs place)) (codes_more rest w.small q) (w.fits wf).1)
 
     pub copying_more : (q : rest ≡ 0 → ⊥) (word width : ℕ) (next : State) (words' : List ℕ) → CopiesField (image_found s p c) s id (rest % 256) place here word next →
@@ -148,7 +148,7 @@ module _ (s p : List ℕ) (c : Counts) (id row at : ℕ) (start : State) where
               ∙ ap (λ cs. w.done ++ word_fields cs ws j) split
               ∙ ap (λ x. w.done ++ word_field (sort_of (rest % 256)) x ∷ word_fields (codes (rest / 256)) ws (j + 1)) (same_word ws words' j e ∙ ap (λ l. get_or l j 0) o ∙ get_or-set_same words j word 0 (omega (arith, w.size, w.few, counted)))
               ∙ sym (append_assoc w.done (word_field (sort_of (rest % 256)) word ∷ []) (word_fields (codes (rest / 256)) ws (j + 1)));
-          fits = λ wf. (first (field_in_lem s (sort_of (rest % 256)) place), rw v (others_fit (subst (λ cs. FieldsFit (image_found s p c) Expressions id (w.fits wf).0 (map sort_of cs) (fields_at s cs place)) split (w.fits wf).1)));
+          fits = λ wf. (first (field_in s (sort_of (rest % 256)) place), rw v (others_fit (subst (λ cs. FieldsFit (image_found s p c) Expressions id (w.fits wf).0 (map sort_of cs) (fields_at s cs place)) split (w.fits wf).1)));
           follows = λ gs t f.
               subst (λ z. Does (image_found s p c) 0 0 nothing (clone_fields (clone_below id) (codes row) (fields_at s (codes row) at)) start z t)
               (sym (append_assoc w.done (word_field (sort_of (rest % 256)) word ∷ []) gs))

@@ -1,6 +1,6 @@
 -- The entries that wait become a list.
 -- Assumes nothing.
-use Rattle.std.proofs.Common.{◌≡◌, ℕ, ◌+◌, ◌-◌, ◌*◌, ◌<◌, ◌≤◌, Bool, true, false, cond, ltb, List, [], ◌∷◌, ◌++◌, length, take, drop, sym, refl, ap, ◌∙◌, subst, ap₂, append_nil, arith, length-append, take-take, drop_at, ltb-false}
+use Rattle.std.proofs.Common.{◌≡◌, ℕ, ◌+◌, ◌-◌, ◌*◌, ◌<◌, ◌≤◌, Bool, true, false, cond, ltb, List, [], ◌∷◌, ◌++◌, length, take, drop, sym, refl, ap, ◌∙◌, subst, ap₂, append-nil, arith, length-append, take-take, drop_at, ltb-false}
 use mathlib.Core.Option.{Option, none, some}
 use lib.ListN.{length-map}
 use lib.Seq.{take-append_seam}
@@ -30,7 +30,7 @@ list_over ws b x h =
     record {
       sections = ap (λ z. length z.image.records) n.is ∙ lib.ListN.length-set x.image.records 1 _ ∙ h.sections;
       more =
-          rw (n.is, records_own x.image Lists (records_of x.image Lists ++ list_records b) h.sections, length-append (records_of x.image Lists) (list_records b), length_entries b, append_nil ws)
+          rw (n.is, records_own x.image Lists (records_of x.image Lists ++ list_records b) h.sections, length-append (records_of x.image Lists) (list_records b), length_entries b, append-nil ws)
           (omega (arith, h.more, length-append ws b));
     })
 
@@ -179,7 +179,7 @@ list_made first self scratch w end count b f n e q o = record { listed = λ im k
         subst (λ z. Ends im k nothing ws (and_then z new_list) (pair self.lists count) (at (enlisted self count first) end w)) (sym is)
         (subst (λ z. Ends im k nothing ws z (pair self.lists count) (at (enlisted self count first) end w)) (sym gave)
         (ends_live f
-        (subst (λ z. Live im k (context_of im (with_lists l.new (list_records ns)) self) z (enlisted self count first) end w) (sym (append_nil ws))
+        (subst (λ z. Live im k (context_of im (with_lists l.new (list_records ns)) self) z (enlisted self count first) end w) (sym (append-nil ws))
         (record {
           new = with_lists l.new (list_records ns);
           context = refl;

@@ -4,7 +4,7 @@ use Rattle.std.proofs.Common.{◌≡◌, ℕ, ◌<◌, ◌≤◌, Bool, true, fa
 use mathlib.Core.Option.{Option, none}
 use Rattle.rl_spec.specs.declared.RefineOperand as operand
 use Rattle.rl_spec.specs.declared.RefineOperand.TheVariants.{Integer, Str, Bool as Truth, Param as Named}
-use Rattle.rl_spec.specs.Schema.{limits, sort_of, schema, fields_in_lem, fields_of}
+use Rattle.rl_spec.specs.Schema.{limits, sort_of, schema, fields_in, fields_of}
 use Rattle.rl_spec.specs.Image.{num, Image, text_of}
 use Rattle.rl_spec.specs.Words.{bits64}
 use Rattle.rl_spec.specs.FnContracts.{operand_of}
@@ -68,7 +68,7 @@ module _ {im : Image} (image : Image) (x : operand.RefineOperand) (s : State) wh
 -- ---- the nodes: a leaf's fields are its span and its number
 
 leaf_fields : (kind w : ℕ) → Leaf kind → (cs : List ℕ) × ((fields_of kind ≡ 3 ∷ cs) × (word_fields cs (w ∷ 0 ∷ 0 ∷ []) 0 ≡ num w ∷ []))
-unfolding word_fields fields_of fields_in_lem schema sort_of
+unfolding word_fields fields_of fields_in schema sort_of
 leaf_fields kind w an_integer = (_, (refl, refl))
 leaf_fields kind w a_string = (_, (refl, refl))
 leaf_fields kind w a_bool = (_, (refl, refl))

@@ -1,7 +1,7 @@
 -- How many bytes records take.
 -- Assumes nothing.
-use Rattle.std.proofs.Common.{◌≡◌, ℕ, zero, suc, ◌+◌, ◌-◌, ◌*◌, ◌/◌, ◌%◌, ◌^◌, ◌<◌, ◌≤◌, Bool, true, false, cond, not, ◌&&◌, T, eqb, ltb, List, [], ◌∷◌, ◌++◌, length, get_or, sym, refl, ap, ◌∙◌, subst, ap₂, append_assoc, append_nil, arith, length-append, ltb-false}
-use Rattle.rl_spec.specs.Schema.{Row, schema, sort_of, width_of, fields_in_lem, fields_of}
+use Rattle.std.proofs.Common.{◌≡◌, ℕ, zero, suc, ◌+◌, ◌-◌, ◌*◌, ◌/◌, ◌%◌, ◌^◌, ◌<◌, ◌≤◌, Bool, true, false, cond, not, ◌&&◌, T, eqb, ltb, List, [], ◌∷◌, ◌++◌, length, get_or, sym, refl, ap, ◌∙◌, subst, ap₂, append_assoc, append-nil, arith, length-append, ltb-false}
+use Rattle.rl_spec.specs.Schema.{Row, schema, sort_of, width_of, fields_in, fields_of}
 use Rattle.rl_spec.specs.Image.{num, pair, Rec, bytes_of, encode_field, encode_fields, encode_record, encode_records, widths_of}
 use Rattle.rl_spec.specs.Make.{made}
 use Rattle.rl_schema.specs.Codes.{codes_in, codes}
@@ -18,7 +18,7 @@ records_append (r ∷ a) b = ap (λ s. encode_record r ++ s) (records_append a b
 
 pub records_one : (a : List Rec) (r : Rec) → encode_records (a ++ r ∷ []) ≡ encode_records a ++ encode_record r
 unfolding encode_records
-records_one a r = records_append a (r ∷ []) ∙ ap (λ s. encode_records a ++ s) (append_nil (encode_record r))
+records_one a r = records_append a (r ∷ []) ∙ ap (λ s. encode_records a ++ s) (append-nil (encode_record r))
 
 -- ---- a record of words
 
@@ -33,13 +33,13 @@ narrow : List Row → Bool
 narrow [] = true
 narrow (r ∷ rs) = not (ltb 23 (widths_of r.fields)) && narrow rs
 
-narrow_row : (k : ℕ) (rs : List Row) → narrow rs ≡ true → widths_of (fields_in_lem k rs) ≤ 23
-unfolding fields_in_lem widths_of narrow
+narrow_row : (k : ℕ) (rs : List Row) → narrow rs ≡ true → widths_of (fields_in k rs) ≤ 23
+unfolding fields_in widths_of narrow
 narrow_row k [] h = omega arith
 narrow_row k (r ∷ rs) h = go (ltb 23 (widths_of r.fields)) refl h (λ e. narrow_row k rs e) (eqb k r.kind)
   where
-    go : (t : Bool) → ltb 23 (widths_of r.fields) ≡ t → not t && narrow rs ≡ true → (narrow rs ≡ true → widths_of (fields_in_lem k rs) ≤ 23) →
-        (b : Bool) → widths_of (cond b r.fields (fields_in_lem k rs)) ≤ 23
+    go : (t : Bool) → ltb 23 (widths_of r.fields) ≡ t → not t && narrow rs ≡ true → (narrow rs ≡ true → widths_of (fields_in k rs) ≤ 23) →
+        (b : Bool) → widths_of (cond b r.fields (fields_in k rs)) ≤ 23
     go true e f rest b = absurd (subst T (sym f) tt)
     go false e f rest true = ltb-false 23 (widths_of r.fields) e
     go false e f rest false = rest f
@@ -59,7 +59,7 @@ record_narrow kind ws = rw (record_bytes kind ws) (omega (arith, fields_width (f
 -- ---- a text's record, and list entries
 
 pub text_record : (at n : ℕ) → at < 65536 → n < 65536 → encode_record (made 2 (pair at n ∷ [])) ≡ bytes_of 5 (2 + at * 256 + n * 16777216)
-unfolding encode_record encode_fields bytes_of fields_of fields_in_lem schema sort_of
+unfolding encode_record encode_fields bytes_of fields_of fields_in schema sort_of
 text_record at n h k = λ i. a i ∷ b i ∷ c i ∷ d i ∷ e i ∷ []
   where
     a : 2 ≡ (2 + at * 256 + n * 16777216) % 256
@@ -78,7 +78,7 @@ text_record at n h k = λ i. a i ∷ b i ∷ c i ∷ d i ∷ e i ∷ []
     e = omega arith
 
 pub entry_record : (n : ℕ) → n < 65536 → encode_record (made 3 (num n ∷ [])) ≡ bytes_of 3 (3 + n * 256)
-unfolding encode_record encode_fields bytes_of fields_of fields_in_lem schema sort_of
+unfolding encode_record encode_fields bytes_of fields_of fields_in schema sort_of
 entry_record n h = λ i. a i ∷ b i ∷ c i ∷ []
   where
     a : 3 ≡ (3 + n * 256) % 256
@@ -91,7 +91,7 @@ entry_record n h = λ i. a i ∷ b i ∷ c i ∷ []
     c = omega arith
 
 pub entries_bytes : (ns : List ℕ) → length (encode_records (list_records ns)) ≡ 3 * length ns
-unfolding encode_records encode_record encode_fields bytes_of fields_of fields_in_lem schema sort_of
+unfolding encode_records encode_record encode_fields bytes_of fields_of fields_in schema sort_of
 entries_bytes [] = refl
 entries_bytes (n ∷ ns) = omega (arith, entries_bytes ns)
 

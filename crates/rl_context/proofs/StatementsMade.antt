@@ -3,7 +3,7 @@
 use Rattle.std.proofs.Common.{◌≡◌, ℕ, Bool, true, false, cond, List, [], ◌∷◌, sym, refl, ap, ◌∙◌, subst}
 use Rattle.rl_spec.specs.declared.Section.TheVariants.{Statements}
 use Rattle.rl_spec.specs.declared.Interval.{Interval}
-use Rattle.rl_spec.specs.Schema.{sort_of, schema, fields_in_lem, fields_of}
+use Rattle.rl_spec.specs.Schema.{sort_of, schema, fields_in, fields_of}
 use Rattle.rl_spec.specs.Image.{Field, num, pair, Rec, Image}
 use Rattle.rl_spec.specs.declared.Optional.TheVariants.{None}
 use Rattle.rl_spec.specs.Ranges.{optional_field}
@@ -35,16 +35,16 @@ does_by_result {p = p} f more d =
 
 module _ {im : Image} {j k : ℕ} {s t : State} {a : ℕ} (node : ℕ) where
   pub expression_does : Does im j k nothing (append Statements (word_record 65 (s.ctx.span ∷ node ∷ []) ∷ [])) s a t → Does im j k nothing (new_stmt 65 (num node ∷ [])) s a t
-  unfolding word_record word_fields fields_of fields_in_lem schema sort_of
+  unfolding word_record word_fields fields_of fields_in schema sort_of
   expression_does d = does_stmt 65 _ _ refl d
 
   pub return_does : Does im j k nothing (append Statements (word_record 66 (s.ctx.span ∷ node ∷ []) ∷ [])) s a t → Does im j k nothing (new_stmt 66 (num node ∷ [])) s a t
-  unfolding word_record word_fields fields_of fields_in_lem schema sort_of
+  unfolding word_record word_fields fields_of fields_in schema sort_of
   return_does d = does_stmt 66 _ _ refl d
 
 pub declare_does : {im : Image} {j k : ℕ} {s t u : State} {n a : ℕ} (name : List ℕ) (value : ℕ) → Does im j j nothing (new_text name) s n t →
     Does im j k nothing (append Statements (word_record 64 (t.ctx.span ∷ n ∷ 0 ∷ value ∷ 0 ∷ []) ∷ [])) t a u → Does im j k nothing (declare name value) s a u
-unfolding declare word_record word_fields fields_of fields_in_lem schema sort_of
+unfolding declare word_record word_fields fields_of fields_in schema sort_of
 declare_does name value d e =
     does_bind d (keeps_more nothing (λ m. adds_new 64 (num m ∷ num 0 ∷ num value ∷ num 0 ∷ []))) (does_stmt 64 _ _ refl e)
 
@@ -78,14 +78,14 @@ module _ {im : Image} {s t : State} {n : ℕ} (msg : ℕ) (d : Does im 0 0 nothi
 
 branch_record : (span condition w : ℕ) (body : Interval) → Word w body →
     word_record 69 (span ∷ condition ∷ w ∷ 0 ∷ []) ≡ made 69 (num span ∷ num condition ∷ pair body.first body.count ∷ num 0 ∷ [])
-unfolding word_record word_fields fields_of fields_in_lem schema sort_of
+unfolding word_record word_fields fields_of fields_in schema sort_of
 branch_record span condition w body e = ap (λ p. made 69 (num span ∷ num condition ∷ p ∷ num 0 ∷ [])) e
 
 pub only_if_does : {im : Image} {s t u v : State} {b a : ℕ} (condition stm : ℕ) (body : Interval) (w x : ℕ) → Does im 0 0 nothing (new_list (stm ∷ [])) s (pair body.first body.count) t →
     Word w body → num x ≡ optional_field None →
     Does im 0 0 nothing (append Statements (word_record 69 (t.ctx.span ∷ condition ∷ w ∷ 0 ∷ []) ∷ [])) t b u →
     Does im 0 0 nothing (append Statements (word_record 68 (u.ctx.span ∷ b ∷ x ∷ []) ∷ [])) u a v → Does im 0 0 nothing (only_if condition stm) s a v
-unfolding only_if word_record word_fields fields_of fields_in_lem schema sort_of
+unfolding only_if word_record word_fields fields_of fields_in schema sort_of
 only_if_does {t = t} {u = u} {b = b} condition stm body w x d e o f g =
     does_bind d
     (keeps_more nothing (λ p. adds_bind (adds_new 69 (num condition ∷ p ∷ num 0 ∷ [])) (λ branch. adds_new 68 (num branch ∷ optional_field None ∷ []))))

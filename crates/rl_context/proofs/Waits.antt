@@ -1,6 +1,6 @@
 -- Entries that wait, and the lists that they become.
 -- Assumes nothing.
-use Rattle.std.proofs.Common.{◌≡◌, ℕ, suc, ◌+◌, ◌*◌, ◌<◌, ◌≤◌, true, false, List, [], ◌∷◌, ◌++◌, length, get_or, take, drop, set, sym, refl, ap, ◌∙◌, subst, ap₂, append_nil, arith, length-append, length-drop, length-set, length-take-le, get_or-drop, take-suc, take-suc-set}
+use Rattle.std.proofs.Common.{◌≡◌, ℕ, suc, ◌+◌, ◌*◌, ◌<◌, ◌≤◌, true, false, List, [], ◌∷◌, ◌++◌, length, get_or, take, drop, set, sym, refl, ap, ◌∙◌, subst, ap₂, append-nil, arith, length-append, length-drop, length-set, length-take-le, get_or-drop, take-suc, take-suc-set}
 use mathlib.Core.Option.{some}
 use Rattle.rl_spec.specs.Image.{num, Image, bytes_of, encode_records}
 use Rattle.rl_spec.specs.Make.{Context, made}
@@ -87,7 +87,7 @@ push_made entry self scratch w end f h q =
             image = l.live.image;
             counted = counted_same (self.waiting + 1) l.live.counted;
             kept = l.live.kept;
-            waits = subst (Waiting (ws ++ entry ∷ []) (waiting_with self (self.waiting + 1))) (sym q) (one_more ws self w entry h (subst (λ z. Waiting z self w) (append_nil ws) l.live.waits));
+            waits = subst (Waiting (ws ++ entry ∷ []) (waiting_with self (self.waiting + 1))) (sym q) (one_more ws self w entry h (subst (λ z. Waiting z self w) (append-nil ws) l.live.waits));
             temps = l.live.temps;
           }));
     }

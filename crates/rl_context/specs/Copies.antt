@@ -6,7 +6,7 @@ use Rattle.rl_spec.specs.declared.Target.{Target}
 use Rattle.rl_spec.specs.declared.Sort.{Sort}
 use Rattle.rl_spec.specs.declared.Sort.TheVariants.{Raw, Byte, Scalar, Part, One, Maybe, Many, Range, OperandSort, Operand}
 use Rattle.rl_spec.specs.Schema.{sort_of}
-use Rattle.rl_spec.specs.Image.{Image, entry_of, field_in_lem, FieldFits, WellFormed}
+use Rattle.rl_spec.specs.Image.{Image, entry_of, field_in, FieldFits, WellFormed}
 use Rattle.rl_spec.specs.Tree.{below}
 use Rattle.rl_spec.specs.Ranges.{up_from}
 use Rattle.rl_spec.specs.Make.{Make, give}
@@ -35,7 +35,7 @@ clone_below id = below id give deep_clone_expr
 
 -- a field of the expression at hand, in a well-formed image
 abbrev pub Fitting : Image → list.List ℕ → ℕ → ℕ → ℕ → Type 0
-Fitting im s id code place = WellFormed im → (before : ℕ) × FieldFits im Expressions id before (sort_of code) (field_in_lem s (sort_of code) place)
+Fitting im s id code place = WellFormed im → (before : ℕ) × FieldFits im Expressions id before (sort_of code) (field_in s (sort_of code) place)
 
 abbrev pub Copies : Image → ℕ → State → ℕ → State → Type 0
 Copies im id s index t = Does im 0 0 nothing (deep_clone_expr id) s index t
@@ -43,7 +43,7 @@ Copies im id s index t = Does im 0 0 nothing (deep_clone_expr id) s index t
 -- a field's copy, as a word
 abbrev pub CopiesField : Image → list.List ℕ → ℕ → ℕ → ℕ → State → ℕ → State → Type 0
 CopiesField im bytes id code place s word t =
-    Does im 0 0 nothing (clone_field (clone_below id) (sort_of code) (field_in_lem bytes (sort_of code) place)) s (word_field (sort_of code) word) t
+    Does im 0 0 nothing (clone_field (clone_below id) (sort_of code) (field_in bytes (sort_of code) place)) s (word_field (sort_of code) word) t
 
 -- an entry's copy, which waits then
 abbrev pub CopiesEntry : Image → ℕ → Target → ℕ → State → State → Type 0

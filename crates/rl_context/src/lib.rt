@@ -1,6 +1,8 @@
 // The lowering context, rl-resolver's Ctx, and what is appended to an image with it. New text bytes, texts, list entries, expressions and
 // statements are kept in a lent scratch slice, each section at its own place, as the bytes of an image; the entries of lists that are being
 // made wait in another.
+#![tactic(auto)]
+
 mod clauses;
 mod copy;
 mod nodes;

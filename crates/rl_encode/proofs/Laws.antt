@@ -2,7 +2,7 @@
 -- Assumes nothing.
 use Prim.Native.Nat.{ℕ, zero, suc, ◌+◌, ◌-◌, ◌/◌, ◌%◌, ◌≤◌, ◌<◌}
 use mathlib.Core.Path.{◌≡◌, refl, ap, ap₂, sym, ◌∙◌}
-use mathlib.Core.List.{List, [], ◌∷◌, ◌++◌, append_assoc, append_nil}
+use mathlib.Core.List.{List, [], ◌∷◌, ◌++◌, append_assoc, append-nil}
 use native.Mathlib.Omega.{arith}
 use native.Mathlib.Nat.{sub-zero}
 use lib.ListN.{length, set, length-append}
@@ -54,7 +54,7 @@ module _ (out₀ : List ℕ) (at n width i rest : ℕ) (out : List ℕ) where
   pub putting_all : Putting out₀ at n width i rest out → i ≤ width → width ≤ i → out ≡ over out₀ at (bytes_of width n)
   unfolding bytes_of
   putting_all p h k =
-      p.is ∙ ap (over out₀ at) (sym (append_nil p.put) ∙ ap (λ j. p.put ++ bytes_of j rest) z ∙ sym p.whole)
+      p.is ∙ ap (over out₀ at) (sym (append-nil p.put) ∙ ap (λ j. p.put ++ bytes_of j rest) z ∙ sym p.whole)
     where
       z : 0 ≡ width - i
       z = omega arith

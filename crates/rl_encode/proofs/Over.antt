@@ -2,7 +2,7 @@
 -- Assumes nothing.
 use Prim.Native.Nat.{ℕ, suc, ◌+◌, ◌-◌, ◌≤◌, ◌<◌}
 use mathlib.Core.Path.{◌≡◌, refl, ap, ap₂, sym, ◌∙◌}
-use mathlib.Core.List.{List, [], ◌∷◌, ◌++◌, append_assoc, append_nil}
+use mathlib.Core.List.{List, [], ◌∷◌, ◌++◌, append_assoc, append-nil}
 use native.Mathlib.Omega.{arith}
 use native.Mathlib.Nat.{add-zero, add_assoc}
 use lib.ListN.{length, set, take, drop, length-append, length-drop, take-append-drop}
@@ -12,7 +12,7 @@ use Rattle.rl_encode.specs.Words.{over}
 module _ (l : List ℕ) (at : ℕ) where
   pub over_none : over l at [] ≡ l
   unfolding over
-  over_none = ap₂ (λ x n. x ++ drop n l) (append_nil (take at l)) (add-zero at) ∙ take-append-drop at l
+  over_none = ap₂ (λ x n. x ++ drop n l) (append-nil (take at l)) (add-zero at) ∙ take-append-drop at l
 
   module _ (s : List ℕ) where
     joined : over l at s ≡ (take at l ++ s) ++ drop (at + length s) l

@@ -3,7 +3,7 @@
 use Prim.Native.Nat.{ℕ, suc, ◌+◌, ◌-◌, ◌/◌, ◌%◌, ◌^◌, ◌≤◌, ◌<◌}
 use mathlib.Core.Path.{◌≡◌, refl, ap, ap₂, sym, ◌∙◌}
 use mathlib.Core.Bool.{Bool, true, false, cond}
-use mathlib.Core.List.{List, [], ◌∷◌, ◌++◌, append_assoc, append_nil}
+use mathlib.Core.List.{List, [], ◌∷◌, ◌++◌, append_assoc, append-nil}
 use native.Mathlib.Omega.{arith}
 use native.Mathlib.Nat.{add-zero}
 use lib.ListN.{length, get_or, length-append}
@@ -79,7 +79,7 @@ recording_none out at row ws room l =
 module _ (out₀ : List ℕ) (at row : ℕ) (ws out : List ℕ) (rest place j : ℕ) (r : Recording out₀ at row ws out rest place j) where
   last : rest ≡ 0 → r.put ≡ bytes_in (codes row) ws 0
   unfolding encode_fields word_fields
-  last z = sym (append_nil r.put) ∙ ap (λ cs. r.put ++ bytes_in cs ws j) (sym (codes_none rest z)) ∙ sym r.whole
+  last z = sym (append-nil r.put) ∙ ap (λ cs. r.put ++ bytes_in cs ws j) (sym (codes_none rest z)) ∙ sym r.whole
 
   pub recording_all : rest ≡ 0 → out ≡ over out₀ at (bytes_in (codes row) ws 0)
   recording_all z = r.is ∙ ap (over out₀ at) (last z)

@@ -1,4 +1,6 @@
 // Numbers and records as the bytes of an image.
+#![tactic(auto)]
+
 ghost use Rattle.std.specs.Prelude.{◌≡◌, ◌∷◌, ◌+◌, ◌≤◌, length};
 ghost use Rattle.rl_spec.specs.Image.{bytes_of, encode_fields};
 ghost use Rattle.rl_schema.specs.Codes.{codes};

@@ -17,7 +17,7 @@ use Rattle.rl_spec.specs.Functions.{plain_function}
 use Rattle.rl_spec.specs.Prove.{report_entries, call_entries, all_entries, prove_of, prove_all_of}
 use Rattle.rl_spec.specs.Lowerer.{too_tall, any_over, lower_of, lower_answer}
 use Rattle.rl_spec.specs.Printed.{line_at}
-use Rattle.rl_spec.specs.Runner.{all_have_lem, run_of, ran_in, value_of_words}
+use Rattle.rl_spec.specs.Runner.{all_have, run_of, ran_in, value_of_words}
 use Rattle.rl_spec.specs.Pages.{pages_answer}
 use Rattle.rl_spec.specs.Texts.{text_part, text_for, message_at, message_answer, message_out}
 use Rattle.rl_spec.specs.Boundary.{prove_packed, lower_packed, id_of, fold_packed, fold_words, is_plain, is_value, are_values, count_of_words, arguments_of, outcome_words, run_packed, run_words, text_packed, message_packed, pages_packed}
@@ -28,7 +28,7 @@ use Rattle.rl_examples.specs.ContractRows.{proving}
 use Rattle.rl_examples.specs.PrinterExamples.{printing, both_fail}
 
 unfoldable bounding : Unit {0}
-unfolding is_plain is_value are_values count_of_words arguments_of value_of_words words_value all_have_lem run_of ran_in fold_of text_part text_for message_at message_answer message_out pages_answer line_at plain_function
+unfolding is_plain is_value are_values count_of_words arguments_of value_of_words words_value all_have run_of ran_in fold_of text_part text_for message_at message_answer message_out pages_answer line_at plain_function
 bounding = tt
 
 unfoldable reporting : Unit {0}

@@ -13,7 +13,7 @@ use Rattle.rl_spec.specs.Image.{num, pair, Image, encode, image_of, sections_in,
 use Rattle.rl_spec.specs.Tree.{ascii}
 use Rattle.rl_spec.specs.Ranges.{up_from}
 use Rattle.rl_spec.specs.Prove.{report_entries, call_entries}
-use Rattle.rl_spec.specs.Runner.{all_have_lem, run_of, run_number}
+use Rattle.rl_spec.specs.Runner.{all_have, run_of, run_number}
 use Rattle.rl_examples.specs.MarkedImages.{made, string, bool, identifier, binary, bang_equal, parameter, refined, clause, function, call, build}
 use Rattle.rl_examples.specs.LowerExamples.{lowering, decoding, running}
 use Rattle.rl_examples.specs.NodeRows.{number, folding, evaluating}
@@ -148,5 +148,5 @@ values =
 
 -- THEOREM: they are run so, or refused
 pub values_so : map (λ v. answered (run v)) values ≡ map (λ (v : Values). (v.number, v.answer)) values
-unfolding lowering decoding running evaluating image_of sections_in records_in record_in next_at end_at fields_at widths_of all_have_lem run_of values
+unfolding lowering decoding running evaluating image_of sections_in records_in record_in next_at end_at fields_at widths_of all_have run_of values
 values_so = refl

@@ -14,7 +14,7 @@ use Rattle.rl_spec.specs.Run.{folded, folds, Outcome, returned, stopped, spent}
 use Rattle.rl_spec.specs.Mapped.{Text}
 use Rattle.rl_spec.specs.Lower.{lowered}
 use Rattle.rl_spec.specs.Lowerer.{any_over, too_tall, lower_of, lower_number}
-use Rattle.rl_spec.specs.Runner.{all_have_lem, run_of, run_number}
+use Rattle.rl_spec.specs.Runner.{all_have, run_of, run_number}
 use Rattle.rl_examples.specs.MarkedImages.{made, string, identifier, binary, plus, compare, less, parameter, clause, function, build, last_node, flow}
 use Rattle.rl_examples.specs.LowerExamples.{lowering, decoding, running}
 use Rattle.rl_examples.specs.NodeRows.{number, folding, evaluating}
@@ -29,7 +29,7 @@ one = record { values = replicate 16 (argument (whole 1)); count = 1 }
 pub flow_not_refused : number_in (answer_of (encode flow) 8192) ∷ fold_number (fold_of (encode flow) 8192 (last_node flow))
     ∷ prove_number (prove_of (encode flow) 8192 0 4) ∷ prove_number (prove_all_of (encode flow) 8192 8)
     ∷ lower_number (lower_of (encode flow) 8192 0 65535) ∷ run_number (run_of (encode flow) 8192 0 one 1000) ∷ [] ≡ 0 ∷ 0 ∷ 0 ∷ 0 ∷ 0 ∷ 0 ∷ []
-unfolding lowering decoding running folding evaluating proving image_of sections_in records_in record_in next_at end_at fields_at widths_of fold_of report_entries call_entries all_entries prove_of prove_all_of too_tall any_over heights heights_from tallest_child tallest_entry lower_of all_have_lem run_of
+unfolding lowering decoding running folding evaluating proving image_of sections_in records_in record_in next_at end_at fields_at widths_of fold_of report_entries call_entries all_entries prove_of prove_all_of too_tall any_over heights heights_from tallest_child tallest_entry lower_of all_have run_of
 flow_not_refused = refl
 
 -- ---- "never reports": the reports of the printer's image, as entries and as texts

@@ -66,11 +66,11 @@ err_literal n = made 50 (num 2 ∷ num n ∷ [])
 abbrev pub call_of : Field → Field → Rec
 call_of path args = made 41 (num 2 ∷ path ∷ args ∷ [])
 
-abbrev pub is_err_lem : ℕ → Rec
-is_err_lem n = call_of (pair 0 3) (from n 1)
+abbrev pub is_err : ℕ → Rec
+is_err n = call_of (pair 0 3) (from n 1)
 
-abbrev pub result_unwrap_lem : ℕ → Rec
-result_unwrap_lem n = call_of (pair 3 3) (from n 1)
+abbrev pub result_unwrap : ℕ → Rec
+result_unwrap n = call_of (pair 3 3) (from n 1)
 
 -- ---- statements
 

@@ -5,7 +5,7 @@ use Prim.Native.String.{String}
 use Rattle.std.proofs.Math.Option.{Option, none, some}
 use Rattle.rl_spec.specs.declared.Section.{Section}
 use Rattle.rl_spec.specs.declared.Section.TheVariants.{Texts, Lists, Expressions, Statements, Functions}
-use Rattle.rl_spec.specs.Schema.{limits, sections, in_section, sort_of, fields_of, fields_in_lem, schema}
+use Rattle.rl_spec.specs.Schema.{limits, sections, in_section, sort_of, fields_of, fields_in, schema}
 use Rattle.rl_spec.specs.Utf8.{within, utf8_char, begins, width_by, char_width, octets, utf8}
 use Rattle.rl_spec.specs.Bytes.{num_at, u16_at, u32_at, past}
 use Rattle.rl_spec.specs.Fields.{zeros, kind_of_statement, allowed, child_height, entry_at, range_of, part_of, byte_in, operand_sort_of, refer_to, refer_or_none, entries_from as entriesHold, list_of, operand_of, value_of, field_at, fields_from, record_at}
@@ -62,7 +62,7 @@ kinds o (some im) = map (λ (r : Rec). r.kind) (records_of im o)
 
 -- what computation opens
 unfoldable pub lowering : Unit {0}
-unfolding text_bytes text_records ascii limits sort_of fields_of fields_in_lem schema bytes_of encode_fields encode_record encode_records encode_sections encode_counts encode descend_by descend param_at clause_at function_at up_from param_of any_refined decimal_by decimal each flat_map append append_bytes new_text new_list stmt expr ident str_lit err_lit res_call clone_entries clone_fields deep_clone_expr violation only_if guard declare return_of wrap_as wrap_return refine_predicate transform_branch transform_arm transform_statement wrap_trailing desugar_fn_contracts has_contracts new_body fitting lowered_by
+unfolding text_bytes text_records ascii limits sort_of fields_of fields_in schema bytes_of encode_fields encode_record encode_records encode_sections encode_counts encode descend_by descend param_at clause_at function_at up_from param_of any_refined decimal_by decimal each flat_map append append_bytes new_text new_list stmt expr ident str_lit err_lit res_call clone_entries clone_fields deep_clone_expr violation only_if guard declare return_of wrap_as wrap_return refine_predicate transform_branch transform_arm transform_statement wrap_trailing desugar_fn_contracts has_contracts new_body fitting lowered_by
 lowering = tt
 
 -- ---- MARKED CASE 10: an Identifier as requires without message, empty plain body

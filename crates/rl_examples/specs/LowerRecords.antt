@@ -4,7 +4,7 @@ use Rattle.std.specs.Prelude.{◌≡◌, ℕ, List, [], ◌∷◌, map, replicat
 use Prim.Native.String.{String}
 use Rattle.std.proofs.Math.Option.{Option, none, some}
 use Rattle.rl_spec.specs.declared.Section.TheVariants.{Statements}
-use Rattle.rl_spec.specs.Image.{Field, num, pair, Rec, Image, record_of_lem}
+use Rattle.rl_spec.specs.Image.{Field, num, pair, Rec, Image, record_of}
 use Rattle.rl_spec.specs.Tree.{ascii}
 use Rattle.rl_spec.specs.Make.{made}
 use Rattle.rl_spec.specs.Lower.{lowered}
@@ -100,7 +100,7 @@ return_texts (temp ∷ temps) = temp ∷ temp ∷ "ret" ∷ "std" ∷ "res" ∷ 
 
 abbrev statements_at : List ℕ → Option Image → List Rec
 statements_at ns none = []
-statements_at ns (some im) = map (record_of_lem im Statements) ns
+statements_at ns (some im) = map (record_of im Statements) ns
 
 pub record NewRecords : Type 0 where
   -- the reader accepts them all

@@ -16,7 +16,7 @@ use Rattle.rl_spec.specs.Reading.{turns, stmt, body, branch_or, or_else, top, ru
 use Rattle.rl_spec.specs.Mapped.{Text, map_outcome}
 use Rattle.rl_spec.specs.Functions.{plain_function}
 use Rattle.rl_examples.specs.MarkedImages.{made, integer, uint, byte, character, string, bool, float, identifier, binary, unary, plus, minus, slash, less, text_bytes, text_records}
-use Rattle.rl_examples.specs.FunctionRows.{x, y, no, from, null, number, assign, ok_literal, err_literal, call_of, is_err_lem, result_unwrap_lem, none, declare, bare, return_alone, conditional, branch, while, loop, break, continue, never, int, truth, str, returned_null, five, said, listed, Row, expected, ends_late}
+use Rattle.rl_examples.specs.FunctionRows.{x, y, no, from, null, number, assign, ok_literal, err_literal, call_of, is_err, result_unwrap, none, declare, bare, return_alone, conditional, branch, while, loop, break, continue, never, int, truth, str, returned_null, five, said, listed, Row, expected, ends_late}
 use Rattle.rl_examples.specs.RunnerRows.{plainly, runs, node_of, node, half, first_rows}
 
 -- ---- "Literals and operators mean what they fold to."
@@ -58,8 +58,8 @@ taken =
     ∷ node (number 5 ∷ ok_literal 0 ∷ []) (returned (ok five)) 3
     ∷ node (null ∷ ok_literal 0 ∷ []) (returned (ok nothing)) 3
     ∷ node (number 5 ∷ err_literal 0 ∷ []) (returned (err five)) 3
-    ∷ node (number 5 ∷ ok_literal 0 ∷ is_err_lem 1 ∷ []) (returned (truth false)) 4
-    ∷ node (number 5 ∷ err_literal 0 ∷ is_err_lem 1 ∷ []) (returned (truth true)) 4
+    ∷ node (number 5 ∷ ok_literal 0 ∷ is_err 1 ∷ []) (returned (truth false)) 4
+    ∷ node (number 5 ∷ err_literal 0 ∷ is_err 1 ∷ []) (returned (truth true)) 4
     ∷ []
 
 -- the other forms, of which no part is entered: Character, ResolvedIdentifier, ArrayLiteral,
@@ -104,12 +104,12 @@ not_taken =
 
 abbrev unwrapping : List Row
 unwrapping =
-    node (number 5 ∷ ok_literal 0 ∷ result_unwrap_lem 1 ∷ []) (returned (int 5)) 4
-    ∷ node (null ∷ ok_literal 0 ∷ result_unwrap_lem 1 ∷ []) returned_null 4
-    ∷ node (string no ∷ err_literal 0 ∷ result_unwrap_lem 1 ∷ []) (stopped (said "no")) 4
-    ∷ node (null ∷ err_literal 0 ∷ result_unwrap_lem 1 ∷ []) (stopped nothing) 4
+    node (number 5 ∷ ok_literal 0 ∷ result_unwrap 1 ∷ []) (returned (int 5)) 4
+    ∷ node (null ∷ ok_literal 0 ∷ result_unwrap 1 ∷ []) returned_null 4
+    ∷ node (string no ∷ err_literal 0 ∷ result_unwrap 1 ∷ []) (stopped (said "no")) 4
+    ∷ node (null ∷ err_literal 0 ∷ result_unwrap 1 ∷ []) (stopped nothing) 4
     -- while true { unwrap(x) }, where x is an Err
-    ∷ runs (err five ∷ []) (identifier x ∷ result_unwrap_lem 0 ∷ bool 1 ∷ [])
+    ∷ runs (err five ∷ []) (identifier x ∷ result_unwrap 0 ∷ bool 1 ∷ [])
     (bare 1 ∷ while 2 (from 0 1) ∷ never ∷ []) 2 (stopped five) 6
     ∷ []
 
@@ -141,8 +141,8 @@ abbrev wrong_sort : List Row
 wrong_sort =
     conditions (int 1) ++ conditions half ++ conditions (str no) ++ conditions (plain nothing)
     ++ conditions (ok (folded (value.bool true))) ++ conditions (err (folded (value.bool true)))
-    ++ map (λ v. node_of (v ∷ []) (identifier x ∷ is_err_lem 0 ∷ []) (fault 2) 3) (int 5 ∷ plain nothing ∷ [])
-    ++ map (λ v. node_of (v ∷ []) (identifier x ∷ result_unwrap_lem 0 ∷ []) (fault 2) 3) (int 5 ∷ plain nothing ∷ [])
+    ++ map (λ v. node_of (v ∷ []) (identifier x ∷ is_err 0 ∷ []) (fault 2) 3) (int 5 ∷ plain nothing ∷ [])
+    ++ map (λ v. node_of (v ∷ []) (identifier x ∷ result_unwrap 0 ∷ []) (fault 2) 3) (int 5 ∷ plain nothing ∷ [])
     ++ map (λ v. node_of (v ∷ []) (identifier x ∷ ok_literal 0 ∷ []) (fault 2) 3) (ok five ∷ err five ∷ [])
     ++ map (λ v. node_of (v ∷ []) (identifier x ∷ err_literal 0 ∷ []) (fault 2) 3) (ok five ∷ err five ∷ [])
 

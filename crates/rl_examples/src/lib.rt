@@ -1,1 +1,2 @@
 // Closed examples of the definitions; specs/ has them.
+#![tactic(auto)]

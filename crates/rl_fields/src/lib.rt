@@ -1,4 +1,6 @@
 // What is checked of one record.
+#![tactic(auto)]
+
 mod lists;
 mod references;
 

@@ -1,4 +1,6 @@
 // Folding: `const_eval`, which remembers what it has found, so that a shared node is folded once.
+#![tactic(auto)]
+
 ghost use Rattle.std.specs.Prelude.{◌≡◌, List, ℕ};
 ghost use Rattle.rl_spec.specs.Image.{text_of};
 ghost use Rattle.rl_spec.specs.Folded.{const_of, folded_of};

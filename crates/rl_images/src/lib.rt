@@ -1,1 +1,2 @@
 // Laws of images that the code needs; specs/ has them.
+#![tactic(auto)]

@@ -6,7 +6,7 @@ use Rattle.std.proofs.Math.Path.{ap, fun_ext}
 use Rattle.std.proofs.Common.{arith, ltb-true, lt-ltb, le-ltb}
 use Rattle.rl_spec.specs.Image.{Image}
 use Rattle.rl_spec.specs.Tree.{other, below, descend_by, descend, form_of, tree_by, expr_tree}
-use Rattle.rl_spec.specs.Statement.{a_statement, other_statement, statement_of, item_by_lem, item_tree}
+use Rattle.rl_spec.specs.Statement.{a_statement, other_statement, statement_of, item_by, item_tree}
 
 below_same : {X : Type 0} (i : ℕ) (d f g : ℕ → X) → ((j : ℕ) → j < i → f j ≡ g j) → below i d f ≡ below i d g
 below_same {X} i d f g h = fun_ext (λ j. go j (ltb j i) refl)
@@ -32,9 +32,9 @@ unfolding expr_tree
 tree_is im i = descend_is (λ _. other) (λ n tree. tree_by im (form_of im n) tree) i
 
 -- THEOREM: the item of a statement is its form with the items of the statements before it
-pub item_is : (im : Image) (i : ℕ) → item_tree im i ≡ item_by_lem im (statement_of im i) (below i (λ _. a_statement other_statement) (item_tree im))
+pub item_is : (im : Image) (i : ℕ) → item_tree im i ≡ item_by im (statement_of im i) (below i (λ _. a_statement other_statement) (item_tree im))
 unfolding item_tree
-item_is im i = descend_is (λ _. a_statement other_statement) (λ n item. item_by_lem im (statement_of im n) item) i
+item_is im i = descend_is (λ _. a_statement other_statement) (λ n item. item_by im (statement_of im n) item) i
 
 pub under_earlier : {X : Type 0} (d g : ℕ → X) (i j : ℕ) → j < i → below i d g j ≡ g j
 under_earlier d g i j h = rw (lt-ltb j i h) refl

@@ -9,9 +9,9 @@ use Rattle.rl_spec.specs.declared.Counts.{Counts}
 use Rattle.rl_spec.specs.declared.Section.{Section}
 use Rattle.rl_spec.specs.declared.Section.TheVariants.{Texts, Lists, Expressions, Statements, Parameters, Clauses, Functions, Calls}
 use Rattle.rl_spec.specs.Bytes.{num_at, u16_at}
-use Rattle.rl_spec.specs.Schema.{text_bytes_at, sections, count_of, sort_of, schema, fields_in_lem, fields_of}
+use Rattle.rl_spec.specs.Schema.{text_bytes_at, sections, count_of, sort_of, schema, fields_in, fields_of}
 use Rattle.rl_spec.specs.Fields.{lists_at}
-use Rattle.rl_spec.specs.Image.{records_of, size_of, no_record, record_of_lem, entry_of, text_of, fields_at}
+use Rattle.rl_spec.specs.Image.{records_of, size_of, no_record, record_of, entry_of, text_of, fields_at}
 use Rattle.rl_spec.specs.Found.{record_as, record_found, records_found, image_found}
 use Rattle.rl_spec.specs.Texts.{text_part}
 
@@ -43,16 +43,16 @@ module _ (s p : List ℕ) (c : Counts) where
     pub size_found : size_of (image_found s p c) o ≡ count_of c o
     size_found = rw records_found_lem (length_found (count_of c o) 0)
 
-    pub record_found_lem : (i : ℕ) → i < count_of c o → record_of_lem (image_found s p c) o i ≡ record_found s p c o i
+    pub record_found_lem : (i : ℕ) → i < count_of c o → record_of (image_found s p c) o i ≡ record_found s p c o i
     record_found_lem i h = rw records_found_lem (get_or_found (count_of c o) 0 i h ∙ ap (record_found s p c o) (omega arith))
 
-    pub record_missing : (i : ℕ) → count_of c o ≤ i → record_of_lem (image_found s p c) o i ≡ no_record
+    pub record_missing : (i : ℕ) → count_of c o ≤ i → record_of (image_found s p c) o i ≡ no_record
     record_missing i h = get_or-eq_default (records_of (image_found s p c) o) no_record (rw size_found h)
 
   -- ---- a list entry
 
   pub entry_found : (k : ℕ) → k < c.lists → entry_of (image_found s p c) k ≡ u16_at s (lists_at c + k * 3 + 1)
-  unfolding record_found record_as fields_at fields_of fields_in_lem schema sort_of num_at u16_at
+  unfolding record_found record_as fields_at fields_of fields_in schema sort_of num_at u16_at
   entry_found k h = rw (record_found_lem Lists k h) (omega arith)
 
   pub entry_missing : (k : ℕ) → c.lists ≤ k → entry_of (image_found s p c) k ≡ 0
@@ -61,12 +61,12 @@ module _ (s p : List ℕ) (c : Counts) where
   -- ---- a text
 
   pub text_found : (t : ℕ) → t < c.texts → text_of (image_found s p c) t ≡ take (u16_at s (text_bytes_at + c.bytes + t * 5 + 1 + 2)) (drop (u16_at s (text_bytes_at + c.bytes + t * 5 + 1)) (take c.bytes (drop text_bytes_at s)))
-  unfolding image_found record_found record_as fields_at fields_of fields_in_lem schema sort_of
+  unfolding image_found record_found record_as fields_at fields_of fields_in schema sort_of
   text_found t h = rw (record_found_lem Texts t h) refl
 
   -- where its bytes are
   pub part_found : (t : ℕ) → t < c.texts → text_part (image_found s p c) t ≡ record { start = text_bytes_at + u16_at s (text_bytes_at + c.bytes + t * 5 + 1); length = u16_at s (text_bytes_at + c.bytes + t * 5 + 1 + 2) }
-  unfolding text_part record_found record_as fields_at fields_of fields_in_lem schema sort_of
+  unfolding text_part record_found record_as fields_at fields_of fields_in schema sort_of
   part_found t h = rw (record_found_lem Texts t h) refl
 
   pub part_missing : (t : ℕ) → c.texts ≤ t → text_part (image_found s p c) t ≡ record { start = text_bytes_at; length = 0 }

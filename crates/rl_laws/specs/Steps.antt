@@ -9,7 +9,7 @@ use Rattle.std.proofs.Math.Nat.{suc-le-suc_iff, le-suc}
 use Rattle.rl_spec.specs.Values as value
 use Rattle.rl_spec.specs.Values.{ConstVal}
 use Rattle.rl_spec.specs.Fold.{unary_value, binary_value}
-use Rattle.rl_spec.specs.Tree.{Expr, null, literal, identifier, unary, binary, grouping, assign, ok_literal, err_literal, is_err_lem, result_unwrap_lem, other}
+use Rattle.rl_spec.specs.Tree.{Expr, null, literal, identifier, unary, binary, grouping, assign, ok_literal, err_literal, is_err, result_unwrap, other}
 use Rattle.rl_spec.specs.Statement.{Stmt, declaration, expression, return, return_alone, conditional, while, loop, break, continue, other_statement, Body, nil, ◌▸◌, Branch, branch, Else, no_else, else_branch, else_conditional}
 use Rattle.rl_spec.specs.Run.{nothing, folded, Value, plain, ok, err, Bound, hidden, Env, Outcome, returned, stopped, fault, spent, Result, got, ended, Run, and_then, ◌>>=◌, ◌>>◌, give, halt, or_fault, tick, charge, bind, leaving, scoped, truth, plain_of, err_of, unwrapped, operand, find, update, look, store, unary_on, binary_on, eval}
 use Rattle.rl_spec.specs.Reading.{Check, Function, Mode, plainly, checked, mode_of, body_under, bare, Flow, onward, breaks, continues, followed, followed_top, again, turns, repeat, loop_turn, when, unless, bind_all, content, subject, violated, checks, checked_return, returning, returning_null, taken, while_turn, stmt, body, branch_or, or_else, last_or, top, entering}
@@ -280,8 +280,8 @@ module _ {T : Type 0} (bytes : T → List ℕ) where
   evals (assign x e) = then ticks (λ _. then (evals e) (λ v. then (stores x v) (λ _. gives v)))
   evals (ok_literal e) = then ticks (λ _. then (evals e) (λ v. then (plain_ofs v) (λ p. gives _)))
   evals (err_literal e) = then ticks (λ _. then (evals e) (λ v. then (plain_ofs v) (λ p. gives _)))
-  evals (is_err_lem e) = then ticks (λ _. then (evals e) (λ v. then (err_ofs v) (λ b. gives _)))
-  evals (result_unwrap_lem e) = then ticks (λ _. then (evals e) unwrappeds)
+  evals (is_err e) = then ticks (λ _. then (evals e) (λ v. then (err_ofs v) (λ b. gives _)))
+  evals (result_unwrap e) = then ticks (λ _. then (evals e) unwrappeds)
   evals other = then ticks (λ _. halts _ tt)
 
 module _ {T : Type 0} (bytes : T → List ℕ) where

@@ -1,4 +1,6 @@
 // The line of a report, its message, and the line of a refusal, from the start of a lent buffer on. What has no room is left out.
+#![tactic(auto)]
+
 ghost use Rattle.std.specs.Prelude.{◌≡◌, ◌++◌, ◌≤◌, length};
 ghost use Rattle.rl_spec.specs.Found.{image_found};
 ghost use Rattle.rl_spec.specs.Message.{default_text, message_by, opening};

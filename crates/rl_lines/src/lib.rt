@@ -1,5 +1,7 @@
 // The reports of an image's calls as lines and as messages, and its texts. An image is opened once; each call is proved once; each of its
 // lines is put by itself.
+#![tactic(auto)]
+
 mod lines;
 mod messages;
 mod opened;

@@ -21,7 +21,7 @@ use Rattle.rl_spec.specs.Run as run
 use Rattle.rl_spec.specs.Run.{eval, bind}
 use Rattle.rl_spec.specs.Reading.{stmt}
 use Rattle.rl_spec.specs.Tree.{below, expr_tree, optional_tree}
-use Rattle.rl_spec.specs.Statement.{Stmt, declaration, return, return_alone, break, continue, other_statement, a_statement, as_statement, statement_of, item_by_lem, item_tree}
+use Rattle.rl_spec.specs.Statement.{Stmt, declaration, return, return_alone, break, continue, other_statement, a_statement, as_statement, statement_of, item_by, item_tree}
 use Rattle.rl_laws.specs.Tests.{by_ltb}
 use Rattle.rl_laws.specs.Descend.{item_is, under_earlier, under_later, below_earlier, below_later}
 use Rattle.rl_laws.specs.Heights.{expr_height}
@@ -82,7 +82,7 @@ last_same true t e = e
 last_same false t e = refl
 
 -- by its form
-made : (im : Image) (s : ℕ) (x : StatementForm) → statement_of im s ≡ x → as_statement (item_tree im s) ≡ as_statement (item_by_lem im x (below s (λ _. a_statement other_statement) (item_tree im)))
+made : (im : Image) (s : ℕ) (x : StatementForm) → statement_of im s ≡ x → as_statement (item_tree im s) ≡ as_statement (item_by im x (below s (λ _. a_statement other_statement) (item_tree im)))
 made im s x e = rw (item_is im s, e) refl
 
 -- one that holds statements
@@ -96,7 +96,7 @@ module _ (x : StatementForm) (s : ℕ) (last : Bool) where
       × ((im : Image) (bound : ℕ) → s < bound → Low im → Room im bound 0 r)
 
   -- one that the last bare expression may not stand for
-  as_made : (im : Image) (y : StatementForm) (t : Stmt ℕ) → statement_of im s ≡ x → x ≡ y → as_statement (item_by_lem im y (below s (λ _. a_statement other_statement) (item_tree im))) ≡ t → as_return t ≡ t → last_as last (as_statement (item_tree im s)) ≡ t
+  as_made : (im : Image) (y : StatementForm) (t : Stmt ℕ) → statement_of im s ≡ x → x ≡ y → as_statement (item_by im y (below s (λ _. a_statement other_statement) (item_tree im))) ≡ t → as_return t ≡ t → last_as last (as_statement (item_tree im s)) ≡ t
   as_made im y t e f g h = rw (made im s x e, f, g) (last_same last t h)
 
   pub begin_alone : x ≡ form.ReturnAlone → Begun (Ends (Over (Returned (Plain Null))))

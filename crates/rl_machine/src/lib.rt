@@ -1,5 +1,7 @@
 // The machine that runs a list of statements, without its bindings: what a statement begins with, what a node asks for, and what a
 // frame does with the value that it waited for.
+#![tactic(auto)]
+
 mod begin;
 mod enter;
 mod resume;

@@ -1,4 +1,6 @@
 // What is remembered of nodes that were folded under some names, in lent words.
+#![tactic(auto)]
+
 ghost use Rattle.std.specs.Prelude.{◌≡◌, ℕ, length, replicate};
 ghost use Rattle.rl_memory.specs.Memory.{recalled, recall_of, tag_word, remember_of, Right};
 

@@ -1,4 +1,6 @@
 // Names bound to values, in lent words.
+#![tactic(auto)]
+
 ghost use Rattle.std.specs.Prelude.{◌≡◌};
 ghost use Rattle.rl_spec.specs.Words.{sort_word_of, payload_word_of, words_value};
 ghost use Rattle.rl_names.specs.Names.{lookup_in, bind_in};

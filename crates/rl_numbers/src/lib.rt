@@ -1,4 +1,6 @@
 // The number of each cause, for whoever hands a refusal on.
+#![tactic(auto)]
+
 ghost use Rattle.std.specs.Prelude.{◌≡◌};
 ghost use Rattle.rl_spec.specs.Read.{number_of};
 

@@ -1,4 +1,6 @@
 // The operators by their bytes in the image.
+#![tactic(auto)]
+
 ghost use Rattle.std.specs.Prelude.{◌≡◌, List, ℕ};
 ghost use Rattle.rl_spec.specs.Values.{compare_values};
 ghost use Rattle.rl_spec.specs.Folded.{const_of, op_of, folded_of};

@@ -2,7 +2,7 @@
 -- Assumes nothing.
 use Prim.Native.Nat.{ℕ, ◌+◌, ◌-◌, ◌≤◌, min}
 use mathlib.Core.Path.{◌≡◌, refl, sym, ap, subst, ◌∙◌}
-use mathlib.Core.List.{List, [], ◌++◌, append_assoc, append_nil}
+use mathlib.Core.List.{List, [], ◌++◌, append_assoc, append-nil}
 use native.Mathlib.Omega.{arith}
 use lib.ListN.{length, take, drop, replicate, length-append}
 use lib.Seq.{take-append_seam, take-append-le, take-append-add, drop-append-add, take-length}
@@ -23,7 +23,7 @@ room_for m n t l =
     (λ h.
     let z : min (length t) m ≡ m = omega arith in
     let y : m - m ≡ 0 = omega arith in
-    rw (z, y) (take-append-le m t (replicate n 0) (omega arith) ∙ sym (append_nil (take m t))))
+    rw (z, y) (take-append-le m t (replicate n 0) (omega arith) ∙ sym (append-nil (take m t))))
     (λ h.
     let z : min (length t) m ≡ length t = omega arith in
     rw (z, take-length t) (all_shown m n t h (omega arith)))
@@ -83,7 +83,7 @@ pub adds_text : (l t out : List ℕ) (at r : ℕ) → out ≡ with_text l at t �
 adds_text l t out at r f g e sh = rw (f, g) (shown_more l e t at sh)
 
 pub adds_none : (l : List ℕ) (at : ℕ) → Adds l at [] l at
-adds_none l at e sh = rw (append_nil e) sh
+adds_none l at e sh = rw (append-nil e) sh
 
 pub adds_then : (l a m b out : List ℕ) (at p r : ℕ) → Adds l at a m p → Adds m p b out r → Adds l at (a ++ b) out r
 adds_then l a m b out at p r f g e sh = rw (← append_assoc e a b) (g (e ++ a) (f e sh))

@@ -2,7 +2,7 @@
 -- Assumes nothing.
 use Prim.Native.Nat.{ℕ, zero, suc, ◌+◌, ◌-◌, ◌%◌, ◌≤◌, ◌<◌}
 use mathlib.Core.Path.{◌≡◌, refl, sym, ap, ◌∙◌}
-use mathlib.Core.List.{List, [], ◌∷◌, ◌++◌, map, append_nil, map-append}
+use mathlib.Core.List.{List, [], ◌∷◌, ◌++◌, map, append-nil, map-append}
 use native.Mathlib.Omega.{arith}
 use native.Mathlib.Numerals.{add-one}
 use lib.ListN.{length, take, replicate, length-append}
@@ -36,7 +36,7 @@ lines_append a b =
 
 lines_one : (x : List ℕ) → lines_bytes (x ∷ []) ≡ encode_text (ended x)
 unfolding lines_bytes joined
-lines_one x = ap encode_text (append_nil (ended x))
+lines_one x = ap encode_text (append-nil (ended x))
 
 lines_more : (a : List (List ℕ)) (x : List ℕ) → lines_bytes a ++ encode_text (ended x) ≡ lines_bytes (a ++ x ∷ [])
 lines_more a x = rw (lines_append a (x ∷ []), lines_one x) refl

@@ -1,4 +1,6 @@
 // The reports of all calls on printed pages.
+#![tactic(auto)]
+
 mod answer;
 mod lines;
 mod put;

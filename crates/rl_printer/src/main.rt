@@ -1,4 +1,6 @@
 // Prints a line for each report of the calls of the image on standard input, or why it is refused.
+#![tactic(auto)]
+
 use libc::{STDERR_FILENO, STDIN_FILENO};
 use rl_bytes::part;
 use rl_report::print_reports;

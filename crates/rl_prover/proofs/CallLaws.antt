@@ -2,7 +2,7 @@
 -- Assumes nothing.
 use Prim.Native.Nat.{ℕ, ◌+◌, ◌*◌, ◌≤◌, ◌<◌}
 use mathlib.Core.Path.{◌≡◌, refl, sym, ap, subst, ◌∙◌}
-use mathlib.Core.List.{List, [], ◌∷◌, ◌++◌, append_nil, append_assoc}
+use mathlib.Core.List.{List, [], ◌∷◌, ◌++◌, append-nil, append_assoc}
 use native.Mathlib.Omega.{arith}
 use lib.ListN.{length, replicate}
 use Rattle.rl_laws.specs.Found.{size_found}
@@ -78,7 +78,7 @@ module _ (s p : List ℕ) (c : Counts) (cs : List ℕ) (call : ℕ) (w l : List 
 
     pub call_missing : y ≡ Missing → ProvesCall (image_found s p c) cs call w l start l start
     unfolding violations_of report_entries
-    call_missing z near cl room e sh = rw (found cl, z, append_nil e) sh
+    call_missing z near cl room e sh = rw (found cl, z, append-nil e) sh
 
     pub call_found : (f : ℕ) → y ≡ Found f → (out : List ℕ) (r : ℕ) → ProvesCallee (image_found s p c) cs f k.args call k.span w l start out r → ProvesCall (image_found s p c) cs call w l start out r
     unfolding violations_of arguments_of

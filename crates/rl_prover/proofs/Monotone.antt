@@ -8,7 +8,7 @@ use mathlib.Core.Option.{Option, none, some}
 use lib.Dec.{T, eqb}
 use borrow.Author.Tests.{eqb-true}
 use Rattle.rl_spec.specs.Values.{ConstVal, same_text}
-use Rattle.rl_spec.specs.Tree.{Expr, null, literal, identifier, unary, binary, grouping, assign, ok_literal, err_literal, is_err_lem, result_unwrap_lem, other}
+use Rattle.rl_spec.specs.Tree.{Expr, null, literal, identifier, unary, binary, grouping, assign, ok_literal, err_literal, is_err, result_unwrap, other}
 use Rattle.rl_spec.specs.Fold.{Binding, unary_folded, binary_folded, lookup, const_eval}
 
 never : {A : Type 0} → true ≡ false → A
@@ -72,6 +72,6 @@ module _ {A : Type 0} (bytes : A → List ℕ) where
     value_stays (assign x e) v h = not_some v h
     value_stays (ok_literal e) v h = not_some v h
     value_stays (err_literal e) v h = not_some v h
-    value_stays (is_err_lem e) v h = not_some v h
-    value_stays (result_unwrap_lem e) v h = not_some v h
+    value_stays (is_err e) v h = not_some v h
+    value_stays (result_unwrap e) v h = not_some v h
     value_stays other v h = not_some v h

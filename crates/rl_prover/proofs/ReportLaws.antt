@@ -3,13 +3,13 @@
 use Prim.Native.Nat.{ℕ, zero, suc, ◌+◌, ◌-◌, ◌≤◌}
 use mathlib.Core.Path.{◌≡◌, refl, ap, subst, ◌∙◌}
 use mathlib.Core.Bool.{Bool, true, false}
-use mathlib.Core.List.{List, [], ◌∷◌, ◌++◌, append_nil}
+use mathlib.Core.List.{List, [], ◌∷◌, ◌++◌, append-nil}
 use native.Mathlib.Omega.{arith}
 use lib.ListN.{length, set, take, replicate, length-set, length-append}
 use Rattle.rl_spec.specs.declared.Violation.{Violation}
 use Rattle.rl_spec.specs.declared.Violation.TheVariants.{Refinement, Requires}
 use Rattle.rl_spec.specs.Prove.{report, report_entries, entries_by}
-use Rattle.rl_prover.specs.Reports.{put_four_lem, put_violation, Shown, Reports}
+use Rattle.rl_prover.specs.Reports.{put_four, put_violation, Shown, Reports}
 
 -- ---- one entry
 
@@ -45,7 +45,7 @@ four [] a b c d = refl
 four (x ∷ e) a b c d = ap (λ (l : List ℕ). x ∷ l) (four e a b c d)
 
 module _ (l e : List ℕ) (at a b c d : ℕ) (s : Shown l e at) where
-  shown_four : Shown (put_four_lem l at a b c d) (e ++ (a ∷ b ∷ c ∷ d ∷ [])) (at + 4)
+  shown_four : Shown (put_four l at a b c d) (e ++ (a ∷ b ∷ c ∷ d ∷ [])) (at + 4)
   shown_four =
       let p : at + 1 + 1 ≡ at + 2 = omega arith in
       let q : at + 2 + 1 ≡ at + 3 = omega arith in
@@ -53,13 +53,13 @@ module _ (l e : List ℕ) (at a b c d : ℕ) (s : Shown l e at) where
       let one = shown_more l e at a s in
       let two : Shown (set (set l at a) (at + 1) b) ((e ++ (a ∷ [])) ++ (b ∷ [])) (at + 2) = subst (λ (i : ℕ). Shown (set (set l at a) (at + 1) b) ((e ++ (a ∷ [])) ++ (b ∷ [])) i) p (shown_more _ _ (at + 1) b one) in
       let three : Shown (set (set (set l at a) (at + 1) b) (at + 2) c) (((e ++ (a ∷ [])) ++ (b ∷ [])) ++ (c ∷ [])) (at + 3) = subst (λ (i : ℕ). Shown (set (set (set l at a) (at + 1) b) (at + 2) c) (((e ++ (a ∷ [])) ++ (b ∷ [])) ++ (c ∷ [])) i) q (shown_more _ _ (at + 2) c two) in
-      subst (λ (x : List ℕ). Shown (put_four_lem l at a b c d) x (at + 4)) (four e a b c d)
-      (subst (λ (i : ℕ). Shown (put_four_lem l at a b c d) ((((e ++ (a ∷ [])) ++ (b ∷ [])) ++ (c ∷ [])) ++ (d ∷ [])) i) r (shown_more _ _ (at + 3) d three))
+      subst (λ (x : List ℕ). Shown (put_four l at a b c d) x (at + 4)) (four e a b c d)
+      (subst (λ (i : ℕ). Shown (put_four l at a b c d) ((((e ++ (a ∷ [])) ++ (b ∷ [])) ++ (c ∷ [])) ++ (d ∷ [])) i) r (shown_more _ _ (at + 3) d three))
 
 module _ (call span : ℕ) where
   one_report : (v : Violation) → report_entries call span (v ∷ []) ≡ entries_by call span v
   unfolding report_entries
-  one_report v = append_nil (entries_by call span v)
+  one_report v = append-nil (entries_by call span v)
 
   shown_violation : (l e : List ℕ) (at : ℕ) (v : Violation) → Shown l e at → Shown (put_violation l at call span v) (e ++ entries_by call span v) (at + 4)
   shown_violation l e at (Refinement n) s = shown_four l e at call span 0 n s
@@ -73,7 +73,7 @@ module _ (call span : ℕ) where
 
     pub report_no : failed ≡ false → Reports l at call span failed v l at
     unfolding report_entries
-    report_no f e s = rw (f, append_nil e) s
+    report_no f e s = rw (f, append-nil e) s
 
   -- a report ahead of others
   pub report_first : (failed : Bool) (v : Violation) (vs : List Violation) → report_entries call span (report failed v vs) ≡ report_entries call span (report failed v []) ++ report_entries call span vs
@@ -82,12 +82,12 @@ module _ (call span : ℕ) where
   report_first true (Requires n) vs = refl
   report_first false v vs = refl
 
-pub put_four_lem : (l a b c out : List ℕ) (at w x y z : ℕ) → a ≡ set l at w → b ≡ set a (at + 1) x → c ≡ set b (at + 2) y → out ≡ set c (at + 3) z → out ≡ put_four_lem l at w x y z
+pub put_four_lem : (l a b c out : List ℕ) (at w x y z : ℕ) → a ≡ set l at w → b ≡ set a (at + 1) x → c ≡ set b (at + 2) y → out ≡ set c (at + 3) z → out ≡ put_four l at w x y z
 put_four_lem l a b c out at w x y z p q r t = rw (t, r, q, p) refl
 
 module _ (l out : List ℕ) (at call span : ℕ) (v : Violation) (n : ℕ) where
-  pub put_refinement : v ≡ Refinement n → out ≡ put_four_lem l at call span 0 n → out ≡ put_violation l at call span v
+  pub put_refinement : v ≡ Refinement n → out ≡ put_four l at call span 0 n → out ≡ put_violation l at call span v
   put_refinement e f = rw e f
 
-  pub put_requires : v ≡ Requires n → out ≡ put_four_lem l at call span 1 n → out ≡ put_violation l at call span v
+  pub put_requires : v ≡ Requires n → out ≡ put_four l at call span 1 n → out ≡ put_violation l at call span v
   put_requires e f = rw e f

@@ -3,7 +3,7 @@
 use Prim.Native.Nat.{ℕ, ◌+◌, ◌-◌, ◌*◌, ◌≤◌, ◌<◌, min}
 use mathlib.Core.Path.{◌≡◌, refl, sym, ap, subst, ◌∙◌}
 use mathlib.Core.Bool.{Bool}
-use mathlib.Core.List.{List, [], ◌∷◌, ◌++◌, append_nil, append_assoc, map}
+use mathlib.Core.List.{List, [], ◌∷◌, ◌++◌, append-nil, append_assoc, map}
 use native.Mathlib.Omega.{arith}
 use lib.ListN.{length}
 use Rattle.rl_laws.specs.Tests.{by_ltb}
@@ -59,7 +59,7 @@ module _ (im : Image) (cs w : List ℕ) (count call span : ℕ) (left : List (Bi
       unfolding report_entries
       end none env e r =
           let s = b.so_far env e r in
-          subst (λ (x : List ℕ). Reported im env cs w count m l x at) (sym (s.rest ∙ rw (none env) (append_nil s.entries))) s.reported
+          subst (λ (x : List ℕ). Reported im env cs w count m l x at) (sym (s.rest ∙ rw (none env) (append-nil s.entries))) s.reported
 
       module _ (failed : Bool) (v : Violation) (mid out : List ℕ) (r : ℕ) where
         next : i < most → ((env : List (Binding ℕ)) → Passing im env cs w count m → (left env i ≡ report failed v (left env (i + 1))) × Passing im env cs w count mid) → length mid ≡ length m → Reports l at call span failed v out r → r ≤ at + 4 → length out ≡ length l → Before m₀ l₀ start most mid out r (i + 1)

@@ -4,12 +4,12 @@ use Rattle.rl_spec.specs.declared.Violation.{Violation}
 use Rattle.rl_spec.specs.declared.Violation.TheVariants.{Refinement, Requires}
 use Rattle.rl_spec.specs.Prove.{report, report_entries}
 
-abbrev pub put_four_lem : List ℕ → ℕ → ℕ → ℕ → ℕ → ℕ → List ℕ
-put_four_lem l at a b c d = set (set (set (set l at a) (at + 1) b) (at + 2) c) (at + 3) d
+abbrev pub put_four : List ℕ → ℕ → ℕ → ℕ → ℕ → ℕ → List ℕ
+put_four l at a b c d = set (set (set (set l at a) (at + 1) b) (at + 2) c) (at + 3) d
 
 abbrev pub put_violation : List ℕ → ℕ → ℕ → ℕ → Violation → List ℕ
-put_violation l at call span (Refinement n) = put_four_lem l at call span 0 n
-put_violation l at call span (Requires n) = put_four_lem l at call span 1 n
+put_violation l at call span (Refinement n) = put_four l at call span 0 n
+put_violation l at call span (Requires n) = put_four l at call span 1 n
 
 -- the slice holds the entries e and then zeros, as far as it is long; `at` is the place after them
 pub record Shown (l e : List ℕ) (at : ℕ) : Type 0 where

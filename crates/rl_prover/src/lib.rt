@@ -1,4 +1,6 @@
 // Proving a call: its callee, the two passes over arguments and parameters, the requires.
+#![tactic(auto)]
+
 mod bindings;
 mod callee;
 mod calls;

@@ -13,7 +13,7 @@ use Rattle.rl_spec.specs.declared.Interval.{Interval}
 use Rattle.rl_spec.specs.declared.Optional.{Optional}
 use Rattle.rl_spec.specs.declared.Optional.TheVariants.{Some}
 use Rattle.rl_spec.specs.Bytes.{num_at, u16_at, u32_at}
-use Rattle.rl_spec.specs.Schema.{sort_of, schema, fields_in_lem, fields_of}
+use Rattle.rl_spec.specs.Schema.{sort_of, schema, fields_in, fields_of}
 use Rattle.rl_spec.specs.Image.{num, pair, fields_at}
 use Rattle.rl_spec.specs.Tree.{signed}
 use Rattle.rl_spec.specs.Ranges.{interval, optional}
@@ -80,15 +80,15 @@ module _ (s : List ℕ) (c : Counts) (i : ℕ) where
 
   module _ (at : ℕ) where
     pub param_is : i < c.parameters → at ≡ parameters_at s c → (name op sort x : ℕ) (r : ParamRefinement) → name ≡ u16_at s (at + i * 17 + 1) → op ≡ get_or s (at + i * 17 + 1 + 2 + 4) 0 → sort ≡ get_or s (at + i * 17 + 1 + 2 + 4 + 1) 0 → x ≡ num_at s (at + i * 17 + 1 + 2 + 4 + 1 + 1) 8 → r ≡ refinement_by op sort x → (p : List ℕ) → record { name = name; refinement = r } ≡ param_at (image_found s p c) i
-    unfolding param_at record_found record_as fields_at fields_of fields_in_lem schema sort_of
+    unfolding param_at record_found record_as fields_at fields_of fields_in schema sort_of
     param_is h b name op sort x r e f g k l p = rw (record_found_lem s p c Parameters i h, ← b, l, k, g, f, e) (simp (one, two))
 
     pub clause_is : i < c.clauses → at ≡ clauses_at s c → (condition : ℕ) (message : Optional) → condition ≡ u16_at s (at + i * 5 + 1) → message ≡ optional (num (u16_at s (at + i * 5 + 1 + 2))) → (p : List ℕ) → record { condition = condition; message = message } ≡ clause_at (image_found s p c) i
-    unfolding clause_at record_found record_as fields_at fields_of fields_in_lem schema sort_of
+    unfolding clause_at record_found record_as fields_at fields_of fields_in schema sort_of
     clause_is h b condition message e f p = rw (record_found_lem s p c Clauses i h, ← b, f, e) (simp two)
 
     pub call_is : i < c.calls → at ≡ calls_at s c → (callee span : ℕ) (args : Interval) → callee ≡ u16_at s (at + i * 11 + 1) → span ≡ u32_at s (at + i * 11 + 1 + 2) → args ≡ interval (pair (u16_at s (at + i * 11 + 1 + 2 + 4)) (u16_at s (at + i * 11 + 1 + 2 + 4 + 2))) → (p : List ℕ) → record { callee = callee; span = span; args = args } ≡ call_at (image_found s p c) i
-    unfolding call_at record_found record_as fields_at fields_of fields_in_lem schema sort_of
+    unfolding call_at record_found record_as fields_at fields_of fields_in schema sort_of
     call_is h b callee span args e f g p = rw (record_found_lem s p c Calls i h, ← b, g, f, e) (simp (four, two s (at + i * 11 + 1)))
 
   -- ---- functions
@@ -102,5 +102,5 @@ module _ (s : List ℕ) (c : Counts) (i : ℕ) where
 
   module _ (at name span flag : ℕ) (params body required ensured : Interval) where
     pub function_is : i < c.functions → at ≡ functions_at s c → name ≡ u16_at s (at + i * 24 + 1) → span ≡ u32_at s (at + i * 24 + 1 + 2) → params ≡ list (at + i * 24 + 1 + 2 + 4) → flag ≡ get_or s (at + i * 24 + 1 + 2 + 4 + 4) 0 → body ≡ list (at + i * 24 + 1 + 2 + 4 + 4 + 1) → required ≡ list (at + i * 24 + 1 + 2 + 4 + 4 + 1 + 4) → ensured ≡ list (at + i * 24 + 1 + 2 + 4 + 4 + 1 + 4 + 4) → (p : List ℕ) → record { name = name; span = span; params = params; result = eqb flag 1; body = body; required = required; ensured = ensured } ≡ function_at (image_found s p c) i
-    unfolding function_at record_found record_as fields_at fields_of fields_in_lem schema sort_of
+    unfolding function_at record_found record_as fields_at fields_of fields_in schema sort_of
     function_is h b e f g k l m n p = rw (record_found_lem s p c Functions i h, ← b, n, m, l, k, g, f, e) (simp (one, four, two s (at + i * 24 + 1)))

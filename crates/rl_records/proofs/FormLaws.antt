@@ -12,7 +12,7 @@ use Rattle.rl_spec.specs.declared.Folded.TheVariants.{Value}
 use Rattle.rl_spec.specs.declared.Form.{Form}
 use Rattle.rl_spec.specs.declared.Form.TheVariants.{Null, Literal, Identifier, Unary, Binary, Grouping, Assign, OkLiteral, ErrLiteral, IsErr, ResultUnwrap, Other}
 use Rattle.rl_spec.specs.Bytes.{num_at, u16_at, u32_at}
-use Rattle.rl_spec.specs.Schema.{sort_of, schema, fields_in_lem, fields_of}
+use Rattle.rl_spec.specs.Schema.{sort_of, schema, fields_in, fields_of}
 use Rattle.rl_spec.specs.Values.{same_text}
 use Rattle.rl_spec.specs.Image.{pair, entry_of, text_of, fields_at}
 use Rattle.rl_spec.specs.Tree.{ascii, signed, unsigned, is_res_path, call_form, form_by, form_of}
@@ -32,11 +32,11 @@ std = 115 ∷ 116 ∷ 100 ∷ []
 abbrev res : List ℕ
 res = 114 ∷ 101 ∷ 115 ∷ []
 
-abbrev is_err_lem : List ℕ
-is_err_lem = 105 ∷ 115 ∷ 95 ∷ 101 ∷ 114 ∷ 114 ∷ []
+abbrev is_err : List ℕ
+is_err = 105 ∷ 115 ∷ 95 ∷ 101 ∷ 114 ∷ 114 ∷ []
 
-abbrev result_unwrap_lem : List ℕ
-result_unwrap_lem = 114 ∷ 101 ∷ 115 ∷ 117 ∷ 108 ∷ 116 ∷ 95 ∷ 117 ∷ 110 ∷ 119 ∷ 114 ∷ 97 ∷ 112 ∷ []
+abbrev result_unwrap : List ℕ
+result_unwrap = 114 ∷ 101 ∷ 115 ∷ 117 ∷ 108 ∷ 116 ∷ 95 ∷ 117 ∷ 110 ∷ 119 ∷ 114 ∷ 97 ∷ 112 ∷ []
 
 module _ (s : List ℕ) (c : Counts) where
   -- ---- a path
@@ -80,12 +80,12 @@ module _ (s : List ℕ) (c : Counts) where
     unfolding call_form
     call_other h p = rw (ne_eqb args.count 1 h) refl
 
-    module _ (e : args.count ≡ 1) (a : Bool) (g : (p : List ℕ) → a ≡ is_path path is_err_lem p) where
+    module _ (e : args.count ≡ 1) (a : Bool) (g : (p : List ℕ) → a ≡ is_path path is_err p) where
       pub call_is_err : a ≡ true → (x : ℕ) → ((p : List ℕ) → x ≡ entry_of (image_found s p c) args.first) → (p : List ℕ) → IsErr x ≡ formed p
       unfolding call_form ascii
       call_is_err t x f p = rw (e, ← g p, t) (ap IsErr (f p))
 
-      module _ (t : a ≡ false) (b : Bool) (h : (p : List ℕ) → b ≡ is_path path result_unwrap_lem p) where
+      module _ (t : a ≡ false) (b : Bool) (h : (p : List ℕ) → b ≡ is_path path result_unwrap p) where
         pub call_unwrap : b ≡ true → (x : ℕ) → ((p : List ℕ) → x ≡ entry_of (image_found s p c) args.first) → (p : List ℕ) → ResultUnwrap x ≡ formed p
         unfolding call_form ascii
         call_unwrap u x f p = rw (e, ← g p, ← h p, t, u) (ap ResultUnwrap (f p))
@@ -112,83 +112,83 @@ module _ (s : List ℕ) (c : Counts) where
     form_null q p = rw (← e, q) refl
 
     pub form_int : k ≡ 17 → (n : ℕ) → n ≡ num_at s at 8 → (v : ℤ) → v ≡ signed 64 n → SFits w64 v → (r : Form) → r ≡ Literal (Value (Int (to_z w64 (of_z w64 v)))) → (p : List ℕ) → r ≡ form p
-    unfolding form_by record_as fields_at fields_of fields_in_lem schema sort_of
+    unfolding form_by record_as fields_at fields_of fields_in schema sort_of
     form_int q n f v g h r i p = rw (← e, q, ← f, ← g) (i ∙ rw (to_z-of_z h) refl)
 
     pub form_sint : k ≡ 18 → (n : ℕ) → n ≡ u32_at s at → (v : ℤ) → v ≡ signed 32 n → SFits w64 v → (r : Form) → r ≡ Literal (Value (Int (to_z w64 (of_z w64 v)))) → (p : List ℕ) → r ≡ form p
-    unfolding form_by record_as fields_at fields_of fields_in_lem schema sort_of
+    unfolding form_by record_as fields_at fields_of fields_in schema sort_of
     form_sint q n f v g h r i p = rw (← e, q, ← four s at, ← f, ← g) (i ∙ rw (to_z-of_z h) refl)
 
     pub form_uint : k ≡ 19 → (n : ℕ) → n ≡ num_at s at 8 → (v : Folded) → v ≡ unsigned n → (p : List ℕ) → Literal v ≡ form p
-    unfolding form_by record_as fields_at fields_of fields_in_lem schema sort_of
+    unfolding form_by record_as fields_at fields_of fields_in schema sort_of
     form_uint q n f v g p = rw (← e, q, ← f, ← g) refl
 
     pub form_suint : k ≡ 20 → (n : ℕ) → n ≡ u32_at s at → Fits w32 n → (r : Form) → r ≡ Literal (Value (Int (to_z w64 n))) → (p : List ℕ) → r ≡ form p
-    unfolding form_by record_as fields_at fields_of fields_in_lem schema sort_of
+    unfolding form_by record_as fields_at fields_of fields_in schema sort_of
     form_suint q n f h r i p = rw (← e, q, ← four s at, ← f) (i ∙ ap whole (to_z_pos w64 (omega (arith, h.fits))))
 
     pub form_byte : k ≡ 21 → (n : ℕ) → n ≡ get_or s at 0 → Fits w8 n → (r : Form) → r ≡ Literal (Value (Int (to_z w64 n))) → (p : List ℕ) → r ≡ form p
-    unfolding form_by record_as fields_at fields_of fields_in_lem schema sort_of
+    unfolding form_by record_as fields_at fields_of fields_in schema sort_of
     form_byte q n f h r i p = rw (← e, q, ← one s at, ← f) (i ∙ ap whole (to_z_pos w64 (omega (arith, h.fits))))
 
     pub form_bbyte : k ≡ 23 → (n : ℕ) → n ≡ u16_at s at → Fits w16 n → (r : Form) → r ≡ Literal (Value (Int (to_z w64 n))) → (p : List ℕ) → r ≡ form p
-    unfolding form_by record_as fields_at fields_of fields_in_lem schema sort_of
+    unfolding form_by record_as fields_at fields_of fields_in schema sort_of
     form_bbyte q n f h r i p = rw (← e, q, ← two s at, ← f) (i ∙ ap whole (to_z_pos w64 (omega (arith, h.fits))))
 
     pub form_sbyte : k ≡ 22 → (n : ℕ) → n ≡ get_or s at 0 → (v : ℤ) → v ≡ signed 8 n → SFits w64 v → (r : Form) → r ≡ Literal (Value (Int (to_z w64 (of_z w64 v)))) → (p : List ℕ) → r ≡ form p
-    unfolding form_by record_as fields_at fields_of fields_in_lem schema sort_of
+    unfolding form_by record_as fields_at fields_of fields_in schema sort_of
     form_sbyte q n f v g h r i p = rw (← e, q, ← one s at, ← f, ← g) (i ∙ rw (to_z-of_z h) refl)
 
     pub form_bsbyte : k ≡ 24 → (n : ℕ) → n ≡ u16_at s at → (v : ℤ) → v ≡ signed 16 n → SFits w64 v → (r : Form) → r ≡ Literal (Value (Int (to_z w64 (of_z w64 v)))) → (p : List ℕ) → r ≡ form p
-    unfolding form_by record_as fields_at fields_of fields_in_lem schema sort_of
+    unfolding form_by record_as fields_at fields_of fields_in schema sort_of
     form_bsbyte q n f v g h r i p = rw (← e, q, ← two s at, ← f, ← g) (i ∙ rw (to_z-of_z h) refl)
 
     pub form_str : k ≡ 25 → (n : ℕ) → n ≡ u16_at s at → (r : Form) → r ≡ Literal (Value (Str n)) → (p : List ℕ) → r ≡ form p
-    unfolding form_by record_as fields_at fields_of fields_in_lem schema sort_of
+    unfolding form_by record_as fields_at fields_of fields_in schema sort_of
     form_str q n f r i p = rw (← e, q, ← two s at, ← f) i
 
     pub form_bool : k ≡ 26 → (n : ℕ) → n ≡ get_or s at 0 → (r : Form) → r ≡ Literal (Value (Truth (eqb n 1))) → (p : List ℕ) → r ≡ form p
-    unfolding form_by record_as fields_at fields_of fields_in_lem schema sort_of
+    unfolding form_by record_as fields_at fields_of fields_in schema sort_of
     form_bool q n f r i p = rw (← e, q, ← one s at, ← f) i
 
     pub form_float : k ≡ 27 → (n : ℕ) → n ≡ num_at s at 8 → (x : Float) → x ≡ of_bits binary64 n → (r : Form) → r ≡ Literal (Value (Real x)) → (p : List ℕ) → r ≡ form p
-    unfolding form_by record_as fields_at fields_of fields_in_lem schema sort_of
+    unfolding form_by record_as fields_at fields_of fields_in schema sort_of
     form_float q n f x g r i p = rw (← e, q, ← f, ← g) i
 
     pub form_sfloat : k ≡ 28 → (n : ℕ) → n ≡ u32_at s at → (x : Float) → x ≡ of_bits binary32 n → (r : Form) → r ≡ Literal (Value (Real x)) → (p : List ℕ) → r ≡ form p
-    unfolding form_by record_as fields_at fields_of fields_in_lem schema sort_of
+    unfolding form_by record_as fields_at fields_of fields_in schema sort_of
     form_sfloat q n f x g r i p = rw (← e, q, ← four s at, ← f, ← g) i
 
     pub form_identifier : k ≡ 30 → (x : ℕ) → x ≡ u16_at s at → (p : List ℕ) → Identifier x ≡ form p
-    unfolding form_by record_as fields_at fields_of fields_in_lem schema sort_of
+    unfolding form_by record_as fields_at fields_of fields_in schema sort_of
     form_identifier q x f p = rw (← e, q, ← two s at, ← f) refl
 
     pub form_binary : k ≡ 32 → (x y z : ℕ) → x ≡ u16_at s at → y ≡ get_or s (at + 2) 0 → z ≡ u16_at s (at + 2 + 1) → (p : List ℕ) → Binary x y z ≡ form p
-    unfolding form_by record_as fields_at fields_of fields_in_lem schema sort_of
+    unfolding form_by record_as fields_at fields_of fields_in schema sort_of
     form_binary q x y z f g h p = rw (← e, q, ← two s at, ← one s (at + 2), ← two s (at + 2 + 1), ← f, ← g, ← h) refl
 
     pub form_unary : k ≡ 33 → (x y : ℕ) → x ≡ get_or s at 0 → y ≡ u16_at s (at + 1) → (p : List ℕ) → Unary x y ≡ form p
-    unfolding form_by record_as fields_at fields_of fields_in_lem schema sort_of
+    unfolding form_by record_as fields_at fields_of fields_in schema sort_of
     form_unary q x y f g p = rw (← e, q, ← one s at, ← two s (at + 1), ← f, ← g) refl
 
     pub form_grouping : k ≡ 34 → (x : ℕ) → x ≡ u16_at s at → (p : List ℕ) → Grouping x ≡ form p
-    unfolding form_by record_as fields_at fields_of fields_in_lem schema sort_of
+    unfolding form_by record_as fields_at fields_of fields_in schema sort_of
     form_grouping q x f p = rw (← e, q, ← two s at, ← f) refl
 
     pub form_assign : k ≡ 39 → (x y : ℕ) → x ≡ u16_at s at → y ≡ u16_at s (at + 2) → (p : List ℕ) → Assign x y ≡ form p
-    unfolding form_by record_as fields_at fields_of fields_in_lem schema sort_of
+    unfolding form_by record_as fields_at fields_of fields_in schema sort_of
     form_assign q x y f g p = rw (← e, q, ← two s at, ← two s (at + 2), ← f, ← g) refl
 
     pub form_call : k ≡ 41 → (path args : Interval) → path ≡ interval (pair (u16_at s at) (u16_at s (at + 2))) → args ≡ interval (pair (u16_at s (at + 4)) (u16_at s (at + 4 + 2))) → (r : Form) → ((p : List ℕ) → r ≡ formed path args p) → (p : List ℕ) → r ≡ form p
-    unfolding form_by record_as fields_at fields_of fields_in_lem schema sort_of
+    unfolding form_by record_as fields_at fields_of fields_in schema sort_of
     form_call q path args f g r i p = i p ∙ rw (← e, q, f, g) refl
 
     pub form_ok : k ≡ 49 → (x : ℕ) → x ≡ u16_at s at → (p : List ℕ) → OkLiteral x ≡ form p
-    unfolding form_by record_as fields_at fields_of fields_in_lem schema sort_of
+    unfolding form_by record_as fields_at fields_of fields_in schema sort_of
     form_ok q x f p = rw (← e, q, ← two s at, ← f) refl
 
     pub form_err : k ≡ 50 → (x : ℕ) → x ≡ u16_at s at → (p : List ℕ) → ErrLiteral x ≡ form p
-    unfolding form_by record_as fields_at fields_of fields_in_lem schema sort_of
+    unfolding form_by record_as fields_at fields_of fields_in schema sort_of
     form_err q x f p = rw (← e, q, ← two s at, ← f) refl
 
     pub form_other : (k ≡ 16 → ⊥) → (k ≡ 17 → ⊥) → (k ≡ 18 → ⊥) → (k ≡ 19 → ⊥) → (k ≡ 20 → ⊥) → (k ≡ 21 → ⊥) → (k ≡ 22 → ⊥) → (k ≡ 23 → ⊥) → (k ≡ 24 → ⊥) → (k ≡ 25 → ⊥) → (k ≡ 26 → ⊥) → (k ≡ 27 → ⊥) → (k ≡ 28 → ⊥) → (k ≡ 30 → ⊥) → (k ≡ 32 → ⊥) → (k ≡ 33 → ⊥) → (k ≡ 34 → ⊥) → (k ≡ 39 → ⊥) → (k ≡ 41 → ⊥) → (k ≡ 49 → ⊥) → (k ≡ 50 → ⊥) → (p : List ℕ) → Other ≡ form p

@@ -8,7 +8,7 @@ use Rattle.rl_spec.specs.declared.Section.TheVariants.{Statements}
 use Rattle.rl_spec.specs.declared.StatementForm.{StatementForm}
 use Rattle.rl_spec.specs.declared.StatementForm.TheVariants.{Declaration, Expression, Return, ReturnAlone, Conditional, Branch, While, Loop, Break, Continue, Other}
 use Rattle.rl_spec.specs.Bytes.{u16_at}
-use Rattle.rl_spec.specs.Schema.{sort_of, schema, fields_in_lem, fields_of}
+use Rattle.rl_spec.specs.Schema.{sort_of, schema, fields_in, fields_of}
 use Rattle.rl_spec.specs.Image.{num, pair, fields_at}
 use Rattle.rl_spec.specs.Statement.{statement_by, statement_of}
 use Rattle.rl_spec.specs.Ranges.{interval, optional}
@@ -42,35 +42,35 @@ module _ (s : List ℕ) where
     form_continue q = rw (← e, q) refl
 
     pub form_loop : k ≡ 71 → (list : Interval) → list ≡ list_at at → Loop list ≡ form
-    unfolding statement_by record_as fields_at fields_of fields_in_lem schema sort_of
+    unfolding statement_by record_as fields_at fields_of fields_in schema sort_of
     form_loop q list f = rw (← e, q, f) refl
 
     module _ (x : ℕ) (f : x ≡ u16_at s at) where
       pub form_expression : k ≡ 65 → Expression x ≡ form
-      unfolding statement_by record_as fields_at fields_of fields_in_lem schema sort_of
+      unfolding statement_by record_as fields_at fields_of fields_in schema sort_of
       form_expression q = rw (← e, q, ← two s at, ← f) refl
 
       pub form_return : k ≡ 66 → Return x ≡ form
-      unfolding statement_by record_as fields_at fields_of fields_in_lem schema sort_of
+      unfolding statement_by record_as fields_at fields_of fields_in schema sort_of
       form_return q = rw (← e, q, ← two s at, ← f) refl
 
       module _ (y : ℕ) where
         pub form_declaration : k ≡ 64 → y ≡ u16_at s (at + 2 + 4) → Declaration x y ≡ form
-        unfolding statement_by record_as fields_at fields_of fields_in_lem schema sort_of
+        unfolding statement_by record_as fields_at fields_of fields_in schema sort_of
         form_declaration q g = rw (← e, q, ← two s at, ← two s (at + 2 + 4), ← f, ← g) refl
 
       module _ (o : Optional) where
         pub form_conditional : k ≡ 68 → o ≡ optional (num (u16_at s (at + 2))) → Conditional x o ≡ form
-        unfolding statement_by record_as fields_at fields_of fields_in_lem schema sort_of
+        unfolding statement_by record_as fields_at fields_of fields_in schema sort_of
         form_conditional q g = rw (← e, q, ← two s at, ← two s (at + 2), ← f, g) refl
 
       module _ (list : Interval) (g : list ≡ list_at (at + 2)) where
         pub form_while : k ≡ 70 → While x list ≡ form
-        unfolding statement_by record_as fields_at fields_of fields_in_lem schema sort_of
+        unfolding statement_by record_as fields_at fields_of fields_in schema sort_of
         form_while q = rw (← e, q, ← two s at, ← f, g) refl
 
     pub form_branch : k ≡ 69 → (o : Optional) → o ≡ optional (num (u16_at s at)) → (list : Interval) → list ≡ list_at (at + 2) → Branch o list ≡ form
-    unfolding statement_by record_as fields_at fields_of fields_in_lem schema sort_of
+    unfolding statement_by record_as fields_at fields_of fields_in schema sort_of
     form_branch q o f list g = rw (← e, q, ← two s at, f, g) refl
 
     pub form_other : (k ≡ 64 → ⊥) → (k ≡ 65 → ⊥) → (k ≡ 66 → ⊥) → (k ≡ 67 → ⊥) → (k ≡ 68 → ⊥) → (k ≡ 69 → ⊥) → (k ≡ 70 → ⊥) → (k ≡ 71 → ⊥) → (k ≡ 77 → ⊥) → (k ≡ 78 → ⊥) → Other ≡ form

@@ -1,5 +1,7 @@
 // The records of an image by what they mean: texts, list entries, the forms of expressions and statements, contracts and calls. Every function
 // answers for every argument, by the image that bytes, starts and counts give (`imageFound`); a record that is not there is all 0.
+#![tactic(auto)]
+
 mod contracts;
 mod forms;
 mod statements;

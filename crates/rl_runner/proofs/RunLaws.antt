@@ -24,7 +24,7 @@ use Rattle.rl_spec.specs.Image.{Image, image_of}
 use Rattle.rl_spec.specs.Fold.{work_unless}
 use Rattle.rl_spec.specs.Found.{image_found}
 use Rattle.rl_spec.specs.Records.{function_at}
-use Rattle.rl_spec.specs.Runner.{is_for, all_have_lem, given, ran_in, run_of, run_number}
+use Rattle.rl_spec.specs.Runner.{is_for, all_have, given, ran_in, run_of, run_number}
 use Rattle.rl_images.specs.Encoding.Accepted.{accepted_well_formed}
 use Rattle.rl_images.specs.Reading.Found.{found_is_image}
 use Rattle.rl_images.specs.Images.Heights.{found_low}
@@ -84,7 +84,7 @@ module _ (im : Image) (c : Counts) (f : ℕ) (args : Arguments) (budget : ℕ) (
   few = not (is_for args.count (function_at im f).params.count)
 
   abbrev bare : Bool
-  bare = not (all_have_lem c (given args))
+  bare = not (all_have c (given args))
 
   abbrev over : Bool
   over = ltb 1000000 budget
@@ -137,7 +137,7 @@ module _ (s : List ℕ) (k f : ℕ) (args : Arguments) (budget : ℕ) (a : Answe
     unfolding run_of run_admission
     by_admission =
         rw (← e, h)
-        (sym (as_checked (not (ltb f c.functions)) (not (is_for args.count (function_at (image_of s) f).params.count)) (not (all_have_lem c (given args))) (ltb 1000000 budget) (ran_in (image_of s) f (given args) budget)))
+        (sym (as_checked (not (ltb f c.functions)) (not (is_for args.count (function_at (image_of s) f).params.count)) (not (all_have c (given args))) (ltb 1000000 budget) (ran_in (image_of s) f (given args) budget)))
         ∙ ap (λ y. run_or y (ran_in (image_of s) f (given args) budget)) (sym own)
 
     pub run_refused : (q : Cause) → x ≡ Refused q → Is (answer.Refused q 0)

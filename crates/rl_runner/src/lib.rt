@@ -1,4 +1,6 @@
 // The runner: reads an image, and runs one of its functions within a budget of steps.
+#![tactic(auto)]
+
 mod bound;
 mod running;
 

@@ -14,7 +14,7 @@ use Rattle.rl_spec.specs.declared.Section.{Section}
 use Rattle.rl_spec.specs.declared.Section.TheVariants.{Calls}
 use Rattle.rl_spec.specs.Bytes.{u16_at}
 use Rattle.rl_spec.specs.Fields.{entry_at}
-use Rattle.rl_spec.specs.Schema.{Row, schema, fields_in_lem, fields_of, in_section, lowest, highest, sections}
+use Rattle.rl_spec.specs.Schema.{Row, schema, fields_in, fields_of, in_section, lowest, highest, sections}
 use Rattle.rl_laws.specs.Tests.{by_ltb}
 use Rattle.rl_bytes.proofs.Laws.{get_or_past}
 use Rattle.rl_schema.specs.Codes.{codes_in, codes, table}
@@ -67,8 +67,8 @@ abbrev every_row : (Row → Bool) → List Row → Bool
 every_row f [] = true
 every_row f (r ∷ rs) = cond (f r) (every_row f rs) false
 
-fields_above : (k : ℕ) (rs : List Row) → T (every_row (λ r. ltb r.kind 84) rs) → 84 ≤ k → fields_in_lem k rs ≡ []
-unfolding fields_in_lem
+fields_above : (k : ℕ) (rs : List Row) → T (every_row (λ r. ltb r.kind 84) rs) → 84 ≤ k → fields_in k rs ≡ []
+unfolding fields_in
 fields_above k [] t h = refl
 fields_above k (r ∷ rs) t h =
     by_ltb r.kind 84
@@ -85,7 +85,7 @@ right : ℕ → ℕ → Bool
 right k x = same (codes x) (fields_of k)
 
 row_below : (k : ℕ) → k < 84 → codes (get_or table k 0) ≡ fields_of k
-unfolding right codes codes_in schema fields_in_lem fields_of table
+unfolding right codes codes_in schema fields_in fields_of table
 row_below k h = same_eq (codes (get_or table k 0)) (fields_of k) (at right table tt k h)
 
 table_rows : length table ≡ 84

@@ -1,4 +1,6 @@
 // The schema's table, what its codes stand for, and the sections.
+#![tactic(auto)]
+
 ghost use Rattle.std.specs.Prelude.{◌≡◌, length, get_or};
 ghost use Rattle.rl_spec.specs.Schema.{sort_of, width_of, lowest, highest, in_section, tallest, sections, count_of};
 ghost use Rattle.rl_spec.specs.Fields.{entry_at};

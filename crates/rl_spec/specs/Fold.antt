@@ -11,7 +11,7 @@ use Rattle.rl_spec.specs.Read.{number_of, answer_of, work_of}
 use Rattle.rl_spec.specs.Image.{text_of, image_of}
 use Rattle.rl_spec.specs.Values.{ConstVal, bool, gt, ge, lt, le, eq, ne, plus, minus, star, slash, same_text, compare_values, arith_values, bang, negate}
 use Rattle.rl_spec.specs.Folded.{as_folded}
-use Rattle.rl_spec.specs.Tree.{Expr, null, literal, identifier, unary, binary, grouping, assign, ok_literal, err_literal, is_err_lem, result_unwrap_lem, other, expr_tree}
+use Rattle.rl_spec.specs.Tree.{Expr, null, literal, identifier, unary, binary, grouping, assign, ok_literal, err_literal, is_err, result_unwrap, other, expr_tree}
 
 -- a verdict as a value
 abbrev pub boolean : {T : Type 0} → Option Bool → Option (ConstVal T)
@@ -68,8 +68,8 @@ module _ {T : Type 0} (bytes : T → List ℕ) where
   const_eval env (assign x e) = none
   const_eval env (ok_literal e) = none
   const_eval env (err_literal e) = none
-  const_eval env (is_err_lem e) = none
-  const_eval env (result_unwrap_lem e) = none
+  const_eval env (is_err e) = none
+  const_eval env (result_unwrap e) = none
   const_eval env other = none
 
 -- ---- THE ANSWER: reading first, then 15 another arena, 16 no such node; folding alone knows no names

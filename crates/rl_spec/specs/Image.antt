@@ -54,8 +54,8 @@ no_field = num 0
 abbrev pub no_record : Rec
 no_record = record { kind = 0; fields = [] }
 
-abbrev pub record_of_lem : Image → Section → ℕ → Rec
-record_of_lem im o i = slice_index_or (records_of im o) i no_record
+abbrev pub record_of : Image → Section → ℕ → Rec
+record_of im o i = slice_index_or (records_of im o) i no_record
 
 abbrev pub field_of : Rec → ℕ → Field
 field_of r j = slice_index_or r.fields j no_field
@@ -70,11 +70,11 @@ second (pair a b) = b
 
 -- the k-th list entry, and the bytes of the t-th text
 abbrev pub entry_of : Image → ℕ → ℕ
-entry_of im k = first (field_of (record_of_lem im Lists k) 0)
+entry_of im k = first (field_of (record_of im Lists k) 0)
 
 abbrev pub text_of : Image → ℕ → List ℕ
 text_of im t =
-    take (second (field_of (record_of_lem im Texts t) 0)) (drop (first (field_of (record_of_lem im Texts t) 0)) im.bytes)
+    take (second (field_of (record_of im Texts t) 0)) (drop (first (field_of (record_of im Texts t) 0)) im.bytes)
 
 -- ---- its bytes
 
@@ -128,12 +128,12 @@ is_pair (Range o) = true
 is_pair OperandSort = false
 is_pair Operand = false
 
-abbrev pub field_in_lem : List ℕ → Sort → ℕ → Field
-field_in_lem s o at = cond (is_pair o) (pair (u16_at s at) (u16_at s (at + 2))) (num (num_at s at (width_of o)))
+abbrev pub field_in : List ℕ → Sort → ℕ → Field
+field_in s o at = cond (is_pair o) (pair (u16_at s at) (u16_at s (at + 2))) (num (num_at s at (width_of o)))
 
 unfoldable pub fields_at : List ℕ → List ℕ → ℕ → List Field
 fields_at s [] at = []
-fields_at s (c ∷ cs) at = field_in_lem s (sort_of c) at ∷ fields_at s cs (at + width_of (sort_of c))
+fields_at s (c ∷ cs) at = field_in s (sort_of c) at ∷ fields_at s cs (at + width_of (sort_of c))
 
 unfoldable pub widths_of : List ℕ → ℕ
 widths_of [] = 0
@@ -222,7 +222,7 @@ heights im o = heights_from im o (records_of im o) []
 -- an earlier one); and of a kind that is taken
 pub record Refers (im : Image) (o : Section) (i : ℕ) (t : Target) (n : ℕ) : Type 0 where
   pub earlier : n < cond (same_section o (section_of t)) i (size_of im (section_of t))
-  pub taken : takes t (record_of_lem im Statements n).kind ≡ true
+  pub taken : takes t (record_of im Statements n).kind ≡ true
 
 abbrev pub Entries : Image → Section → ℕ → ℕ → ℕ → Target → Target → Type 0
 Entries im o i zero k l r = Unit {0}
@@ -283,5 +283,5 @@ pub record WellFormed (im : Image) : Type 0 where
   pub arena : im.arena < 2 ^ 32
   pub bytes : AllBytes im.bytes
   pub counts : AllWithin (length im.bytes ∷ map length im.records) limits
-  pub fits : (o : Section) (i : ℕ) → i < size_of im o → RecordFits im o i (record_of_lem im o i)
+  pub fits : (o : Section) (i : ℕ) → i < size_of im o → RecordFits im o i (record_of im o i)
   pub size : length (encode im) ≤ 65535

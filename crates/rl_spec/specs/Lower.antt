@@ -11,7 +11,7 @@ use Rattle.rl_spec.specs.declared.Optional.{Optional}
 use Rattle.rl_spec.specs.declared.Optional.TheVariants.{None, Some}
 use Rattle.rl_spec.specs.declared.Clause.{Clause}
 use Rattle.rl_spec.specs.Schema.{sort_of, fields_of}
-use Rattle.rl_spec.specs.Image.{Field, num, Rec, Image, records_of, record_of_lem, field_of, first, entry_of, text_of, encode}
+use Rattle.rl_spec.specs.Image.{Field, num, Rec, Image, records_of, record_of, field_of, first, entry_of, text_of, encode}
 use Rattle.rl_spec.specs.Values.{RefineOp, gt, ge, lt, le, eq, ne}
 use Rattle.rl_spec.specs.Tree.{ascii, number, descend}
 use Rattle.rl_spec.specs.Words.{bits64}
@@ -113,7 +113,7 @@ clone_record clone id r =
     (clone_fields clone (fields_of r.kind) r.fields >>= λ fs. append Expressions (made r.kind fs ∷ []))
 
 unfoldable pub deep_clone_expr : ℕ → Make ℕ
-deep_clone_expr = descend give (λ id clone. image_so_far >>= λ im. clone_record clone id (record_of_lem im Expressions id))
+deep_clone_expr = descend give (λ id clone. image_so_far >>= λ im. clone_record clone id (record_of im Expressions id))
 
 -- ---- Ctx: violation to refine_predicate
 
@@ -224,7 +224,7 @@ module _ (walk : ℕ → Make (List ℕ)) where
       (transform_list (field_of r 2) >>= λ body. stmt 69 (number r 0) (field_of r 1 ∷ body ∷ num 0 ∷ [])) (give s)
 
   unfoldable pub transform_branch : ℕ → Make ℕ
-  transform_branch s = image_so_far >>= λ im. transform_branch_by s (record_of_lem im Statements s)
+  transform_branch s = image_so_far >>= λ im. transform_branch_by s (record_of im Statements s)
 
   abbrev pub transform_else : Optional → Make Optional
   transform_else None = give None
@@ -235,7 +235,7 @@ module _ (walk : ℕ → Make (List ℕ)) where
   transform_arm_by r = transform_list (field_of r 2) >>= λ body. stmt 76 (number r 0) (field_of r 1 ∷ body ∷ [])
 
   unfoldable pub transform_arm : ℕ → Make ℕ
-  transform_arm s = image_so_far >>= λ im. transform_arm_by (record_of_lem im Statements s)
+  transform_arm s = image_so_far >>= λ im. transform_arm_by (record_of im Statements s)
 
   abbrev pub conditional : Rec → Make ℕ
   conditional r = do
@@ -273,7 +273,7 @@ module _ (walk : ℕ → Make (List ℕ)) where
 
 unfoldable pub transform_statement : List Clause → ℕ → Make (List ℕ)
 transform_statement ensures =
-    descend (λ s. give (s ∷ [])) (λ s walk. image_so_far >>= λ im. transform_statement_by walk ensures s (record_of_lem im Statements s))
+    descend (λ s. give (s ∷ [])) (λ s walk. image_so_far >>= λ im. transform_statement_by walk ensures s (record_of im Statements s))
 
 -- ---- desugar_fn_contracts
 
@@ -287,7 +287,7 @@ refinement_guard im name (some refinement) = do
 
 -- the last statement of a body
 abbrev pub last_of : Image → List ℕ → Rec
-last_of im body = record_of_lem im Statements (slice_index body (length body - 1))
+last_of im body = record_of im Statements (slice_index body (length body - 1))
 
 -- a bare last expression is wrapped after the returns before it, and comes ahead of the other statements
 unfoldable pub wrap_trailing : List Clause → List ℕ → Make (List ℕ)
@@ -346,7 +346,7 @@ abbrev pub bodied : Rec → Field → Rec
 bodied r list = made r.kind (slice_set r.fields 4 list)
 
 abbrev pub with_body : Image → ℕ → Field → Image
-with_body im f list = with_records im Functions (slice_set (records_of im Functions) f (bodied (record_of_lem im Functions f) list))
+with_body im f list = with_records im Functions (slice_set (records_of im Functions) f (bodied (record_of im Functions f) list))
 
 -- the sixth limit, of the image's bytes, is tested on the finished image: nothing that is made takes bytes away
 unfoldable pub fitting : Bool → Image → Option Image

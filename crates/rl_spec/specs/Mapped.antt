@@ -3,7 +3,7 @@ use Rattle.std.specs.Prelude.{ℕ, List, map}
 use Rattle.std.proofs.Math.Option
 use Rattle.rl_spec.specs.Values as value
 use Rattle.rl_spec.specs.Values.{ConstVal}
-use Rattle.rl_spec.specs.Tree.{Expr, null, literal, identifier, unary, binary, grouping, assign, ok_literal, err_literal, is_err_lem, result_unwrap_lem, other}
+use Rattle.rl_spec.specs.Tree.{Expr, null, literal, identifier, unary, binary, grouping, assign, ok_literal, err_literal, is_err, result_unwrap, other}
 use Rattle.rl_spec.specs.Statement.{Stmt, declaration, expression, return, return_alone, conditional, while, loop, break, continue, other_statement, Body, nil, ◌▸◌, Branch, branch, Else, no_else, else_branch, else_conditional, Item, a_statement, a_branch}
 use Rattle.rl_spec.specs.FnContracts.{RefineOperand, integer, str, bool, param, ParamRefinement, Param, ContractClause, FnContracts}
 use Rattle.rl_spec.specs.Run.{Plain, nothing, folded, Value, plain, ok, err, Outcome, returned, stopped, fault, spent}
@@ -44,8 +44,8 @@ module _ {A B : Type 0} (f : A → B) where
   map_expr (assign x e) = assign (f x) (map_expr e)
   map_expr (ok_literal e) = ok_literal (map_expr e)
   map_expr (err_literal e) = err_literal (map_expr e)
-  map_expr (is_err_lem e) = is_err_lem (map_expr e)
-  map_expr (result_unwrap_lem e) = result_unwrap_lem (map_expr e)
+  map_expr (is_err e) = is_err (map_expr e)
+  map_expr (result_unwrap e) = result_unwrap (map_expr e)
   map_expr other = other
 
   unfoldable mutual

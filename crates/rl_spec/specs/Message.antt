@@ -7,7 +7,7 @@ use Rattle.rl_spec.specs.declared.Violation.TheVariants.{Refinement, Requires}
 use Rattle.rl_spec.specs.Image.{Image, text_of}
 use Rattle.rl_spec.specs.Values as value
 use Rattle.rl_spec.specs.Values.{ConstVal, RefineOp, gt, ge, lt, le, eq, ne}
-use Rattle.rl_spec.specs.Tree.{Expr, null, literal, identifier, unary, binary, grouping, assign, ok_literal, err_literal, is_err_lem, result_unwrap_lem, other, ascii, optional_tree}
+use Rattle.rl_spec.specs.Tree.{Expr, null, literal, identifier, unary, binary, grouping, assign, ok_literal, err_literal, is_err, result_unwrap, other, ascii, optional_tree}
 use Rattle.rl_spec.specs.Records.{clause_at, function_at}
 use Rattle.rl_spec.specs.Mapped.{Text, map_param}
 use Rattle.rl_spec.specs.FnContracts.{RefineOperand, integer, str, bool, param, ParamRefinement, Param, param_of, callee_of}
@@ -73,8 +73,8 @@ string_in (grouping e) = none
 string_in (assign t e) = none
 string_in (ok_literal e) = none
 string_in (err_literal e) = none
-string_in (is_err_lem e) = none
-string_in (result_unwrap_lem e) = none
+string_in (is_err e) = none
+string_in (result_unwrap e) = none
 string_in other = none
 
 abbrev pub own_string : {T : Type 0} → Option (Expr T) → Option T

@@ -11,7 +11,7 @@ use Rattle.rl_spec.specs.declared.Param.{Param}
 use Rattle.rl_spec.specs.declared.Clause.{Clause}
 use Rattle.rl_spec.specs.declared.Function.{Function}
 use Rattle.rl_spec.specs.declared.Call.{Call}
-use Rattle.rl_spec.specs.Image.{Rec, Image, record_of_lem, field_of}
+use Rattle.rl_spec.specs.Image.{Rec, Image, record_of, field_of}
 use Rattle.rl_spec.specs.Ranges.{interval, optional}
 use Rattle.rl_spec.specs.Tree.{signed, number}
 
@@ -55,13 +55,13 @@ call_by r = record { callee = number r 0; span = number r 1; args = interval (fi
 
 -- those of an image
 unfoldable pub param_at : Image → ℕ → Param
-param_at im i = param_by (record_of_lem im Parameters i)
+param_at im i = param_by (record_of im Parameters i)
 
 unfoldable pub clause_at : Image → ℕ → Clause
-clause_at im i = clause_by (record_of_lem im Clauses i)
+clause_at im i = clause_by (record_of im Clauses i)
 
 unfoldable pub function_at : Image → ℕ → Function
-function_at im i = function_by (record_of_lem im Functions i)
+function_at im i = function_by (record_of im Functions i)
 
 unfoldable pub call_at : Image → ℕ → Call
-call_at im i = call_by (record_of_lem im Calls i)
+call_at im i = call_by (record_of im Calls i)

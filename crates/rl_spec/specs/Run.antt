@@ -4,7 +4,7 @@ use Rattle.std.specs.Prelude.{ℕ, zero, suc, ◌-◌, Bool, true, false, cond, 
 use Rattle.std.proofs.Math.Option.{Option, none, some}
 use Rattle.rl_spec.specs.Values as value
 use Rattle.rl_spec.specs.Values.{ConstVal, same_text}
-use Rattle.rl_spec.specs.Tree.{Expr, null, literal, identifier, unary, binary, grouping, assign, ok_literal, err_literal, is_err_lem, result_unwrap_lem, other}
+use Rattle.rl_spec.specs.Tree.{Expr, null, literal, identifier, unary, binary, grouping, assign, ok_literal, err_literal, is_err, result_unwrap, other}
 use Rattle.rl_spec.specs.Fold.{unary_value, binary_value}
 
 infixl 1 ◌>>=◌ ◌>>◌
@@ -220,12 +220,12 @@ module _ {T : Type 0} (bytes : T → List ℕ) where
     v ← eval e
     p ← plain_of v
     give (err p)
-  eval (is_err_lem e) = do
+  eval (is_err e) = do
     tick
     v ← eval e
     b ← err_of v
     give (folds (value.bool b))
-  eval (result_unwrap_lem e) = do
+  eval (result_unwrap e) = do
     tick
     v ← eval e
     unwrapped v

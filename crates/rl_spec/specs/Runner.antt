@@ -83,9 +83,9 @@ value_has c (Bare p) = plain_has c p
 value_has c (Ok p) = plain_has c p
 value_has c (Err p) = plain_has c p
 
-unfoldable pub all_have_lem : Counts → List Argument → Bool
-all_have_lem c [] = true
-all_have_lem c (a ∷ as') = value_has c a.value && all_have_lem c as'
+unfoldable pub all_have : Counts → List Argument → Bool
+all_have c [] = true
+all_have c (a ∷ as') = value_has c a.value && all_have c as'
 
 abbrev pub given : Arguments → List Argument
 given args = take args.count args.values
@@ -110,7 +110,7 @@ abbrev pub run_by : List ℕ → ℕ → Arguments → ℕ → Answer → RunAns
 run_by s f args budget (read.Accepted a c) =
     cond (not (nat_lt f c.functions)) (Refused NoSuchFunction 0)
     (cond (not (is_for args.count (function_at (image_of s) f).params.count)) (Refused WrongValues 0)
-    (cond (not (all_have_lem c (given args))) (Refused NoSuchText 0)
+    (cond (not (all_have c (given args))) (Refused NoSuchText 0)
     (cond (nat_lt 1000000 budget) (Refused BudgetOverLimit 0) (ran_in (image_of s) f (given args) budget))))
 run_by s f args budget (read.Refused q n) = Refused q n
 

@@ -330,9 +330,9 @@ schema =
     ∷ row 83 (text ∷ span ∷ nodes ∷ [])
     ∷ []
 
-unfoldable pub fields_in_lem : ℕ → List Row → List ℕ
-fields_in_lem k [] = []
-fields_in_lem k (r ∷ rs) = cond (k == r.kind) r.fields (fields_in_lem k rs)
+unfoldable pub fields_in : ℕ → List Row → List ℕ
+fields_in k [] = []
+fields_in k (r ∷ rs) = cond (k == r.kind) r.fields (fields_in k rs)
 
 unfoldable pub fields_of : ℕ → List ℕ
-fields_of k = fields_in_lem k schema
+fields_of k = fields_in k schema

@@ -7,7 +7,7 @@ use Rattle.rl_spec.specs.declared.Optional.{Optional}
 use Rattle.rl_spec.specs.declared.Optional.TheVariants.{None, Some}
 use Rattle.rl_spec.specs.declared.StatementForm.{StatementForm}
 use Rattle.rl_spec.specs.declared.StatementForm.TheVariants.{Declaration, Expression, Return, ReturnAlone, Conditional, Branch as ABranch, While, Loop, Break, Continue, Other}
-use Rattle.rl_spec.specs.Image.{Rec, Image, record_of_lem, field_of, entry_of}
+use Rattle.rl_spec.specs.Image.{Rec, Image, record_of, field_of, entry_of}
 use Rattle.rl_spec.specs.Tree.{Expr, number, descend, expr_tree, optional_tree}
 use Rattle.rl_spec.specs.Ranges.{interval, optional, numbers_in}
 
@@ -97,24 +97,24 @@ statement_by r =
     (cond (r.kind == 78) Continue Other)))))))))
 
 abbrev pub statement_of : Image → ℕ → StatementForm
-statement_of im i = statement_by (record_of_lem im Statements i)
+statement_of im i = statement_by (record_of im Statements i)
 
 -- a form with the items of the statements before it
-abbrev pub item_by_lem : Image → StatementForm → (ℕ → Item ℕ) → Item ℕ
-item_by_lem im (Declaration x n) item = a_statement (declaration x (expr_tree im n))
-item_by_lem im (Expression n) item = a_statement (expression (expr_tree im n))
-item_by_lem im (Return n) item = a_statement (return (expr_tree im n))
-item_by_lem im ReturnAlone item = a_statement return_alone
-item_by_lem im (Conditional b e) item = a_statement (conditional (as_branch (item b)) (else_by item e))
-item_by_lem im (ABranch n list) item = a_branch (branch (optional_tree im n) (body_by im item list))
-item_by_lem im (While n list) item = a_statement (while (expr_tree im n) (body_by im item list))
-item_by_lem im (Loop list) item = a_statement (loop (body_by im item list))
-item_by_lem im Break item = a_statement break
-item_by_lem im Continue item = a_statement continue
-item_by_lem im Other item = a_statement other_statement
+abbrev pub item_by : Image → StatementForm → (ℕ → Item ℕ) → Item ℕ
+item_by im (Declaration x n) item = a_statement (declaration x (expr_tree im n))
+item_by im (Expression n) item = a_statement (expression (expr_tree im n))
+item_by im (Return n) item = a_statement (return (expr_tree im n))
+item_by im ReturnAlone item = a_statement return_alone
+item_by im (Conditional b e) item = a_statement (conditional (as_branch (item b)) (else_by item e))
+item_by im (ABranch n list) item = a_branch (branch (optional_tree im n) (body_by im item list))
+item_by im (While n list) item = a_statement (while (expr_tree im n) (body_by im item list))
+item_by im (Loop list) item = a_statement (loop (body_by im item list))
+item_by im Break item = a_statement break
+item_by im Continue item = a_statement continue
+item_by im Other item = a_statement other_statement
 
 unfoldable pub item_tree : Image → ℕ → Item ℕ
-item_tree im = descend (λ _. a_statement other_statement) (λ i item. item_by_lem im (statement_of im i) item)
+item_tree im = descend (λ _. a_statement other_statement) (λ i item. item_by im (statement_of im i) item)
 
 abbrev pub body_tree : Image → Interval → Body ℕ
 body_tree im list = body_by im (item_tree im) list

@@ -11,7 +11,7 @@ use Rattle.rl_spec.specs.declared.TextAnswer.TheVariants as text
 use Rattle.rl_spec.specs.declared.TextPart.{TextPart}
 use Rattle.rl_spec.specs.Schema.{text_bytes_at}
 use Rattle.rl_spec.specs.Read.{number_of, answer_of}
-use Rattle.rl_spec.specs.Image.{Image, first, second, record_of_lem, field_of, image_of}
+use Rattle.rl_spec.specs.Image.{Image, first, second, record_of, field_of, image_of}
 use Rattle.rl_spec.specs.Prove.{violations_of}
 use Rattle.rl_spec.specs.Message.{message_of}
 
@@ -21,8 +21,8 @@ use Rattle.rl_spec.specs.Message.{message_of}
 unfoldable pub text_part : Image → ℕ → TextPart
 text_part im t =
     record {
-      start = text_bytes_at + first (field_of (record_of_lem im Texts t) 0);
-      length = second (field_of (record_of_lem im Texts t) 0);
+      start = text_bytes_at + first (field_of (record_of im Texts t) 0);
+      length = second (field_of (record_of im Texts t) 0);
     }
 
 abbrev pub text_by : List ℕ → ℕ → Answer → TextAnswer

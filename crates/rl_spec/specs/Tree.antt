@@ -12,7 +12,7 @@ use Rattle.rl_spec.specs.declared.Optional.{Optional}
 use Rattle.rl_spec.specs.declared.Optional.TheVariants.{None, Some}
 use Rattle.rl_spec.specs.declared.Form.{Form}
 use Rattle.rl_spec.specs.declared.Form.TheVariants.{Null, Literal, Identifier, Unary, Binary, Grouping, Assign, OkLiteral, ErrLiteral, IsErr, ResultUnwrap, Other}
-use Rattle.rl_spec.specs.Image.{Field, Rec, Image, first, second, record_of_lem, field_of, entry_of, text_of}
+use Rattle.rl_spec.specs.Image.{Field, Rec, Image, first, second, record_of, field_of, entry_of, text_of}
 use Rattle.rl_spec.specs.Values.{ConstVal, same_text}
 use Rattle.rl_spec.specs.Folded.{folded_of}
 
@@ -27,7 +27,7 @@ pub data Expr (T : Type 0) : Type 0 where
   binary : Expr T → ℕ → Expr T → Expr T
   grouping : Expr T → Expr T
   assign : T → Expr T → Expr T
-  ok_literal err_literal is_err_lem result_unwrap_lem : Expr T → Expr T
+  ok_literal err_literal is_err result_unwrap : Expr T → Expr T
   other : Expr T
 
 -- ---- the form of a record
@@ -93,7 +93,7 @@ form_by im r =
     (cond (r.kind == 50) (ErrLiteral (number r 1)) Other))))))))))))))))))))
 
 abbrev pub form_of : Image → ℕ → Form
-form_of im i = form_by im (record_of_lem im Expressions i)
+form_of im i = form_by im (record_of im Expressions i)
 
 -- ---- the tree at an index
 
@@ -119,8 +119,8 @@ tree_by im (Grouping n) tree = grouping (tree n)
 tree_by im (Assign t n) tree = assign t (tree n)
 tree_by im (OkLiteral n) tree = ok_literal (tree n)
 tree_by im (ErrLiteral n) tree = err_literal (tree n)
-tree_by im (IsErr n) tree = is_err_lem (tree n)
-tree_by im (ResultUnwrap n) tree = result_unwrap_lem (tree n)
+tree_by im (IsErr n) tree = is_err (tree n)
+tree_by im (ResultUnwrap n) tree = result_unwrap (tree n)
 tree_by im Other tree = other
 
 unfoldable pub expr_tree : Image → ℕ → Expr ℕ

@@ -1,4 +1,5 @@
 // The types that the definitions in specs/ and the code above them share.
+#![tactic(auto)]
 
 // The number of an arena, and the number of a node in it: two types, so that neither is taken for the other.
 #[derive(Drop)]

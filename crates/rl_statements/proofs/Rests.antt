@@ -8,7 +8,7 @@ use lib.Dec.{eqb}
 use borrow.Author.Tests.{eqb-true, eqb-false}
 use Rattle.rl_spec.specs.declared.Interval.{Interval}
 use Rattle.rl_spec.specs.Image.{Image, entry_of, text_of}
-use Rattle.rl_spec.specs.Tree.{Expr, null, literal, identifier, unary, binary, grouping, assign, ok_literal, err_literal, is_err_lem, result_unwrap_lem, other}
+use Rattle.rl_spec.specs.Tree.{Expr, null, literal, identifier, unary, binary, grouping, assign, ok_literal, err_literal, is_err, result_unwrap, other}
 use Rattle.rl_spec.specs.Statement.{Stmt, declaration, expression, return, return_alone, conditional, while, loop, break, continue, other_statement, Body, nil, ◌▸◌, as_statement, body_from}
 use Rattle.rl_spec.specs.Ranges.{up_from}
 use Rattle.rl_spec.specs.Run.{Env, spent, Result, got, ended, and_then, leaving, eval}
@@ -30,8 +30,8 @@ eval_spent bytes (grouping e) env = refl
 eval_spent bytes (assign x e) env = refl
 eval_spent bytes (ok_literal e) env = refl
 eval_spent bytes (err_literal e) env = refl
-eval_spent bytes (is_err_lem e) env = refl
-eval_spent bytes (result_unwrap_lem e) env = refl
+eval_spent bytes (is_err e) env = refl
+eval_spent bytes (result_unwrap e) env = refl
 eval_spent bytes other env = refl
 
 stmt_spent : (bytes : ℕ → List ℕ) (s : Stmt ℕ) (env : Env ℕ) → stmt bytes plainly s env 0 ≡ ended spent 0

@@ -19,7 +19,7 @@ use Rattle.rl_spec.specs.contracts.StatementForm as forms
 use Rattle.rl_spec.specs.Image.{Image, text_of}
 use Rattle.rl_spec.specs.Found.{image_found}
 use Rattle.rl_spec.specs.Tree.{expr_tree, optional_tree}
-use Rattle.rl_spec.specs.Statement.{other_statement, Body, nil, Branch, branch, Else, no_else, Item, a_statement, as_statement, as_branch, as_else, body_by, else_by, statement_of, item_by_lem, item_tree}
+use Rattle.rl_spec.specs.Statement.{other_statement, Body, nil, Branch, branch, Else, no_else, Item, a_statement, as_statement, as_branch, as_else, body_by, else_by, statement_of, item_by, item_tree}
 use Rattle.rl_spec.specs.Run.{Env, Result, got, ended, Run, and_then, give, leaving, scoped}
 use Rattle.rl_spec.specs.Reading as reading
 use Rattle.rl_spec.specs.Reading.{plainly, taken, when, stmt, body, branch_or}
@@ -44,12 +44,12 @@ use Rattle.rl_statements.specs.Views.{branch_of, else_of, compound_of, or_else, 
 abbrev none_item : Item ℕ
 none_item = a_statement other_statement
 
-item_at : (im : Image) (limit b : ℕ) (x : StatementForm) → b < limit → statement_of im b ≡ x → item_under im limit b ≡ item_by_lem im x (item_under im b)
+item_at : (im : Image) (limit b : ℕ) (x : StatementForm) → b < limit → statement_of im b ≡ x → item_under im limit b ≡ item_by im x (item_under im b)
 item_at im limit b x h e =
-    under_earlier (λ _. none_item) (item_tree im) limit b h ∙ item_is im b ∙ ap (λ y. item_by_lem im y (item_under im b)) e
+    under_earlier (λ _. none_item) (item_tree im) limit b h ∙ item_is im b ∙ ap (λ y. item_by im y (item_under im b)) e
 
-statement_at : (im : Image) (s : ℕ) (x : StatementForm) → statement_of im s ≡ x → as_statement (item_tree im s) ≡ as_statement (item_by_lem im x (item_under im s))
-statement_at im s x e = ap as_statement (item_is im s ∙ ap (λ y. item_by_lem im y (item_under im s)) e)
+statement_at : (im : Image) (s : ℕ) (x : StatementForm) → statement_of im s ≡ x → as_statement (item_tree im s) ≡ as_statement (item_by im x (item_under im s))
+statement_at im s x e = ap as_statement (item_is im s ∙ ap (λ y. item_by im y (item_under im s)) e)
 
 plus_none : (n : ℕ) → n + 0 ≡ n
 plus_none n = omega arith
@@ -154,8 +154,8 @@ module _ (im : Image) (limit : ℕ) (other : Optional) where
   )
   else_is (form.Branch c list) s g h e =
       λ env n. ap (λ x. else_in x env n) (else_some s _ g (item_at im limit s (form.Branch c list) h e))
-      ∙ branch_or_lem im (give reading.onward) (as_branch (item_by_lem im (form.Branch c list) (item_under im s))) env n
-      ∙ unskips (branch_in im (item_by_lem im (form.Branch c list) (item_under im s)) env n)
+      ∙ branch_or_lem im (give reading.onward) (as_branch (item_by im (form.Branch c list) (item_under im s))) env n
+      ∙ unskips (branch_in im (item_by im (form.Branch c list) (item_under im s)) env n)
       ∙ sym (ap (λ i. and_then (branch_in im i env n) (λ f. result_of (unskipped f))) (item_at im limit s (form.Branch c list) h e))
   else_is (form.While n list) s g h e = no_else_lem (else_some s _ g (item_at im limit s _ h e))
   else_is (form.Loop list) s g h e = no_else_lem (else_some s _ g (item_at im limit s _ h e))
@@ -167,7 +167,7 @@ module _ (im : Image) (limit : ℕ) (other : Optional) where
 
 module _ (im : Image) (s : ℕ) where
   made : (x : StatementForm) → statement_of im s ≡ x → (env : Env ℕ) (n : ℕ)
-      → statement_run im s env n ≡ compound im (as_statement (item_by_lem im x (item_under im s))) env n
+      → statement_run im s env n ≡ compound im (as_statement (item_by im x (item_under im s))) env n
   made x e env n = ap (λ y. compound im y env n) (statement_at im s x e)
 
   compound_is : (x : StatementForm) → statement_of im s ≡ x → CompoundIs im s (compound_of x)

@@ -1,4 +1,6 @@
 // Runs a function's body and counts the steps.
+#![tactic(auto)]
+
 mod cycle;
 mod types;
 mod views;

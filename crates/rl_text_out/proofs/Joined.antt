@@ -2,7 +2,7 @@
 -- Assumes nothing.
 use Prim.Native.Nat.{ℕ, ◌+◌, ◌≤◌, ◌<◌, min}
 use mathlib.Core.Path.{◌≡◌, refl, sym, ap, ◌∙◌}
-use mathlib.Core.List.{List, [], ◌++◌, append_assoc, append_nil}
+use mathlib.Core.List.{List, [], ◌++◌, append_assoc, append-nil}
 use native.Mathlib.Omega.{arith}
 use lib.ListN.{length, take, drop, length-append}
 use lib.Seq.{paste, paste-zero, length-paste, take-paste, drop-paste, drop-drop, take-append-add, take-append-le, take-length, take_all}
@@ -66,7 +66,7 @@ module _ (out : List ℕ) (at : ℕ) where
 take_two : (a b : List ℕ) (f g : ℕ) → f ≤ length a → (f < length a → g ≡ 0) → take (f + g) (a ++ b) ≡ take f a ++ take g b
 take_two a b f g h k =
     by_ltb f (length a)
-    (λ l. let z : g ≡ 0 = k l in let y : f + 0 ≡ f = omega arith in rw (z, y) (take-append-le f a b h ∙ sym (append_nil (take f a))))
+    (λ l. let z : g ≡ 0 = k l in let y : f + 0 ≡ f = omega arith in rw (z, y) (take-append-le f a b h ∙ sym (append-nil (take f a))))
     (λ l. let e : f ≡ length a = omega arith in rw e (take-append-add a b g ∙ ap (λ (t : List ℕ). t ++ take g b) (sym (take-length a))))
 
 module _ (out a b : List ℕ) (at f g : ℕ) (h : at ≤ length out) (k : f ≤ length a) where

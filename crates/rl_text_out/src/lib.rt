@@ -1,5 +1,7 @@
 // Text and numbers into a lent buffer, at a place; each function answers the place after what it put. What has no room is
 // left out.
+#![tactic(auto)]
+
 ghost use Rattle.std.specs.Prelude.{◌≡◌, ◌+◌, ◌≤◌, length};
 ghost use Rattle.std.proofs.Math.Seq.{paste};
 ghost use Rattle.rl_spec.specs.Message.{decimal};

@@ -15,7 +15,7 @@ use Rattle.rl_spec.specs.declared.Sort.{Sort}
 use Rattle.rl_spec.specs.Schema.{sort_of, width_of, fields_of}
 use Rattle.rl_spec.specs.declared.Optional.{Optional}
 use Rattle.rl_spec.specs.Ranges.{optional_field}
-use Rattle.rl_spec.specs.Image.{Field, num, record_of_lem, first, field_in_lem, fields_at}
+use Rattle.rl_spec.specs.Image.{Field, num, record_of, first, field_in, fields_at}
 use Rattle.rl_spec.specs.Found.{record_as, record_found, image_found}
 use Rattle.rl_spec.specs.Make.{append, made}
 use Rattle.rl_laws.specs.Found.{record_found_lem}
@@ -63,7 +63,7 @@ module _ (s : List ℕ) (row at : ℕ) (words : List ℕ) (rest place j : ℕ) (
       pub reading_place : Fits w64 (place + width)
       reading_place = omega (arith, w.near, width_small (rest % 256) o e width f)
 
-      pub reading_more : (word : ℕ) (words' : List ℕ) → word_field (sort_of (rest % 256)) word ≡ field_in_lem s (sort_of (rest % 256)) place →
+      pub reading_more : (word : ℕ) (words' : List ℕ) → word_field (sort_of (rest % 256)) word ≡ field_in s (sort_of (rest % 256)) place →
           words' ≡ set words j word → Reading s row at words' (rest / 256) (place + width) (j + 1)
       unfolding word_fields fields_at
       reading_more word words' g u =
@@ -123,7 +123,7 @@ words_set (c ∷ cs) ws (suc j) o i w e h =
 -- ---- the record again
 
 module _ (s p : List ℕ) (c : Counts) (id start kind : ℕ) (h : id < c.statements) (e : start ≡ get_or p (c.expressions + id) 0) (q : kind ≡ get_or s start 0) where
-  pub statement_is : record_of_lem (image_found s p c) Statements id ≡ record_as s kind start
+  pub statement_is : record_of (image_found s p c) Statements id ≡ record_as s kind start
   unfolding record_found
   statement_is = record_found_lem s p c Statements id h ∙ rw (← e, ← q) refl
 
@@ -145,20 +145,20 @@ module _ (s p : List ℕ) (c : Counts) (id start kind : ℕ) (h : id < c.stateme
             ∙ words_set (fields_of kind) ws j 0 j w (omega arith) (omega (arith, n))
             ∙ ap (λ fs. set fs j (field_of_word kind j w)) kept
 
-    record_rebuilt : word_record kind vs ≡ rebuilt (record_of_lem (image_found s p c) Statements id) j w k v
+    record_rebuilt : word_record kind vs ≡ rebuilt (record_of (image_found s p c) Statements id) j w k v
     unfolding record_as word_record
     record_rebuilt = ap (made kind) words_rebuilt ∙ ap (λ x. rebuilt x j w k v) (sym statement_is)
 
     pub makes_rebuilt : (t : State) (index : ℕ) (u : State) → Makes (image_found s p c) (append Statements (word_record kind vs ∷ [])) t index u →
-        Makes (image_found s p c) (append Statements (rebuilt (record_of_lem (image_found s p c) Statements id) j w k v ∷ [])) t index u
+        Makes (image_found s p c) (append Statements (rebuilt (record_of (image_found s p c) Statements id) j w k v ∷ [])) t index u
     makes_rebuilt t index u d = subst (λ x. Makes (image_found s p c) (append Statements (x ∷ [])) t index u) record_rebuilt d
 
 -- a conditional's other branch, by its word
 pub same_other : (s p : List ℕ) (c : Counts) (id m : ℕ) (o : Optional) (word : ℕ) (t : State) (index : ℕ) (u : State) → num word ≡ optional_field o →
-    Makes (image_found s p c) (append Statements (rebuilt (record_of_lem (image_found s p c) Statements id) 1 m 2 word ∷ [])) t index u →
-    Makes (image_found s p c) (append Statements (rebuilt (record_of_lem (image_found s p c) Statements id) 1 m 2 (first (optional_field o)) ∷ [])) t index u
+    Makes (image_found s p c) (append Statements (rebuilt (record_of (image_found s p c) Statements id) 1 m 2 word ∷ [])) t index u →
+    Makes (image_found s p c) (append Statements (rebuilt (record_of (image_found s p c) Statements id) 1 m 2 (first (optional_field o)) ∷ [])) t index u
 same_other s p c id m o word t index u e d =
-    subst (λ n. Makes (image_found s p c) (append Statements (rebuilt (record_of_lem (image_found s p c) Statements id) 1 m 2 n ∷ [])) t index u) (ap first e) d
+    subst (λ n. Makes (image_found s p c) (append Statements (rebuilt (record_of (image_found s p c) Statements id) 1 m 2 n ∷ [])) t index u) (ap first e) d
 
 -- ---- a kind that holds no list of statements, and one that is no branch
 

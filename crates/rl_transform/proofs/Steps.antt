@@ -18,8 +18,8 @@ use Rattle.rl_spec.specs.declared.Optional.{Optional}
 use Rattle.rl_spec.specs.declared.Optional.TheVariants.{None, Some}
 use Rattle.rl_spec.specs.declared.Section.TheVariants.{Lists, Statements}
 use Rattle.rl_spec.specs.Bytes.{u16_at}
-use Rattle.rl_spec.specs.Schema.{sort_of, schema, fields_in_lem, fields_of}
-use Rattle.rl_spec.specs.Image.{Field, num, pair, Image, records_of, size_of, no_record, record_of_lem, field_of, first, second, entry_of, fields_at, Refers, FieldsFit, Entries, WellFormed}
+use Rattle.rl_spec.specs.Schema.{sort_of, schema, fields_in, fields_of}
+use Rattle.rl_spec.specs.Image.{Field, num, pair, Image, records_of, size_of, no_record, record_of, field_of, first, second, entry_of, fields_at, Refers, FieldsFit, Entries, WellFormed}
 use Rattle.rl_spec.specs.Found.{record_as, image_found}
 use Rattle.rl_spec.specs.Tree.{number}
 use Rattle.rl_spec.specs.Ranges.{up_from, optional, optional_field}
@@ -83,16 +83,16 @@ module _ (s p : List ℕ) (c : Counts) (ensured : Interval) where
   -- ---- the record at hand
 
   old_statement : {k : ℕ} {x : Context} {ws : List ℕ} {t : State} (id : ℕ) → Live im k x ws t.ctx t.scratch t.waiting → id < c.statements →
-      record_of_lem x.image Statements id ≡ record_of_lem im Statements id
+      record_of x.image Statements id ≡ record_of im Statements id
   old_statement id l h =
-      ap (λ z. record_of_lem z.image Statements id) l.context ∙ get_or-append (records_of im Statements) l.new.statements no_record id (rw (size_found s p c Statements) h)
+      ap (λ z. record_of z.image Statements id) l.context ∙ get_or-append (records_of im Statements) l.new.statements no_record id (rw (size_found s p c Statements) h)
 
-  statement_step_lem : (id : ℕ) (x : Context) → transform_statement es id x ≡ transform_statement_by (walk_below es id) es id (record_of_lem x.image Statements id) x
+  statement_step_lem : (id : ℕ) (x : Context) → transform_statement es id x ≡ transform_statement_by (walk_below es id) es id (record_of x.image Statements id) x
   unfolding transform_statement
-  statement_step_lem id x = λ i. descend_is (λ n. give (n ∷ [])) (λ n w. image_so_far >>= λ im. transform_statement_by w es n (record_of_lem im Statements n)) id i x
+  statement_step_lem id x = λ i. descend_is (λ n. give (n ∷ [])) (λ n w. image_so_far >>= λ im. transform_statement_by w es n (record_of im Statements n)) id i x
 
   -- by a computation that the record at hand says
-  by_record : (id : ℕ) (t u : State) (m : Make (List ℕ)) → id < c.statements → transform_statement_by (walk_below es id) es id (record_of_lem im Statements id) ≡ m →
+  by_record : (id : ℕ) (t u : State) (m : Make (List ℕ)) → id < c.statements → transform_statement_by (walk_below es id) es id (record_of im Statements id) ≡ m →
       Gathers im 0 m t u → OneStatement s p c ensured id t u
   by_record id t u m h e d = (
     d.0,
@@ -106,10 +106,10 @@ module _ (s p : List ℕ) (c : Counts) (ensured : Interval) where
   -- ---- by the kind: the record is `record_as s kind start`
 
   module _ (id start kind : ℕ) (h : id < c.statements) (e : start ≡ get_or p (c.expressions + id) 0) (q : kind ≡ get_or s start 0) where
-    is_record : record_of_lem im Statements id ≡ record_as s kind start
+    is_record : record_of im Statements id ≡ record_as s kind start
     is_record = statement_is s p c id start kind h e q
 
-    as_kind : (k : ℕ) → kind ≡ k → record_of_lem im Statements id ≡ record_as s k start
+    as_kind : (k : ℕ) → kind ≡ k → record_of im Statements id ≡ record_as s k start
     as_kind k g = is_record ∙ ap (λ z. record_as s z start) g
 
     says : (k : ℕ) → kind ≡ k → (m : Make (List ℕ)) → transform_statement_by (walk_below es id) es id (record_as s k start) ≡ m → (t u : State) → Gathers im 0 m t u → OneStatement s p c ensured id t u
@@ -117,25 +117,25 @@ module _ (s p : List ℕ) (c : Counts) (ensured : Interval) where
 
     -- a return
     pub statement_return : (t u : State) (value : ℕ) → kind ≡ 66 → value ≡ u16_at s (start + 5) → Gathers im 0 (wrap_return value es) t u → OneStatement s p c ensured id t u
-    unfolding record_as fields_at fields_of fields_in_lem schema sort_of
+    unfolding record_as fields_at fields_of fields_in schema sort_of
     statement_return t u value g f d = says 66 g (wrap_return value es) (ap (λ v. wrap_return v es) (two s (start + 1 + 4) ∙ ap (u16_at s) place ∙ sym f)) t u d
       where
         place : start + 1 + 4 ≡ start + 5
         place = omega arith
 
     pub statement_alone : (t u v : State) (null : ℕ) → kind ≡ 67 → Does im 0 0 nothing (expr 16 []) t null u → Gathers im 0 (wrap_return null es) u v → OneStatement s p c ensured id t v
-    unfolding record_as fields_at fields_of fields_in_lem schema sort_of
+    unfolding record_as fields_at fields_of fields_in schema sort_of
     statement_alone t u v null g d w =
         says 67 g (expr 16 [] >>= λ n. wrap_return n es) refl t v (w.0, does_bind d (keeps_more all (λ n. adds_wrap n es)) w.1)
 
     pub statement_conditional : (t u v : State) (n : ℕ) → kind ≡ 68 → Conditional s p c ensured id t n u → Pushes n u v → OneStatement s p c ensured id t v
-    unfolding record_as fields_at fields_of fields_in_lem schema sort_of
+    unfolding record_as fields_at fields_of fields_in schema sort_of
     statement_conditional t u v n g d w =
         says 68 g (only (walk_below es id) (conditional (walk_below es id) (record_as s 68 start))) refl t v
         (one_waits (conditional (walk_below es id) (record_as s 68 start)) t u v n (subst (λ r. Makes im (conditional (walk_below es id) r) t n u) (as_kind 68 g) d) w)
 
     pub statement_match : (t u v : State) (n : ℕ) → kind ≡ 75 → Match s p c ensured id t n u → Pushes n u v → OneStatement s p c ensured id t v
-    unfolding record_as fields_at fields_of fields_in_lem schema sort_of
+    unfolding record_as fields_at fields_of fields_in schema sort_of
     statement_match t u v n g d w =
         says 75 g (only (walk_below es id) (match (walk_below es id) (record_as s 75 start))) refl t v
         (one_waits (match (walk_below es id) (record_as s 75 start)) t u v n (subst (λ r. Makes im (match (walk_below es id) r) t n u) (as_kind 75 g) d) w)
@@ -148,7 +148,7 @@ module _ (s p : List ℕ) (c : Counts) (ensured : Interval) where
         (one_waits (body_of (walk_below es id) (record_as s k start)) t u v n (subst (λ r. Makes im (body_of (walk_below es id) r) t n u) (as_kind k g) d) w)
 
     pub statement_loop : (t u v : State) (n : ℕ) → 70 ≤ kind → kind ≤ 74 → Body s p c ensured id id t n u → Pushes n u v → OneStatement s p c ensured id t v
-    unfolding record_as fields_at fields_of fields_in_lem schema sort_of stmt
+    unfolding record_as fields_at fields_of fields_in schema sort_of stmt
     statement_loop t u v n a b d w =
         by_eqb kind 70 (λ g. looped 70 g t u v n refl d w) (λ g.
         by_eqb kind 71 (λ g. looped 71 g t u v n refl d w) (λ g'.
@@ -178,7 +178,7 @@ pub record Holds (s : List ℕ) (start k : ℕ) : Type 0 where
       first (field_of (record_as s k start) (list_field k)) + second (field_of (record_as s k start) (list_field k)) ≤ size_of im Lists
 
 holds : (s : List ℕ) (start k : ℕ) → (list_field k ≡ 0 → ⊥) → Holds s start k
-unfolding record_as fields_at fields_of fields_in_lem schema sort_of
+unfolding record_as fields_at fields_of fields_in schema sort_of
 holds s start k h =
     by_eqb k 69 (λ g. subst (Holds s start) (sym g) (record { stands = at_place (start + 1 + 4 + 2) (start + 7) (omega arith); again = λ w. refl; ranges = λ im i f. (list_says (first_fits (others_fit (others_fit f)))).0 })) (λ a.
     by_eqb k 70 (λ g. subst (Holds s start) (sym g) (record { stands = at_place (start + 1 + 4 + 2) (start + 7) (omega arith); again = λ w. refl; ranges = λ im i f. (list_says (first_fits (others_fit (others_fit f)))).0 })) (λ b.
@@ -216,7 +216,7 @@ module _ (s p : List ℕ) (c : Counts) (rows : List ℕ) (ensured : Interval) (r
   abbrev wf : WellFormed of
   wf = ready.well
 
-  fits_record : (x start kind : ℕ) → x < c.statements → record_of_lem of Statements x ≡ record_as s kind start → FieldsFit of Statements x 0 (map sort_of (fields_of kind)) (fields_at s (fields_of kind) (start + 1))
+  fits_record : (x start kind : ℕ) → x < c.statements → record_of of Statements x ≡ record_as s kind start → FieldsFit of Statements x 0 (map sort_of (fields_of kind)) (fields_at s (fields_of kind) (start + 1))
   unfolding record_as
   fits_record x start kind h e =
       subst (λ r. FieldsFit of Statements x 0 (map sort_of (fields_of r.kind)) r.fields) e (wf.fits Statements x (rw (size_found s p c Statements) h)).fields
@@ -224,17 +224,17 @@ module _ (s p : List ℕ) (c : Counts) (rows : List ℕ) (ensured : Interval) (r
   -- ---- a list transformed, and its record again
 
   module _ (limit x start kind : ℕ) (h : x < c.statements) (e : start ≡ get_or p (c.expressions + x) 0) (q : kind ≡ get_or s start 0) where
-    here : record_of_lem of Statements x ≡ record_as s kind start
+    here : record_of of Statements x ≡ record_as s kind start
     here = statement_is s p c x start kind h e q
 
-    pub holds_list : (list_field (record_of_lem of Statements x).kind ≡ 0 → ⊥) → Holds s start kind
+    pub holds_list : (list_field (record_of of Statements x).kind ≡ 0 → ⊥) → Holds s start kind
     unfolding record_as
     holds_list n = holds s start kind (λ z. n (ap (λ r. list_field r.kind) here ∙ z))
 
-    pub body_done : (t u v z : State) (a n waits word index : ℕ) (list : Interval) → (list_field (record_of_lem of Statements x).kind ≡ 0 → ⊥) → (place : ℕ) → place ≡ list_place kind →
+    pub body_done : (t u v z : State) (a n waits word index : ℕ) (list : Interval) → (list_field (record_of of Statements x).kind ≡ 0 → ⊥) → (place : ℕ) → place ≡ list_place kind →
         a ≡ u16_at s (start + place) → n ≡ u16_at s (start + place + 2) → waits ≡ t.ctx.waiting → Returns s p c ensured limit a n t u → Listed waits u list v →
         pair (word % 65536) (word / 65536) ≡ pair list.first list.count → (j k : ℕ) → j ≡ list_field kind → k ≡ flag_field kind →
-        Makes of (append Statements (rebuilt (record_of_lem of Statements x) j word k 0 ∷ [])) v index z → Body s p c ensured limit x t index z
+        Makes of (append Statements (rebuilt (record_of of Statements x) j word k 0 ∷ [])) v index z → Body s p c ensured limit x t index z
     unfolding record_as
     body_done t u v z a n waits word index list l place o f g w d i is j k jf kf m =
         subst (λ r. Makes of (body_of (walk_below clauses limit) r) t index z) (sym here)
@@ -272,7 +272,7 @@ module _ (s p : List ℕ) (c : Counts) (rows : List ℕ) (ensured : Interval) (r
     abbrev walk : ℕ → Make (List ℕ)
     walk = walk_below clauses limit
 
-    branch_by : (u : State) (n : ℕ) (m : Make ℕ) → x < c.statements → transform_branch_by walk x (record_of_lem of Statements x) ≡ m → Makes of m t n u → Branch s p c ensured limit x t n u
+    branch_by : (u : State) (n : ℕ) (m : Make ℕ) → x < c.statements → transform_branch_by walk x (record_of of Statements x) ≡ m → Makes of m t n u → Branch s p c ensured limit x t n u
     unfolding transform_branch
     branch_by u n m h e d =
         does_same (transform_branch walk x) (keeps_more nothing (λ _. adds_branch walk (adds_walk clauses limit) x))
@@ -280,7 +280,7 @@ module _ (s p : List ℕ) (c : Counts) (rows : List ℕ) (ensured : Interval) (r
 
     module _ (start kind : ℕ) (h : x < c.statements) (e : start ≡ get_or p (c.expressions + x) 0) (q : kind ≡ get_or s start 0) where
       pub branch_body : (u : State) (n : ℕ) → kind ≡ 69 → Body s p c ensured limit x t n u → Branch s p c ensured limit x t n u
-      unfolding record_as fields_at fields_of fields_in_lem schema sort_of stmt
+      unfolding record_as fields_at fields_of fields_in schema sort_of stmt
       branch_body u n g d =
           branch_by u n (body_of walk (record_as s 69 start)) h (ap (transform_branch_by walk x) (statement_is s p c x start kind h e q ∙ ap (λ z. record_as s z start) g))
           (subst (λ r. Makes of (body_of walk r) t n u) (statement_is s p c x start kind h e q ∙ ap (λ z. record_as s z start) g) d)
@@ -290,14 +290,14 @@ module _ (s p : List ℕ) (c : Counts) (rows : List ℕ) (ensured : Interval) (r
       branch_kept g =
           branch_by t x (give x) h (ap (transform_branch_by walk x) (statement_is s p c x start kind h e q) ∙ ap (λ b. cond b (transform_list walk (field_of (record_as s kind start) 2) >>= λ body. stmt 69 (number (record_as s kind start) 0) (field_of (record_as s kind start) 1 ∷ body ∷ num 0 ∷ [])) (give x)) (ne_eqb kind 69 g)) (does_give of 0 x t)
 
-  pub branch_list : (x start kind : ℕ) (h : x < c.statements) → start ≡ get_or p (c.expressions + x) 0 → kind ≡ get_or s start 0 → kind ≡ 69 → list_field (record_of_lem of Statements x).kind ≡ 0 → ⊥
+  pub branch_list : (x start kind : ℕ) (h : x < c.statements) → start ≡ get_or p (c.expressions + x) 0 → kind ≡ get_or s start 0 → kind ≡ 69 → list_field (record_of of Statements x).kind ≡ 0 → ⊥
   unfolding record_as
   branch_list x start kind h e q g z = absurd (omega (arith, sym (ap (λ r. list_field r.kind) (statement_is s p c x start kind h e q ∙ ap (λ y. record_as s y start) g)) ∙ z))
 
   -- ---- a conditional
 
-  module _ (id start : ℕ) (h : id < c.statements) (e : start ≡ get_or p (c.expressions + id) 0) (k : (record_of_lem of Statements id).kind ≡ 68) where
-    is_68 : record_of_lem of Statements id ≡ record_as s 68 start
+  module _ (id start : ℕ) (h : id < c.statements) (e : start ≡ get_or p (c.expressions + id) 0) (k : (record_of of Statements id).kind ≡ 68) where
+    is_68 : record_of of Statements id ≡ record_as s 68 start
     unfolding record_as
     is_68 = statement_is s p c id start (get_or s start 0) h e refl ∙ ap (λ z. record_as s z start) (sym (ap (λ r. r.kind) (statement_is s p c id start (get_or s start 0) h e refl)) ∙ k)
 
@@ -308,19 +308,19 @@ module _ (s p : List ℕ) (c : Counts) (rows : List ℕ) (ensured : Interval) (r
     place_seven = omega arith
 
     first_is : (a : ℕ) → a ≡ u16_at s (start + 5) → number (record_as s 68 start) 1 ≡ a
-    unfolding record_as fields_at fields_of fields_in_lem schema sort_of
+    unfolding record_as fields_at fields_of fields_in schema sort_of
     first_is a f = two s (start + 1 + 4) ∙ ap (u16_at s) place_five ∙ sym f
 
     second_is : (o : Optional) → o ≡ optional (num (u16_at s (start + 7))) → optional (field_of (record_as s 68 start) 2) ≡ o
-    unfolding record_as fields_at fields_of fields_in_lem schema sort_of
+    unfolding record_as fields_at fields_of fields_in schema sort_of
     second_is o f = ap (λ n. optional (num n)) (two s (start + 1 + 4 + 2) ∙ ap (u16_at s) place_seven) ∙ sym f
 
     pub branch_earlier : (a : ℕ) → a ≡ u16_at s (start + 5) → a < c.statements
-    unfolding record_as fields_at fields_of fields_in_lem schema sort_of
+    unfolding record_as fields_at fields_of fields_in schema sort_of
     branch_earlier a f = omega (arith, subst (λ z. z < id) (first_is a f) (reference_says (first_fits (others_fit (fits_record id start 68 h is_68)))).earlier)
 
     pub else_earlier : (o : Optional) (a : ℕ) → o ≡ optional (num (u16_at s (start + 7))) → o ≡ Some a → a < c.statements
-    unfolding record_as fields_at fields_of fields_in_lem schema sort_of
+    unfolding record_as fields_at fields_of fields_in schema sort_of
     else_earlier o a f e =
         omega (arith, (some_says {P = Refers of Statements id ElseBranch} (optional_says (field_of (record_as s 68 start) 2) (option_says (first_fits (others_fit (others_fit (fits_record id start 68 h is_68)))))) a (second_is o f ∙ e)).earlier)
 
@@ -329,8 +329,8 @@ module _ (s p : List ℕ) (c : Counts) (rows : List ℕ) (ensured : Interval) (r
     Otherwise b t o u = Does of 0 0 nothing (transform_else (walk_below clauses id) b) t o u
 
     with_other : (t u v z : State) (a m index : ℕ) (b o : Optional) → a ≡ u16_at s (start + 5) → b ≡ optional (num (u16_at s (start + 7))) → Branch s p c ensured id a t m u → Otherwise b u o v →
-        Makes of (append Statements (rebuilt (record_of_lem of Statements id) 1 m 2 (first (optional_field o)) ∷ [])) v index z → Conditional s p c ensured id t index z
-    unfolding record_as fields_at fields_of fields_in_lem schema sort_of stmt
+        Makes of (append Statements (rebuilt (record_of of Statements id) 1 m 2 (first (optional_field o)) ∷ [])) v index z → Conditional s p c ensured id t index z
+    unfolding record_as fields_at fields_of fields_in schema sort_of stmt
     with_other t u v z a m index b o f g d e r =
         subst (λ y. Makes of (conditional (walk_below clauses id) y) t index z) (sym is_68)
         (does_bind (subst (λ y. Makes of (transform_branch (walk_below clauses id) y) t m u) (sym (first_is a f)) d)
@@ -340,74 +340,74 @@ module _ (s p : List ℕ) (c : Counts) (rows : List ℕ) (ensured : Interval) (r
         (subst (λ y. Makes of (append Statements (rebuilt y 1 m 2 (first (optional_field o)) ∷ [])) v index z) is_68 r))))
 
     pub conditional_alone : (t u z : State) (a m index : ℕ) (b : Optional) → a ≡ u16_at s (start + 5) → b ≡ optional (num (u16_at s (start + 7))) → b ≡ None → Branch s p c ensured id a t m u →
-        Makes of (append Statements (rebuilt (record_of_lem of Statements id) 1 m 2 (first (optional_field None)) ∷ [])) u index z → Conditional s p c ensured id t index z
+        Makes of (append Statements (rebuilt (record_of of Statements id) 1 m 2 (first (optional_field None)) ∷ [])) u index z → Conditional s p c ensured id t index z
     conditional_alone t u z a m index b f g e d = with_other t u u z a m index None None f (sym e ∙ g) d (does_give of 0 None u)
 
     pub conditional_both : (t u v z : State) (a x m n index : ℕ) (b : Optional) → a ≡ u16_at s (start + 5) → b ≡ optional (num (u16_at s (start + 7))) → b ≡ Some x → Branch s p c ensured id a t m u → Branch s p c ensured id x u n v →
-        Makes of (append Statements (rebuilt (record_of_lem of Statements id) 1 m 2 (first (optional_field (Some n))) ∷ [])) v index z → Conditional s p c ensured id t index z
+        Makes of (append Statements (rebuilt (record_of of Statements id) 1 m 2 (first (optional_field (Some n))) ∷ [])) v index z → Conditional s p c ensured id t index z
     conditional_both t u v z a x m n index b f g e d o =
         with_other t u v z a m index (Some x) (Some n) f (sym e ∙ g) d (does_bind o (keeps_more nothing (λ n. adds_give (Some n))) (does_give of 0 (Some n) v))
 
   -- ---- a match, and its arms
 
-  arm_body : (limit x : ℕ) → x < c.statements → (record_of_lem of Statements x).kind ≡ 76 → transform_arm_by (walk_below clauses limit) (record_of_lem of Statements x) ≡ body_of (walk_below clauses limit) (record_of_lem of Statements x)
-  unfolding record_as fields_at fields_of fields_in_lem schema sort_of stmt
+  arm_body : (limit x : ℕ) → x < c.statements → (record_of of Statements x).kind ≡ 76 → transform_arm_by (walk_below clauses limit) (record_of of Statements x) ≡ body_of (walk_below clauses limit) (record_of of Statements x)
+  unfolding record_as fields_at fields_of fields_in schema sort_of stmt
   arm_body limit x h k = subst (λ r. transform_arm_by (walk_below clauses limit) r ≡ body_of (walk_below clauses limit) r) (sym is_76) refl
     where
       start : ℕ
       start = get_or p (c.expressions + x) 0
 
-      found : record_of_lem of Statements x ≡ record_as s (get_or s start 0) start
+      found : record_of of Statements x ≡ record_as s (get_or s start 0) start
       found = statement_is s p c x start (get_or s start 0) h refl refl
 
-      is_76 : record_of_lem of Statements x ≡ record_as s 76 start
+      is_76 : record_of of Statements x ≡ record_as s 76 start
       is_76 = found ∙ ap (λ z. record_as s z start) (sym (ap (λ r. r.kind) found) ∙ k)
 
-  pub arm_done : (limit x : ℕ) (t u : State) (n : ℕ) → x < c.statements → (record_of_lem of Statements x).kind ≡ 76 → Body s p c ensured limit x t n u → Makes of (transform_arm (walk_below clauses limit) x) t n u
+  pub arm_done : (limit x : ℕ) (t u : State) (n : ℕ) → x < c.statements → (record_of of Statements x).kind ≡ 76 → Body s p c ensured limit x t n u → Makes of (transform_arm (walk_below clauses limit) x) t n u
   unfolding transform_arm
   arm_done limit x t u n h k d =
       does_same (transform_arm (walk_below clauses limit) x) (keeps_more nothing (λ _. adds_arm (walk_below clauses limit) (adds_walk clauses limit) x))
       (λ y ws l. ap (λ r. transform_arm_by (walk_below clauses limit) r y) (old_statement s p c ensured {t = t} x l h) ∙ ap (λ z. z y) (arm_body limit x h k)) d
 
-  pub arm_list : (x : ℕ) → (record_of_lem of Statements x).kind ≡ 76 → list_field (record_of_lem of Statements x).kind ≡ 0 → ⊥
+  pub arm_list : (x : ℕ) → (record_of of Statements x).kind ≡ 76 → list_field (record_of of Statements x).kind ≡ 0 → ⊥
   arm_list x k z = omega (arith, sym (ap list_field k) ∙ z)
 
   pub arm_made : (a n i e limit : ℕ) (t u : State) (m : ℕ) → ArmsIn s p c a n → i < n → e ≡ entry_of of (a + i) →
-      (e < c.statements → (list_field (record_of_lem of Statements e).kind ≡ 0 → ⊥) → Body s p c ensured limit e t m u) → Makes of (transform_arm (walk_below clauses limit) e) t m u
+      (e < c.statements → (list_field (record_of of Statements e).kind ≡ 0 → ⊥) → Body s p c ensured limit e t m u) → Makes of (transform_arm (walk_below clauses limit) e) t m u
   arm_made a n i e limit t u m arms l g d = arm_done limit e t u m small is (d small (arm_list e is))
     where
       small : e < c.statements
       small = subst (λ z. z < c.statements) (sym g) (arms i l).0
 
-      is : (record_of_lem of Statements e).kind ≡ 76
-      is = subst (λ z. (record_of_lem of Statements z).kind ≡ 76) (sym g) (arms i l).1
+      is : (record_of of Statements e).kind ≡ 76
+      is = subst (λ z. (record_of of Statements z).kind ≡ 76) (sym g) (arms i l).1
 
-  module _ (id start : ℕ) (h : id < c.statements) (e : start ≡ get_or p (c.expressions + id) 0) (k : (record_of_lem of Statements id).kind ≡ 75) where
-    is_75 : record_of_lem of Statements id ≡ record_as s 75 start
+  module _ (id start : ℕ) (h : id < c.statements) (e : start ≡ get_or p (c.expressions + id) 0) (k : (record_of of Statements id).kind ≡ 75) where
+    is_75 : record_of of Statements id ≡ record_as s 75 start
     unfolding record_as
     is_75 = statement_is s p c id start (get_or s start 0) h e refl ∙ ap (λ z. record_as s z start) (sym (ap (λ r. r.kind) (statement_is s p c id start (get_or s start 0) h e refl)) ∙ k)
 
     module _ (place a n : ℕ) (o : place ≡ start + 7) (f : a ≡ u16_at s place) (g : n ≡ u16_at s (place + 2)) where
       arms_field : field_of (record_as s 75 start) 2 ≡ pair a n
-      unfolding record_as fields_at fields_of fields_in_lem schema sort_of
+      unfolding record_as fields_at fields_of fields_in schema sort_of
       arms_field = ap₂ pair (ap (u16_at s) same ∙ sym f) (ap (λ z. u16_at s (z + 2)) same ∙ sym g)
         where
           same : start + 1 + 4 + 2 ≡ place
           same = omega (arith, o)
 
       arms_fit : (a + n ≤ size_of of Lists) × Entries of Statements id n a Arm Arm
-      unfolding record_as fields_at fields_of fields_in_lem schema sort_of
+      unfolding record_as fields_at fields_of fields_in schema sort_of
       arms_fit =
           let q = list_says (first_fits (others_fit (others_fit (fits_record id start 75 h is_75)))) in
           subst (λ z. (first z + second z ≤ size_of of Lists) × Entries of Statements id (second z) (first z) Arm Arm) arms_field (q.0, q.2)
 
       pub arms_in : ArmsIn s p c a n
       arms_in i l =
-          (omega (arith, (entries_in_lem of Statements id n a Arm arms_fit.1 i l).earlier), eqb-true (record_of_lem of Statements (entry_of of (a + i))).kind 76 (entries_in_lem of Statements id n a Arm arms_fit.1 i l).taken)
+          (omega (arith, (entries_in_lem of Statements id n a Arm arms_fit.1 i l).earlier), eqb-true (record_of of Statements (entry_of of (a + i))).kind 76 (entries_in_lem of Statements id n a Arm arms_fit.1 i l).taken)
 
       pub match_done : (t u v z : State) (waits word index : ℕ) (list : Interval) → waits ≡ t.ctx.waiting → Arms s p c ensured id a n t u → Listed waits u list v →
-          pair (word % 65536) (word / 65536) ≡ pair list.first list.count → Makes of (append Statements (rebuilt (record_of_lem of Statements id) 2 word 7 0 ∷ [])) v index z → Match s p c ensured id t index z
-      unfolding record_as fields_at fields_of fields_in_lem schema sort_of stmt
+          pair (word % 65536) (word / 65536) ≡ pair list.first list.count → Makes of (append Statements (rebuilt (record_of of Statements id) 2 word 7 0 ∷ [])) v index z → Match s p c ensured id t index z
+      unfolding record_as fields_at fields_of fields_in schema sort_of stmt
       match_done t u v z waits word index list w d i is r =
           subst (λ y. Makes of (match (walk_below clauses id) y) t index z) (sym is_75)
           (does_same (match (walk_below clauses id) (record_as s 75 start)) (keeps_more nothing (λ _. adds_match (walk_below clauses id) (adds_walk clauses id) (record_as s 75 start)))
@@ -428,11 +428,11 @@ module _ (s p : List ℕ) (c : Counts) (rows : List ℕ) (ensured : Interval) (r
   -- ---- the kind of the record at hand
 
   module _ (id start kind : ℕ) (h : id < c.statements) (e : start ≡ get_or p (c.expressions + id) 0) (q : kind ≡ get_or s start 0) where
-    pub kind_here : (k : ℕ) → kind ≡ k → (record_of_lem of Statements id).kind ≡ k
+    pub kind_here : (k : ℕ) → kind ≡ k → (record_of of Statements id).kind ≡ k
     unfolding record_as
     kind_here k g = ap (λ r. r.kind) (statement_is s p c id start kind h e q) ∙ g
 
-    pub loop_list : 70 ≤ kind → kind ≤ 74 → list_field (record_of_lem of Statements id).kind ≡ 0 → ⊥
+    pub loop_list : 70 ≤ kind → kind ≤ 74 → list_field (record_of of Statements id).kind ≡ 0 → ⊥
     loop_list a b z =
         by_eqb kind 70 (λ g. no 70 g (λ y. omega (arith, y))) (λ d.
         by_eqb kind 71 (λ g. no 71 g (λ y. omega (arith, y))) (λ f.

@@ -5,7 +5,7 @@ use Rattle.rl_spec.specs.declared.Counts.{Counts}
 use Rattle.rl_spec.specs.declared.Interval.{Interval}
 use Rattle.rl_spec.specs.declared.Clause.{Clause}
 use Rattle.rl_spec.specs.Schema.{sort_of, fields_of}
-use Rattle.rl_spec.specs.Image.{Field, num, Rec, Image, record_of_lem, field_of, entry_of, WellFormed}
+use Rattle.rl_spec.specs.Image.{Field, num, Rec, Image, record_of, field_of, entry_of, WellFormed}
 use Rattle.rl_spec.specs.Tree.{below}
 use Rattle.rl_spec.specs.Ranges.{up_from}
 use Rattle.rl_spec.specs.Make.{Make, ◌>>=◌, give, append, made, each, flat_map}
@@ -59,7 +59,7 @@ pub record Ready (s p : List ℕ) (c : Counts) (rows : List ℕ) (ensured : Inte
 -- arms in the list
 abbrev pub ArmsIn : List ℕ → List ℕ → Counts → ℕ → ℕ → Type 0
 ArmsIn s p c first count =
-    (i : ℕ) → i < count → (entry_of (image_found s p c) (first + i) < c.statements) × ((record_of_lem (image_found s p c) Statements (entry_of (image_found s p c) (first + i))).kind ≡ 76)
+    (i : ℕ) → i < count → (entry_of (image_found s p c) (first + i) < c.statements) × ((record_of (image_found s p c) Statements (entry_of (image_found s p c) (first + i))).kind ≡ 76)
 
 module _ (s p : List ℕ) (c : Counts) (ensured : Interval) where
   abbrev pub of : Image
@@ -78,16 +78,16 @@ module _ (s p : List ℕ) (c : Counts) (ensured : Interval) where
   OneStatement id t u = Gathers of 0 (transform_statement (clauses_in of ensured) id) t u
 
   abbrev pub Conditional : ℕ → State → ℕ → State → Type 0
-  Conditional id t n u = Makes of (conditional (walk id) (record_of_lem of Statements id)) t n u
+  Conditional id t n u = Makes of (conditional (walk id) (record_of of Statements id)) t n u
 
   abbrev pub Branch : ℕ → ℕ → State → ℕ → State → Type 0
   Branch limit x t n u = Makes of (transform_branch (walk limit) x) t n u
 
   abbrev pub Match : ℕ → State → ℕ → State → Type 0
-  Match id t n u = Makes of (match (walk id) (record_of_lem of Statements id)) t n u
+  Match id t n u = Makes of (match (walk id) (record_of of Statements id)) t n u
 
   abbrev pub Arms : ℕ → ℕ → ℕ → State → State → Type 0
   Arms limit first count t u = Gathers of 0 (each (transform_arm (walk limit)) (map (entry_of of) (up_from first count))) t u
 
   abbrev pub Body : ℕ → ℕ → State → ℕ → State → Type 0
-  Body limit x t n u = Makes of (body_of (walk limit) (record_of_lem of Statements x)) t n u
+  Body limit x t n u = Makes of (body_of (walk limit) (record_of of Statements x)) t n u

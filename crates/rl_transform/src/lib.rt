@@ -1,4 +1,6 @@
 // Transforms a body's returns: rl-resolver's transform_returns, transform_branch and transform_statement.
+#![tactic(auto)]
+
 mod cycle;
 mod rebuild;
 

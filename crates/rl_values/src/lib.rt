@@ -1,4 +1,6 @@
 // The operators on folded values.
+#![tactic(auto)]
+
 ghost use Rattle.std.specs.Prelude.{◌≡◌, cond, ◌*◌, leb, pos, nat_abs, neg_ℤ, ◌+ℤ◌, ◌-ℤ◌, ◌*ℤ◌};
 ghost use Rattle.std.specs.Bool.{beq};
 ghost use Rattle.std.proofs.Math.Option.{some};

@@ -1,4 +1,6 @@
 // Values as two words, a sort and a payload, and back.
+#![tactic(auto)]
+
 mod literals;
 mod values;
 

@@ -1,5 +1,7 @@
 // Replays the stored cases of lowering. Standard input has for each the lengths of the image, the work slice and the output slice and
 // the function, u32 each, then the image; for each the answer is written as a line, a lowered image in hexadecimal digits.
+#![tactic(auto)]
+
 use libc::{STDIN_FILENO, STDOUT_FILENO};
 use rl_abi::rl_lower;
 use rl_bytes::{byte_at, is_past, part, u32_at};

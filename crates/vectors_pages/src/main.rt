@@ -1,5 +1,7 @@
 // Replays the stored cases of pages. Standard input has for each the lengths of the image, the work slice and the page slice, u32
 // each, then the image; for each the answer is written as a line, and behind it the pages.
+#![tactic(auto)]
+
 use libc::{STDIN_FILENO, STDOUT_FILENO};
 use rl_abi::rl_pages;
 use rl_bytes::{is_past, part, u32_at};

@@ -1,5 +1,7 @@
 // Replays the stored cases of proving. Standard input has for each the image's length and the work slice's, u32 each, and the
 // image; for each the lines of its reports are written, and `--`.
+#![tactic(auto)]
+
 use libc::{STDIN_FILENO, STDOUT_FILENO};
 use rl_bytes::{is_past, part, u32_at};
 use rl_report::print_reports;

@@ -1,5 +1,7 @@
 // Replays the reader's stored cases. Standard input has for each the image's length and the work slice's, u32 each, and the
 // image; for each a line is written: the refusal's number and place, or `0 0` and the heights.
+#![tactic(auto)]
+
 use libc::{STDIN_FILENO, STDOUT_FILENO};
 use rl_bytes::{is_past, part, u32_at, word_at};
 use rl_numbers::number_of;

@@ -1,5 +1,7 @@
 // Replays the stored cases of running. Standard input has for each the image's length, the work slice's, the function, the budget and
 // the number of value words, u32 each, then the image and the words, u64 each; for each the outcome is written as a line.
+#![tactic(auto)]
+
 use libc::{STDIN_FILENO, STDOUT_FILENO};
 use rl_abi::rl_run;
 use rl_bytes::{is_past, long_at, part, put_long, u32_at, u64_at};

@@ -21,7 +21,7 @@ use Rattle.rl_spec.specs.declared.Step.TheVariants.{Next, Stop}
 use Rattle.rl_spec.specs.Bytes.{past}
 use Rattle.rl_spec.specs.Schema.{text_bytes_at, sections, count_of}
 use Rattle.rl_spec.specs.Read.{after, counts_of, header_of, Out, good, bad, records_from, and_then, sections_from, end_of, body_of, most_starts, read_of, answer_by, answer_of, work_of}
-use Rattle.rl_spec.specs.Image.{Image, records_of, size_of, record_of_lem, encode, records_in, end_at, image_of, heights, RecordFits, AllBytes, WellFormed}
+use Rattle.rl_spec.specs.Image.{Image, records_of, size_of, record_of, encode, records_in, end_at, image_of, heights, RecordFits, AllBytes, WellFormed}
 use Rattle.rl_images.specs.Reading.Rows.{last_at, sections_at}
 use Rattle.rl_images.specs.Reading.ReadOutcome.{Reads, accepted_reads}
 use Rattle.rl_images.specs.Reading.Decode.{accepted_encodes}
@@ -36,7 +36,7 @@ use Rattle.rl_images.specs.Encoding.AcceptedParts.{arena_below, text_are_bytes, 
 -- ---- the sections
 
 abbrev AllFit : Image → Section → Type 0
-AllFit im o = (i : ℕ) → i < size_of im o → RecordFits im o i (record_of_lem im o i)
+AllFit im o = (i : ℕ) → i < size_of im o → RecordFits im o i (record_of im o i)
 
 -- the records of a section before others that are read to their end
 then_good : (r : Out) (f : ℕ → List ℕ → List ℕ → Out) (m : ℕ) (v q : List ℕ) → and_then r f ≡ good m v q → (a : ℕ) × (w : List ℕ) × (p : List ℕ) × (r ≡ good a w p)

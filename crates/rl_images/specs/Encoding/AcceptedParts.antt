@@ -9,10 +9,10 @@ use Rattle.rl_spec.specs.declared.Answer.TheVariants.{Accepted}
 use Rattle.rl_spec.specs.declared.Section.{Section}
 use Rattle.rl_spec.specs.declared.Section.TheVariants.{Texts, Lists, Expressions, Statements, Parameters, Clauses, Functions, Calls}
 use Rattle.rl_spec.specs.Bytes.{u16_at}
-use Rattle.rl_spec.specs.Schema.{limits, text_bytes_at, sections, count_of, sort_of, schema, fields_in_lem, fields_of}
+use Rattle.rl_spec.specs.Schema.{limits, text_bytes_at, sections, count_of, sort_of, schema, fields_in, fields_of}
 use Rattle.rl_spec.specs.Fields.{lists_at}
 use Rattle.rl_spec.specs.Read.{counts_of, answer_of}
-use Rattle.rl_spec.specs.Image.{Rec, Image, records_of, record_of_lem, field_of, first, entry_of, encode_records, fields_at, record_in, end_at, sections_in, image_of, AllBytes, AllWithin}
+use Rattle.rl_spec.specs.Image.{Rec, Image, records_of, record_of, field_of, first, entry_of, encode_records, fields_at, record_in, end_at, sections_in, image_of, AllBytes, AllWithin}
 use Rattle.rl_images.specs.Reading.Rows.{last_at, sections_at}
 use Rattle.rl_images.specs.Reading.Whole.{CountsIn}
 use Rattle.rl_images.specs.Reading.ReadOutcome.{Reads, accepted_reads, accepted_header}
@@ -120,8 +120,8 @@ module _ (s : List ℕ) (bytes : AllBytes s) {p : List ℕ} (r : Reads s p) wher
   text_stands = split_stands s _ _ text_bytes_at r.header.inside (text_bytes_lem s bytes (counts_of s).bytes)
 
 -- a list entry is the number after its kind
-entry_is : (s : List ℕ) (im : Image) (k at : ℕ) → get_or s at 0 ≡ 3 → record_in s at ≡ record_of_lem im Lists k → u16_at s (at + 1) ≡ entry_of im k
-unfolding record_in fields_at fields_of fields_in_lem schema sort_of
+entry_is : (s : List ℕ) (im : Image) (k at : ℕ) → get_or s at 0 ≡ 3 → record_in s at ≡ record_of im Lists k → u16_at s (at + 1) ≡ entry_of im k
+unfolding record_in fields_at fields_of fields_in schema sort_of
 entry_is s im k at d e =
     let f : u16_at s (at + 1) ≡ first (field_of (record_in s at) 0) = rw d (u16_number s (at + 1)) in
     f ∙ ap (λ (x : Rec). first (field_of x 0)) e

@@ -30,7 +30,7 @@ use Rattle.rl_spec.specs.Bytes.{num_at, u16_at, u32_at, past}
 use Rattle.rl_spec.specs.Schema.{text_bytes_at, count_of, in_section, tallest, operand_sort, sort_of, width_of, fields_of}
 use Rattle.rl_spec.specs.Utf8.{utf8, is_scalar}
 use Rattle.rl_spec.specs.Fields.{zeros, allowed, entry_at, range_of, part_of, byte_in, operand_sort_of, checked, height_step, refer_to, refer_or_none, entries_from, list_of, operand_of, value_of, field_at, fields_from, record_at}
-use Rattle.rl_spec.specs.Image.{Field, num, pair, Rec, Image, order_of, size_of, first, encode_record, entry_of, is_pair, field_in_lem, fields_at, record_in, tallest_child, heights, Refers, Entries, OperandFits, SortFits, FieldFits, a_raw, a_byte, a_scalar, a_part, a_reference, an_option, a_list, a_range, a_sort, an_operand, FieldsFit, no_fields, ◌&◌, RecordFits, AllBytes}
+use Rattle.rl_spec.specs.Image.{Field, num, pair, Rec, Image, order_of, size_of, first, encode_record, entry_of, is_pair, field_in, fields_at, record_in, tallest_child, heights, Refers, Entries, OperandFits, SortFits, FieldFits, a_raw, a_byte, a_scalar, a_part, a_reference, an_option, a_list, a_range, a_sort, an_operand, FieldsFit, no_fields, ◌&◌, RecordFits, AllBytes}
 use Rattle.rl_images.specs.Encoding.BytesAt.{BytesAt, piece, byte_number, u16_number, u32_number}
 use Rattle.rl_images.specs.Images.SchemaSorts.{refers, suits, is_narrow, all_suit, in_turn, and_left, and_right, schema_suits, schema_turns}
 use Rattle.rl_images.specs.Encoding.FieldWidths.{Bounded, all_sized, fields_stand}
@@ -110,7 +110,7 @@ module _ (s : List ℕ) where
       omega arith
 
   -- a field of one byte holds that byte
-  narrow_byte : (k : Sort) (at : ℕ) → is_narrow k ≡ true → get_or s (at + width_of k - 1) 0 ≡ first (field_in_lem s k at)
+  narrow_byte : (k : Sort) (at : ℕ) → is_narrow k ≡ true → get_or s (at + width_of k - 1) 0 ≡ first (field_in s k at)
   narrow_byte k at n = go (is_pair k) refl
     where
       e : width_of k ≡ 1
@@ -187,7 +187,7 @@ module _ (im : Image) (s w p : List ℕ) (bytes : AllBytes s) (seen : Counts) (o
 
   -- ---- a field; `before` is the byte before an operand's sort and before an operand
 
-  value_fits : (narrow sorted : Bool) (before at tall x : ℕ) (k : Sort) → suits o narrow k ≡ true → is_narrow k || suits o sorted k ≡ true → (narrow ≡ true → get_or s (at - 1) 0 ≡ before) → (sorted ≡ true → before ≤ 4) → value_of s w p seen o k at tall ≡ Holds x → FieldFits im o i before k (field_in_lem s k at)
+  value_fits : (narrow sorted : Bool) (before at tall x : ℕ) (k : Sort) → suits o narrow k ≡ true → is_narrow k || suits o sorted k ≡ true → (narrow ≡ true → get_or s (at - 1) 0 ≡ before) → (sorted ≡ true → before ≤ 4) → value_of s w p seen o k at tall ≡ Holds x → FieldFits im o i before k (field_in s k at)
   unfolding value_of
   value_fits narrow sorted before at tall x (Raw n) u v b m e = a_raw (number_below s bytes n at)
   value_fits narrow sorted before at tall x (Byte low high) u v b m e = let d = byte_fits low high (get_or s at 0) tall x e in rw (← byte_number s at) (a_byte d.0 d.1)
@@ -217,7 +217,7 @@ module _ (im : Image) (s w p : List ℕ) (bytes : AllBytes s) (seen : Counts) (o
       let q = checked_next (field_at s w p seen o k at tall) at a x (λ t. fields_from s w p seen o cs (at + width_of k) t) e in
       let value = (holds_false (past s at (width_of k)) (value_of s w p seen o k at tall) BytesEnd q.0 q.1).1 in
       let f = value_fits narrow sorted before at tall q.0 k (and_left (suits o narrow k) (all_suit o (is_narrow k) cs) u) (and_left (is_narrow k || suits o sorted k) (in_turn o (eqb c operand_sort) cs) v) b m value in
-      let rest = fields_fit (is_narrow k) (eqb c operand_sort) (first (field_in_lem s k at)) (at + width_of k) q.0 a x cs (and_right (suits o narrow k) (all_suit o (is_narrow k) cs) u) (and_right (is_narrow k || suits o sorted k) (in_turn o (eqb c operand_sort) cs) v) (narrow_byte s k at) (sorted_most c f) q.2 in
+      let rest = fields_fit (is_narrow k) (eqb c operand_sort) (first (field_in s k at)) (at + width_of k) q.0 a x cs (and_right (suits o narrow k) (all_suit o (is_narrow k) cs) u) (and_right (is_narrow k || suits o sorted k) (in_turn o (eqb c operand_sort) cs) v) (narrow_byte s k at) (sorted_most c f) q.2 in
       f & rest
 
   -- ---- the record, h being the heights of the section's earlier ones

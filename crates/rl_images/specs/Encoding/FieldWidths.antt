@@ -14,7 +14,7 @@ use Rattle.rl_spec.specs.declared.Target.{Target}
 use Rattle.rl_spec.specs.declared.Sort.{Sort}
 use Rattle.rl_spec.specs.Bytes.{u16_at}
 use Rattle.rl_spec.specs.Schema.{sort_of, width_of, fields_of}
-use Rattle.rl_spec.specs.Image.{Field, num, pair, Rec, Image, size_of, section_of, same_section, bytes_of, encode_field, encode_fields, encode_record, encode_records, is_pair, field_in_lem, fields_at, widths_of, record_in, next_at, records_in, end_at, Refers, OperandFits, SortFits, FieldFits, a_raw, a_byte, a_scalar, a_part, a_reference, an_option, a_list, a_range, a_sort, an_operand, FieldsFit, no_fields, ◌&◌, RecordFits}
+use Rattle.rl_spec.specs.Image.{Field, num, pair, Rec, Image, size_of, section_of, same_section, bytes_of, encode_field, encode_fields, encode_record, encode_records, is_pair, field_in, fields_at, widths_of, record_in, next_at, records_in, end_at, Refers, OperandFits, SortFits, FieldFits, a_raw, a_byte, a_scalar, a_part, a_reference, an_option, a_list, a_range, a_sort, an_operand, FieldsFit, no_fields, ◌&◌, RecordFits}
 use Rattle.rl_images.specs.Reading.Utf8.{scalar_cases}
 use Rattle.rl_images.specs.Encoding.BytesAt.{BytesAt, left, right, head, tail, moved, length_bytes, number, u16_number}
 use Rattle.rl_images.specs.Images.SchemaSorts.{suits, is_narrow, all_suit, and_left, and_right, schema_suits}
@@ -45,7 +45,7 @@ module _ {s : List ℕ} {at : ℕ} where
   pub second_stands : (a b : ℕ) → b < 65536 → BytesAt s at (bytes_of 2 a ++ bytes_of 2 b) → u16_at s (at + 2) ≡ b
   second_stands a b p st = u16_stands b p (rw length_bytes at (right (bytes_of 2 a) (bytes_of 2 b) st))
 
-  field_in_lem : (k : Sort) (f : Field) → Sized k f → BytesAt s at (encode_field k f) → field_in_lem s k at ≡ f
+  field_in_lem : (k : Sort) (f : Field) → Sized k f → BytesAt s at (encode_field k f) → field_in s k at ≡ f
   field_in_lem k (num x) z st = rw (z.0, number (width_of k) x z.1 st)
   field_in_lem k (pair a b) z st = rw (z.0, first_stands a b z.2 st, second_stands a b z.3 st)
 

@@ -4,7 +4,7 @@ use Prim.Native.Nat.{ℕ, zero, suc, ◌+◌, ◌*◌, ◌≤◌, ◌<◌}
 use Rattle.std.specs.Prelude.{◌≡◌, Bool, true, ◌&&◌, leb, get_or, drop}
 use Rattle.std.proofs.Math.Path.{refl}
 use Rattle.std.proofs.Common.{sym, ap, ◌∙◌, lit<, length-append}
-use mathlib.Core.List.{List, [], ◌∷◌, ◌++◌, append_assoc, append_nil, map}
+use mathlib.Core.List.{List, [], ◌∷◌, ◌++◌, append_assoc, append-nil, map}
 use native.Mathlib.Omega.{arith}
 use Rattle.std.proofs.Math.ListN.{length, get_or-map}
 use Rattle.std.proofs.lemmas.List.{length-map}
@@ -131,7 +131,7 @@ module _ (im : Image) (wf : WellFormed im) where
   parts = rw counts_twos (regroup (1 ∷ bytes_of 4 im.arena) (bytes_of 2 (length im.bytes)) (twos (map length im.records)) im.bytes (encode_sections im.records))
 
   whole_stands : BytesAt (encode im) 0 (1 ∷ bytes_of 4 im.arena ++ (twos (numbers im) ++ (im.bytes ++ encode_sections im.records)))
-  whole_stands = record { before = []; rest = []; whole = parts ∙ sym (append_nil _); place = refl }
+  whole_stands = record { before = []; rest = []; whole = parts ∙ sym (append-nil _); place = refl }
 
   after_kind : BytesAt (encode im) 1 (bytes_of 4 im.arena ++ (twos (numbers im) ++ (im.bytes ++ encode_sections im.records)))
   after_kind = tail whole_stands

@@ -18,7 +18,7 @@ use Rattle.rl_spec.specs.Bytes.{u16_at}
 use Rattle.rl_spec.specs.Schema.{text_bytes_at, count_of}
 use Rattle.rl_spec.specs.Fields.{takes, within, lists_at, kind_of_statement, allowed, child_height, entry_at}
 use Rattle.rl_spec.specs.Read.{seen_by}
-use Rattle.rl_spec.specs.Image.{Image, order_of, records_of, size_of, record_of_lem, encode_records, entry_of, section_of, same_section, height_of, Refers}
+use Rattle.rl_spec.specs.Image.{Image, order_of, records_of, size_of, record_of, encode_records, entry_of, section_of, same_section, height_of, Refers}
 use Rattle.rl_images.specs.Encoding.BytesAt.{BytesAt}
 use Rattle.rl_images.specs.Images.SchemaSorts.{refers}
 use Rattle.rl_images.specs.Encoding.FieldChecks.{Ready}
@@ -57,7 +57,7 @@ pub record Placed (im : Image) (s : List ℕ) : Type 0 where
 -- p says where the statements start
 abbrev pub Told : Image → List ℕ → List ℕ → Type 0
 Told im s p =
-    (n : ℕ) → n < size_of im Statements → get_or s (get_or p (size_of im Expressions + n) 0) 0 ≡ (record_of_lem im Statements n).kind
+    (n : ℕ) → n < size_of im Statements → get_or s (get_or p (size_of im Expressions + n) 0) 0 ≡ (record_of im Statements n).kind
 
 -- what is kept is found again
 get_or_sets : (w : List ℕ) (a : ℕ) (xs : List ℕ) (n : ℕ) → a + length xs ≤ length w → n < length xs → get_or (sets w a xs) (a + n) 0 ≡ get_or xs n 0
@@ -81,19 +81,19 @@ takes_by Branch a b e f = rw (e refl) at f
 takes_by ElseBranch a b e f = rw (e refl) at f
 takes_by Arm a b e f = rw (e refl) at f
 
-module _ (im : Image) (s p : List ℕ) (seen : Counts) (t : Target) (n : ℕ) (kinds : order_of (section_of t) ≡ 3 → n < within seen t → kind_of_statement s p seen n ≡ (record_of_lem im Statements n).kind) where
-  found_below : n < within seen t → takes t (record_of_lem im Statements n).kind ≡ true → allowed s p seen t n ≡ true
+module _ (im : Image) (s p : List ℕ) (seen : Counts) (t : Target) (n : ℕ) (kinds : order_of (section_of t) ≡ 3 → n < within seen t → kind_of_statement s p seen n ≡ (record_of im Statements n).kind) where
+  found_below : n < within seen t → takes t (record_of im Statements n).kind ≡ true → allowed s p seen t n ≡ true
   unfolding allowed
-  found_below q f = rw (lt-ltb n (within seen t) q) (takes_by t (record_of_lem im Statements n).kind (kind_of_statement s p seen n) (λ e. sym (kinds e q)) f)
+  found_below q f = rw (lt-ltb n (within seen t) q) (takes_by t (record_of im Statements n).kind (kind_of_statement s p seen n) (λ e. sym (kinds e q)) f)
 
-  below_found : allowed s p seen t n ≡ true → (n < within seen t) × (takes t (record_of_lem im Statements n).kind ≡ true)
+  below_found : allowed s p seen t n ≡ true → (n < within seen t) × (takes t (record_of im Statements n).kind ≡ true)
   unfolding allowed
   below_found f = go (ltb n (within seen t)) refl f
     where
-      go : (b : Bool) → ltb n (within seen t) ≡ b → cond b (takes t (kind_of_statement s p seen n)) false ≡ true → (n < within seen t) × (takes t (record_of_lem im Statements n).kind ≡ true)
+      go : (b : Bool) → ltb n (within seen t) ≡ b → cond b (takes t (kind_of_statement s p seen n)) false ≡ true → (n < within seen t) × (takes t (record_of im Statements n).kind ≡ true)
       go true d f =
           let q : n < within seen t = ltb-true n (within seen t) d in
-          (q, takes_by t (kind_of_statement s p seen n) (record_of_lem im Statements n).kind (λ e. kinds e q) f)
+          (q, takes_by t (kind_of_statement s p seen n) (record_of im Statements n).kind (λ e. kinds e q) f)
       go false d f = absurd (false≢true f)
 
   -- what the i-th record of the section o may refer to
@@ -144,7 +144,7 @@ module _ (im : Image) (s : List ℕ) (placed : Placed im s) (w p : List ℕ) whe
     late above flat told =
         let other : (t : Target) → same_section o (section_of t) ≡ false = λ t. ne_eqb (order_of o) (order_of (section_of t)) (λ e. omega (arith, target_order t)) in
         let limit : (t : Target) → within (counts im) t ≡ cond (same_section o (section_of t)) i (size_of im (section_of t)) = λ t. rw (other t) (within_is im t) in
-        let kinds : (t : Target) (n : ℕ) → order_of (section_of t) ≡ 3 → n < within (counts im) t → kind_of_statement s p (counts im) n ≡ (record_of_lem im Statements n).kind = λ t n e q. told n (rw (within_is, e) at q) in
+        let kinds : (t : Target) (n : ℕ) → order_of (section_of t) ≡ 3 → n < within (counts im) t → kind_of_statement s p (counts im) n ≡ (record_of im Statements n).kind = λ t n e q. told n (rw (within_is, e) at q) in
         plain (λ t n u r. refers_found im s p (counts im) t n (kinds t n) o i (limit t) r)
         (λ t n u f. found_refers im s p (counts im) t n (kinds t n) o i (limit t) f)
         (λ t n u. rw (flat t n, other t))
@@ -184,7 +184,7 @@ module _ (im : Image) (s : List ℕ) (placed : Placed im s) (w p : List ℕ) whe
     limit_expression ElseBranch u = absurd (false≢true u)
     limit_expression Arm u = absurd (false≢true u)
 
-    no_statement : (t : Target) (n : ℕ) → refers Expressions t ≡ true → order_of (section_of t) ≡ 3 → n < within (seen_by (counts im) Expressions i) t → kind_of_statement s (sets p 0 q) (seen_by (counts im) Expressions i) n ≡ (record_of_lem im Statements n).kind
+    no_statement : (t : Target) (n : ℕ) → refers Expressions t ≡ true → order_of (section_of t) ≡ 3 → n < within (seen_by (counts im) Expressions i) t → kind_of_statement s (sets p 0 q) (seen_by (counts im) Expressions i) n ≡ (record_of im Statements n).kind
     no_statement t n u e d = absurd (false≢true (rw e at u))
 
     expression_child : (t : Target) (n : ℕ) → refers Expressions t ≡ true → Refers im Expressions i t n → child_height (sets w 0 h) (seen_by (counts im) Expressions i) Expressions t n ≡ height_of im Expressions h t n
@@ -212,7 +212,7 @@ module _ (im : Image) (s : List ℕ) (placed : Placed im s) (w p : List ℕ) whe
         }
 
   -- the statements, of which the earlier ones' starts are kept
-  module _ (room : size_of im Expressions + size_of im Statements ≤ length w) (roomy : size_of im Expressions + size_of im Statements ≤ length p) (i : ℕ) (h q : List ℕ) (l : i < size_of im Statements) (x : length h ≡ i) (y : length q ≡ i) (kinds : (n : ℕ) → n < i → get_or s (get_or q n 0) 0 ≡ (record_of_lem im Statements n).kind) where
+  module _ (room : size_of im Expressions + size_of im Statements ≤ length w) (roomy : size_of im Expressions + size_of im Statements ≤ length p) (i : ℕ) (h q : List ℕ) (l : i < size_of im Statements) (x : length h ≡ i) (y : length q ≡ i) (kinds : (n : ℕ) → n < i → get_or s (get_or q n 0) 0 ≡ (record_of im Statements n).kind) where
     limit_statement : (t : Target) → within (seen_by (counts im) Statements i) t ≡ cond (same_section Statements (section_of t)) i (size_of im (section_of t))
     limit_statement Text = refl
     limit_statement Expression = refl
@@ -221,7 +221,7 @@ module _ (im : Image) (s : List ℕ) (placed : Placed im s) (w p : List ℕ) whe
     limit_statement ElseBranch = refl
     limit_statement Arm = refl
 
-    starts_found : (t : Target) (n : ℕ) → order_of (section_of t) ≡ 3 → n < within (seen_by (counts im) Statements i) t → kind_of_statement s (sets p (size_of im Expressions) q) (seen_by (counts im) Statements i) n ≡ (record_of_lem im Statements n).kind
+    starts_found : (t : Target) (n : ℕ) → order_of (section_of t) ≡ 3 → n < within (seen_by (counts im) Statements i) t → kind_of_statement s (sets p (size_of im Expressions) q) (seen_by (counts im) Statements i) n ≡ (record_of im Statements n).kind
     unfolding kind_of_statement
     starts_found t n e d =
         let g : n < i = rw (limit_statement t, e) at d in

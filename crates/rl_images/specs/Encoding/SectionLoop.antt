@@ -4,7 +4,7 @@ use Prim.Native.Nat.{ℕ, zero, suc, ◌+◌, ◌≤◌, ◌<◌}
 use Rattle.std.specs.Prelude.{◌≡◌, get_or, set}
 use Rattle.std.proofs.Math.Path.{refl, ap}
 use Rattle.std.proofs.Common.{ap₂, ◌∙◌, add-one, drop-cons}
-use mathlib.Core.List.{List, [], ◌∷◌, ◌++◌, append_assoc, append_nil}
+use mathlib.Core.List.{List, [], ◌∷◌, ◌++◌, append_assoc, append-nil}
 use native.Mathlib.Omega.{arith}
 use Rattle.std.proofs.Math.ListN.{length, drop, length-append, get_or-append, drop_of_length-le}
 use Rattle.std.proofs.lemmas.List.{get_or_at}
@@ -17,7 +17,7 @@ use Rattle.rl_spec.specs.declared.Step.TheVariants.{Next, Stop}
 use Rattle.rl_spec.specs.Schema.{tallest, fields_of}
 use Rattle.rl_spec.specs.Fields.{record_at}
 use Rattle.rl_spec.specs.Read.{after, Out, good, bad, seen_by, keep, records_from}
-use Rattle.rl_spec.specs.Image.{Rec, Image, records_of, size_of, no_record, record_of_lem, encode_record, encode_records, record_in, next_at, records_in, tallest_child, heights_from, heights, RecordFits, AllBytes}
+use Rattle.rl_spec.specs.Image.{Rec, Image, records_of, size_of, no_record, record_of, encode_record, encode_records, record_in, next_at, records_in, tallest_child, heights_from, heights, RecordFits, AllBytes}
 use Rattle.rl_laws.specs.Tests.{by_ltb}
 use Rattle.rl_images.specs.Encoding.BytesAt.{BytesAt, left, right}
 use Rattle.rl_images.specs.Encoding.FieldWidths.{Bounded, record_sized, kind_stands, next_at_lem}
@@ -114,7 +114,7 @@ after_good (Stop c n) f m v q e = let z : ◌≡◌ {A = ℕ} 0 1 = cc in absurd
 abbrev pub AlwaysReady : Image → List ℕ → Counts → Section → List ℕ → List ℕ → Type 0
 AlwaysReady im s c o w p =
     (i : ℕ) (h q : List ℕ) → i < size_of im o → length h ≡ i → length q ≡ i
-    → ((n : ℕ) → n < i → get_or s (get_or q n 0) 0 ≡ (record_of_lem im o n).kind)
+    → ((n : ℕ) → n < i → get_or s (get_or q n 0) 0 ≡ (record_of im o n).kind)
     → Ready im s (keep_all c o h w) (keep_all c o q p) (seen_by c o i) o i h
 
 module _ (im : Image) (s : List ℕ) (c : Counts) (o : Section) (start : ℕ) (w p : List ℕ) where
@@ -131,7 +131,7 @@ module _ (im : Image) (s : List ℕ) (c : Counts) (o : Section) (start : ℕ) (w
   before_first whole = record { tall = refl; many = refl; heights_left = refl; starts_left = refl; stands = whole }
 
   module _ (bounded : Bounded im) (ready : AlwaysReady im s c o w p) (whole : BytesAt s start (encode_records (records_of im o))) where
-    earlier_kinds : (i : ℕ) (q rest : List ℕ) → i ≤ size_of im o → length q ≡ i → starts start (records_of im o) ≡ q ++ rest → (n : ℕ) → n < i → get_or s (get_or q n 0) 0 ≡ (record_of_lem im o n).kind
+    earlier_kinds : (i : ℕ) (q rest : List ℕ) → i ≤ size_of im o → length q ≡ i → starts start (records_of im o) ≡ q ++ rest → (n : ℕ) → n < i → get_or s (get_or q n 0) 0 ≡ (record_of im o n).kind
     earlier_kinds i q rest l e d n m =
         let z : get_or (starts start (records_of im o)) n 0 ≡ get_or q n 0 = rw d (get_or-append q rest 0 n (omega arith)) in
         rw z at (starts_kind (records_of im o) whole n (omega arith))
@@ -139,7 +139,7 @@ module _ (im : Image) (s : List ℕ) (c : Counts) (o : Section) (start : ℕ) (w
     -- at the i-th record
     module _ (i at : ℕ) (h q : List ℕ) (l : i < size_of im o) (b : Before i at h q) where
       abbrev here : Rec
-      here = record_of_lem im o i
+      here = record_of im o i
 
       abbrev later : List Rec
       later = drop (i + 1) (records_of im o)
@@ -183,7 +183,7 @@ module _ (im : Image) (s : List ℕ) (c : Counts) (o : Section) (start : ℕ) (w
           let step = record_good im bounded s (keep_all c o h w) (keep_all c o q p) (seen_by c o i) o i h (omega (arith, bounded.sizes o)) ready_here here f at (left (encode_record here) (encode_records later) here_stands) g in
           rw step (ap₂ (records_from s c o n (i + 1) (at + length (encode_record here))) (keep_last c o i h height_here w b.tall) (keep_last c o i q at p b.many))
 
-    module _ (fits : (i : ℕ) → i < size_of im o → RecordFits im o i (record_of_lem im o i)) where
+    module _ (fits : (i : ℕ) → i < size_of im o → RecordFits im o i (record_of im o i)) where
       loop : (n i at : ℕ) (h q : List ℕ) → i + n ≡ size_of im o → Before i at h q → records_from s c o n i at (keep_all c o h w) (keep_all c o q p) ≡ good (at + length (encode_records (drop i (records_of im o)))) (keep_all c o (heights im o) w) (keep_all c o (starts start (records_of im o)) p)
       unfolding records_from encode_records heights_from starts
       loop zero i at h q e b =
@@ -191,10 +191,10 @@ module _ (im : Image) (s : List ℕ) (c : Counts) (o : Section) (start : ℕ) (w
           let x : heights im o ≡ h = rw d at b.heights_left in
           let y : starts start (records_of im o) ≡ q ++ [] = rw d at b.starts_left in
           let a : at + 0 ≡ at = omega arith in
-          rw (d, x, y, append_nil, a)
+          rw (d, x, y, append-nil, a)
       loop (suc n) i at h q e b =
           let l : i < size_of im o = omega arith in
-          let a : ℕ = at + length (encode_record (record_of_lem im o i)) in
+          let a : ℕ = at + length (encode_record (record_of im o i)) in
           let z : a + length (encode_records (drop (i + 1) (records_of im o))) ≡ at + length (encode_records (drop i (records_of im o))) = rw (records_left i at h q l b, length-append) (omega arith) in
           records_step i at h q l b (fits i l) n ∙ loop n (i + 1) a _ _ (omega arith) (before_next i at h q l b)
           ∙ ap (λ (m : ℕ). good m (keep_all c o (heights im o) w) (keep_all c o (starts start (records_of im o)) p)) z
@@ -204,13 +204,13 @@ module _ (im : Image) (s : List ℕ) (c : Counts) (o : Section) (start : ℕ) (w
 
     module _ (bytes : AllBytes s) where
       -- at the i-th record, n being left: where reading ends well, those from there on fit
-      loop_fits : (n i at : ℕ) (h q : List ℕ) → i + n ≡ size_of im o → Before i at h q → records_in s n at ≡ drop i (records_of im o) → (m : ℕ) (v x : List ℕ) → records_from s c o n i at (keep_all c o h w) (keep_all c o q p) ≡ good m v x → (j : ℕ) → i ≤ j → j < size_of im o → RecordFits im o j (record_of_lem im o j)
+      loop_fits : (n i at : ℕ) (h q : List ℕ) → i + n ≡ size_of im o → Before i at h q → records_in s n at ≡ drop i (records_of im o) → (m : ℕ) (v x : List ℕ) → records_from s c o n i at (keep_all c o h w) (keep_all c o q p) ≡ good m v x → (j : ℕ) → i ≤ j → j < size_of im o → RecordFits im o j (record_of im o j)
       unfolding records_in records_from
       loop_fits zero i at h q e b f m v x g j y z = absurd (omega arith)
       loop_fits (suc n) i at h q e b f m v x g j y z =
           let l : i < size_of im o = omega arith in
           let short : i ≤ 4096 = omega (arith, bounded.sizes o) in
-          let r : Rec = record_of_lem im o i in
+          let r : Rec = record_of im o i in
           let d : record_in s at ∷ records_in s n (next_at s at) ≡ r ∷ drop (i + 1) (records_of im o) = f ∙ records_left i at h q l b in
           let found : record_in s at ≡ r = cc in
           let st = left (encode_record r) (encode_records (drop (i + 1) (records_of im o))) (here_stands i at h q l b) in
@@ -223,5 +223,5 @@ module _ (im : Image) (s : List ℕ) (c : Counts) (o : Section) (start : ℕ) (w
           let u : i ≡ j = omega arith in
           rw u at fits)
 
-      pub records_fit : records_in s (size_of im o) start ≡ records_of im o → (m : ℕ) (v x : List ℕ) → records_from s c o (size_of im o) 0 start w p ≡ good m v x → (i : ℕ) → i < size_of im o → RecordFits im o i (record_of_lem im o i)
+      pub records_fit : records_in s (size_of im o) start ≡ records_of im o → (m : ℕ) (v x : List ℕ) → records_from s c o (size_of im o) 0 start w p ≡ good m v x → (i : ℕ) → i < size_of im o → RecordFits im o i (record_of im o i)
       records_fit f m v x g i l = loop_fits (size_of im o) 0 start [] [] (omega arith) (before_first whole) f m v x (rw (keep_none c o w, keep_none c o p) g) i (omega arith) l

@@ -10,10 +10,10 @@ use Rattle.std.proofs.Math.Seq.{sets, length-sets}
 use Rattle.rl_spec.specs.declared.Section.{Section}
 use Rattle.rl_spec.specs.declared.Section.TheVariants.{Texts, Lists, Expressions, Statements, Parameters, Clauses, Functions, Calls}
 use Rattle.rl_spec.specs.Bytes.{u16_at}
-use Rattle.rl_spec.specs.Schema.{text_bytes_at, sections, lowest, highest, sort_of, fields_of, fields_in_lem, schema}
+use Rattle.rl_spec.specs.Schema.{text_bytes_at, sections, lowest, highest, sort_of, fields_of, fields_in, schema}
 use Rattle.rl_spec.specs.Fields.{lists_at}
 use Rattle.rl_spec.specs.Read.{good, sections_from}
-use Rattle.rl_spec.specs.Image.{Field, Rec, Image, order_of, records_of, size_of, no_field, no_record, record_of_lem, first, entry_of, encode_record, encode_records, encode_sections, encode, fields_at, widths_of, sections_in, heights, WellFormed}
+use Rattle.rl_spec.specs.Image.{Field, Rec, Image, order_of, records_of, size_of, no_field, no_record, record_of, first, entry_of, encode_record, encode_records, encode_sections, encode, fields_at, widths_of, sections_in, heights, WellFormed}
 use Rattle.rl_images.specs.Encoding.BytesAt.{BytesAt, left, right, moved, u16_number}
 use Rattle.rl_images.specs.Images.SchemaSorts.{kind_range}
 use Rattle.rl_images.specs.Encoding.FieldWidths.{SizedRecord, AllSizedRecords, record_sized, length_record, fields_in_lem, fields_stand, records_in_lem, end_at_lem, length_records, nth_stands}
@@ -48,8 +48,8 @@ abbrev pub starts_in : Image → Section → List ℕ
 starts_in im o = starts (place_of im o) (records_of im o)
 
 module _ (im : Image) (wf : WellFormed im) where
-  pub sized_at : (o : Section) (i : ℕ) → i < size_of im o → SizedRecord (record_of_lem im o i)
-  sized_at o i l = record_sized im (bounded im wf.counts) o i (omega (arith, (bounded im wf.counts).sizes o)) (record_of_lem im o i) (wf.fits o i l)
+  pub sized_at : (o : Section) (i : ℕ) → i < size_of im o → SizedRecord (record_of im o i)
+  sized_at o i l = record_sized im (bounded im wf.counts) o i (omega (arith, (bounded im wf.counts).sizes o)) (record_of im o i) (wf.fits o i l)
 
   section_sized : (o : Section) → AllSizedRecords (records_of im o)
   section_sized o = all_sized (records_of im o) (sized_at o)
@@ -58,11 +58,11 @@ module _ (im : Image) (wf : WellFormed im) where
 
   -- the records of a section of one kind
   module _ (o : Section) (e : lowest o ≡ highest o) (i : ℕ) (l : i < size_of im o) where
-    pub kind_at : (record_of_lem im o i).kind ≡ lowest o
-    kind_at = omega (arith, kind_range o (record_of_lem im o i).kind (wf.fits o i l).kind)
+    pub kind_at : (record_of im o i).kind ≡ lowest o
+    kind_at = omega (arith, kind_range o (record_of im o i).kind (wf.fits o i l).kind)
 
-    pub length_at : length (encode_record (record_of_lem im o i)) ≡ suc (widths_of (fields_of (lowest o)))
-    length_at = rw (length_record (record_of_lem im o i) (sized_at o i l), kind_at)
+    pub length_at : length (encode_record (record_of im o i)) ≡ suc (widths_of (fields_of (lowest o)))
+    length_at = rw (length_record (record_of im o i) (sized_at o i l), kind_at)
 
   -- the sections from one on
   rest_stands : (o : Section) (os : List Section) (at : ℕ) → BytesAt (encode im) at (encode_sections (map (records_of im) (o ∷ os))) → BytesAt (encode im) at (encode_records (records_of im o))
@@ -77,7 +77,7 @@ module _ (im : Image) (wf : WellFormed im) where
   all_stand = subst (λ (rss : List (List Rec)). BytesAt (encode im) (text_bytes_at + length im.bytes) (encode_sections rss)) (records_are im wf) (sections_stand im wf)
 
   lists_stand : BytesAt (encode im) (lists_at (counts im)) (encode_records (records_of im Lists))
-  unfolding sections widths_of fields_of fields_in_lem schema sort_of
+  unfolding sections widths_of fields_of fields_in schema sort_of
   lists_stand =
       let os : List Section = Expressions ∷ Statements ∷ Parameters ∷ Clauses ∷ Functions ∷ Calls ∷ [] in
       let st = rest_stands Lists os _ (next_stands Texts (Lists ∷ os) (text_bytes_at + length im.bytes) all_stand) in
@@ -85,10 +85,10 @@ module _ (im : Image) (wf : WellFormed im) where
       moved st (lists_at (counts im)) (ap (λ (n : ℕ). text_bytes_at + length im.bytes + n) e)
 
   entry_stands : (k : ℕ) → k < size_of im Lists → u16_at (encode im) (lists_at (counts im) + k * 3 + 1) ≡ entry_of im k
-  unfolding widths_of fields_of fields_in_lem schema sort_of fields_at
+  unfolding widths_of fields_of fields_in schema sort_of fields_at
   entry_stands k l =
       let at : ℕ = lists_at (counts im) + k * 3 in
-      let r : Rec = record_of_lem im Lists k in
+      let r : Rec = record_of im Lists k in
       let st : BytesAt (encode im) at (encode_record r) = nth_stands 3 no_record (records_of im Lists) (length_at Lists refl) lists_stand k l in
       let e = fields_in_lem (fields_of r.kind) r.fields (sized_at Lists k l) (fields_stand r st) in
       let d : fields_at (encode im) (fields_of 3) (at + 1) ≡ r.fields = subst (λ (j : ℕ). fields_at (encode im) (fields_of j) (at + 1) ≡ r.fields) (kind_at Lists refl k l) e in

@@ -6,8 +6,8 @@ use Rattle.std.proofs.Common.{sym, subst, arith}
 use Rattle.std.proofs.Math.Logic.{inl, inr}
 use Rattle.rl_spec.specs.declared.Section.TheVariants.{Texts, Lists, Expressions, Parameters, Clauses, Functions}
 use Rattle.rl_spec.specs.declared.Target.TheVariants.{Statement}
-use Rattle.rl_spec.specs.Schema.{schema, sort_of, fields_in_lem, fields_of}
-use Rattle.rl_spec.specs.Image.{Field, Rec, Image, size_of, record_of_lem, field_of, first, second, Entries, OperandFits, SortFits, a_raw, a_byte, a_reference, an_option, a_list, a_range, a_sort, an_operand, FieldsFit, no_fields, ◌&◌, RecordFits, WellFormed}
+use Rattle.rl_spec.specs.Schema.{schema, sort_of, fields_in, fields_of}
+use Rattle.rl_spec.specs.Image.{Field, Rec, Image, size_of, record_of, field_of, first, second, Entries, OperandFits, SortFits, a_raw, a_byte, a_reference, an_option, a_list, a_range, a_sort, an_operand, FieldsFit, no_fields, ◌&◌, RecordFits, WellFormed}
 use Rattle.rl_spec.specs.Tree.{number}
 use Rattle.rl_spec.specs.Records.{param_at}
 use Rattle.rl_spec.specs.Make.{made}
@@ -20,7 +20,7 @@ ClauseFits im r = (number r 0 < size_of im Expressions) × ((number r 1 ≡ 6553
 
 module _ {im : Image} {i : ℕ} where
   clause_view : {fs : List Field} → FieldsFit im Clauses i 0 (map sort_of (fields_of 81)) fs → ClauseFits im (made 81 fs)
-  unfolding fields_of fields_in_lem schema sort_of
+  unfolding fields_of fields_in schema sort_of
   clause_view (a_reference r & an_option (inl q) & no_fields) = (r.earlier, inl q)
   clause_view (a_reference r & an_option (inr s) & no_fields) = (r.earlier, inr s.earlier)
 
@@ -38,7 +38,7 @@ pub record ParameterFits (im : Image) (r : Rec) : Type 0 where
 
 module _ {im : Image} {i : ℕ} where
   parameter_view : {fs : List Field} → FieldsFit im Parameters i 0 (map sort_of (fields_of 80)) fs → ParameterFits im (made 80 fs)
-  unfolding fields_of fields_in_lem schema sort_of
+  unfolding fields_of fields_in schema sort_of
   parameter_view (a_reference r & a_raw w & a_byte l h & a_sort s & an_operand o & no_fields) = record { name = r.earlier; sort = s; operand = o }
 
   pub parameter_says : (r : Rec) → RecordFits im Parameters i r → ParameterFits im r
@@ -60,7 +60,7 @@ pub record FunctionFits (im : Image) (f : ℕ) (r : Rec) : Type 0 where
 
 module _ {im : Image} {f : ℕ} where
   function_view : {fs : List Field} → FieldsFit im Functions f 0 (map sort_of (fields_of 82)) fs → FunctionFits im f (made 82 fs)
-  unfolding fields_of fields_in_lem schema sort_of
+  unfolding fields_of fields_in schema sort_of
   function_view (a_reference t & a_raw w & a_range p & a_byte l h & a_list b m e & a_range r & a_range s & no_fields) =
       record { name = t.earlier; span = w; params = p; inside = b; entries = e; required = r; ensured = s; long = refl }
 
@@ -72,15 +72,15 @@ module _ {im : Image} {f : ℕ} where
 -- ---- those of a well-formed image
 
 module _ (im : Image) (wf : WellFormed im) where
-  pub clause_fits : (i : ℕ) → i < size_of im Clauses → ClauseFits im (record_of_lem im Clauses i)
-  clause_fits i h = clause_says (record_of_lem im Clauses i) (wf.fits Clauses i h)
+  pub clause_fits : (i : ℕ) → i < size_of im Clauses → ClauseFits im (record_of im Clauses i)
+  clause_fits i h = clause_says (record_of im Clauses i) (wf.fits Clauses i h)
 
-  pub parameter_fits : (i : ℕ) → i < size_of im Parameters → ParameterFits im (record_of_lem im Parameters i)
-  parameter_fits i h = parameter_says (record_of_lem im Parameters i) (wf.fits Parameters i h)
+  pub parameter_fits : (i : ℕ) → i < size_of im Parameters → ParameterFits im (record_of im Parameters i)
+  parameter_fits i h = parameter_says (record_of im Parameters i) (wf.fits Parameters i h)
 
   pub name_inside : (i : ℕ) → i < size_of im Parameters → (param_at im i).name < size_of im Texts
   unfolding param_at
   name_inside i h = (parameter_fits i h).name
 
-  pub function_fits : (f : ℕ) → f < size_of im Functions → FunctionFits im f (record_of_lem im Functions f)
-  function_fits f h = function_says (record_of_lem im Functions f) (wf.fits Functions f h)
+  pub function_fits : (f : ℕ) → f < size_of im Functions → FunctionFits im f (record_of im Functions f)
+  function_fits f h = function_says (record_of im Functions f) (wf.fits Functions f h)

@@ -17,9 +17,9 @@ use Rattle.rl_spec.specs.declared.Form.TheVariants.{IsErr, ResultUnwrap, Other}
 use Rattle.rl_spec.specs.declared.Section.{Section}
 use Rattle.rl_spec.specs.declared.Section.TheVariants.{Expressions}
 use Rattle.rl_spec.specs.declared.Target.TheVariants.{Expression}
-use Rattle.rl_spec.specs.Schema.{sort_of, fields_of, fields_in_lem, schema}
+use Rattle.rl_spec.specs.Schema.{sort_of, fields_of, fields_in, schema}
 use Rattle.rl_spec.specs.Read.{answer_of, starts_of}
-use Rattle.rl_spec.specs.Image.{Field, no_field, Rec, Image, records_of, size_of, no_record, record_of_lem, field_of, first, second, entry_of, tallest_entry, tallest_child, heights_from, heights, image_of, Entries, a_raw, a_byte, a_reference, a_list, FieldsFit, no_fields, ◌&◌, AllBytes, WellFormed}
+use Rattle.rl_spec.specs.Image.{Field, no_field, Rec, Image, records_of, size_of, no_record, record_of, field_of, first, second, entry_of, tallest_entry, tallest_child, heights_from, heights, image_of, Entries, a_raw, a_byte, a_reference, a_list, FieldsFit, no_fields, ◌&◌, AllBytes, WellFormed}
 use Rattle.rl_spec.specs.Found.{image_found}
 use Rattle.rl_spec.specs.Tree.{Expr, other, ascii, number, is_res_path, below, call_form, form_by, tree_by, expr_tree}
 use Rattle.rl_laws.specs.Tests.{by_ltb}
@@ -54,7 +54,7 @@ module _ (im : Image) (o : Section) where
       }
   next_from (r ∷ rs) h (suc j) i e p = next_from rs (h ++ (tallest_of h r + 1) ∷ []) j i (rw length-append (omega arith)) (omega arith)
 
-  pub next_at_lem : (i : ℕ) → i < size_of im o → Next (heights im o) i (record_of_lem im o i)
+  pub next_at_lem : (i : ℕ) → i < size_of im o → Next (heights im o) i (record_of im o i)
   unfolding heights
   next_at_lem i p = next_from (records_of im o) [] i i (omega arith) p
 
@@ -69,33 +69,33 @@ module _ (im : Image) (i : ℕ) (h : List ℕ) (t : ℕ → Expr ℕ) (low : (n 
   Under k fs n = expr_height (t n) ≤ tallest_child im Expressions h (fields_of k) fs
 
   binary_low : {fs : List Field} → Fit 32 fs → Under 32 fs (first (get_or fs 1 no_field)) × Under 32 fs (first (get_or fs 3 no_field))
-  unfolding fields_of fields_in_lem schema sort_of tallest_child
+  unfolding fields_of fields_in schema sort_of tallest_child
   binary_low (a_raw w & a_reference {x = m} p & a_byte l u & a_reference {x = n} q & no_fields) =
       (omega (arith, low m p.earlier), omega (arith, low n q.earlier))
 
   unary_low : {fs : List Field} → Fit 33 fs → Under 33 fs (first (get_or fs 2 no_field))
-  unfolding fields_of fields_in_lem schema sort_of tallest_child
+  unfolding fields_of fields_in schema sort_of tallest_child
   unary_low (a_raw w & a_byte l u & a_reference {x = n} p & no_fields) = omega (arith, low n p.earlier)
 
   grouping_low : {fs : List Field} → Fit 34 fs → Under 34 fs (first (get_or fs 1 no_field))
-  unfolding fields_of fields_in_lem schema sort_of tallest_child
+  unfolding fields_of fields_in schema sort_of tallest_child
   grouping_low (a_raw w & a_reference {x = n} p & no_fields) = omega (arith, low n p.earlier)
 
   assign_low : {fs : List Field} → Fit 39 fs → Under 39 fs (first (get_or fs 2 no_field))
-  unfolding fields_of fields_in_lem schema sort_of tallest_child
+  unfolding fields_of fields_in schema sort_of tallest_child
   assign_low (a_raw w & a_reference r & a_reference {x = n} p & no_fields) = omega (arith, low n p.earlier)
 
   ok_low : {fs : List Field} → Fit 49 fs → Under 49 fs (first (get_or fs 1 no_field))
-  unfolding fields_of fields_in_lem schema sort_of tallest_child
+  unfolding fields_of fields_in schema sort_of tallest_child
   ok_low (a_raw w & a_reference {x = n} p & no_fields) = omega (arith, low n p.earlier)
 
   err_low : {fs : List Field} → Fit 50 fs → Under 50 fs (first (get_or fs 1 no_field))
-  unfolding fields_of fields_in_lem schema sort_of tallest_child
+  unfolding fields_of fields_in schema sort_of tallest_child
   err_low (a_raw w & a_reference {x = n} p & no_fields) = omega (arith, low n p.earlier)
 
   -- the argument of a call that has one
   argument_low : {fs : List Field} → Fit 41 fs → second (get_or fs 2 no_field) ≡ 1 → Under 41 fs (entry_of im (first (get_or fs 2 no_field)))
-  unfolding fields_of fields_in_lem schema sort_of tallest_child tallest_entry
+  unfolding fields_of fields_in schema sort_of tallest_child tallest_entry
   argument_low (a_raw w & a_list l m ts & a_list {a = a} p q es & no_fields) d =
       let e : Entries im Expressions i 1 a Expression Expression = rw d at es in
       rw d (omega (arith, low (entry_of im a) e.0.earlier))
@@ -164,13 +164,13 @@ module _ (im : Image) (wf : WellFormed im) where
   trees_tall zero i p l = absurd (omega arith)
   trees_tall (suc n) i p l =
       let next = next_at_lem im Expressions i l in
-      let q = form_low im i next.earlier (below i (λ _. other) (expr_tree im)) (λ m z. rw (below_earlier im i m z, ← next.same m z) (trees_tall n m (omega arith) (omega arith))) (record_of_lem im Expressions i) (wf.fits Expressions i l).fields in
+      let q = form_low im i next.earlier (below i (λ _. other) (expr_tree im)) (λ m z. rw (below_earlier im i m z, ← next.same m z) (trees_tall n m (omega arith) (omega arith))) (record_of im Expressions i) (wf.fits Expressions i l).fields in
       rw (tree_is im i, next.here) q.low_is
 
   tree_missing : (i : ℕ) → size_of im Expressions ≤ i → expr_tree im i ≡ other
   unfolding form_by
   tree_missing i l =
-      let e : record_of_lem im Expressions i ≡ no_record = get_or-eq_default (records_of im Expressions) no_record l in
+      let e : record_of im Expressions i ≡ no_record = get_or-eq_default (records_of im Expressions) no_record l in
       tree_is im i ∙ ap (λ (r : Rec). tree_by im (form_by im r) (below i (λ _. other) (expr_tree im))) e
 
   -- THEOREM: no tree is taller than an expression may be

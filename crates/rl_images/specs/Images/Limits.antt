@@ -7,7 +7,7 @@ use Rattle.rl_laws.specs.Tests.{by_ltb}
 use Rattle.rl_spec.specs.declared.Section.{Section}
 use Rattle.rl_spec.specs.declared.Section.TheVariants.{Texts, Parameters, Clauses, Functions}
 use Rattle.rl_spec.specs.Schema.{limits}
-use Rattle.rl_spec.specs.Image.{Rec, Image, order_of, records_of, size_of, no_record, record_of_lem, field_of, second, AllBytes, AllWithin, WellFormed}
+use Rattle.rl_spec.specs.Image.{Rec, Image, order_of, records_of, size_of, no_record, record_of, field_of, second, AllBytes, AllWithin, WellFormed}
 use Rattle.rl_spec.specs.Records.{function_at}
 use Rattle.rl_images.specs.Images.FunctionFields.{function_fits}
 
@@ -33,12 +33,12 @@ size_within im wf o =
 
 module _ (im : Image) (wf : WellFormed im) where
   -- the ranges of a function that is missing are empty
-  range_within : (j most f : ℕ) → (f < size_of im Functions → second (field_of (record_of_lem im Functions f) j) ≤ most) →
-      second (field_of (record_of_lem im Functions f) j) ≤ most
+  range_within : (j most f : ℕ) → (f < size_of im Functions → second (field_of (record_of im Functions f) j) ≤ most) →
+      second (field_of (record_of im Functions f) j) ≤ most
   range_within j most f h =
       by_ltb f (size_of im Functions) h
       (λ l.
-      let e : record_of_lem im Functions f ≡ no_record = get_or-eq_default (records_of im Functions) no_record l in
+      let e : record_of im Functions f ≡ no_record = get_or-eq_default (records_of im Functions) no_record l in
       subst (λ (r : Rec). second (field_of r j) ≤ most) (sym e) (omega arith))
 
   -- THEOREMS: there are at most 2,048 texts, and a function has at most 256 parameters and 256 requires

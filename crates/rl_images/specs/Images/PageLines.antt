@@ -4,7 +4,7 @@ use Prim.Native.Nat.{ℕ, zero, suc, ◌+◌, ◌-◌, ◌*◌, ◌≤◌, ◌<�
 use Rattle.std.specs.Prelude.{◌≡◌, get_or, take, drop}
 use Rattle.std.proofs.Math.Path.{refl, ap}
 use Rattle.std.proofs.Common.{sym, ◌∙◌, add-one, le-leb}
-use mathlib.Core.List.{List, [], ◌∷◌, ◌++◌, map, append_assoc, append_nil, map-append}
+use mathlib.Core.List.{List, [], ◌∷◌, ◌++◌, map, append_assoc, append-nil, map-append}
 use Rattle.std.proofs.Math.Option.{some}
 use native.Mathlib.Omega.{arith}
 use Rattle.std.proofs.Math.ListN.{length, length-append, length-map, length-take}
@@ -125,4 +125,4 @@ module _ (im : Image) where
       ap (λ (l : List ℕ). joined (map (report_lines im) l)) up
       ∙ ap joined (map-append (report_lines im) (up_from 0 n) (n ∷ []))
       ∙ joined_append (map (report_lines im) (up_from 0 n)) (report_lines im n ∷ [])
-      ∙ ap (λ x. joined (map (report_lines im) (up_from 0 n)) ++ x) (append_nil (report_lines im n))
+      ∙ ap (λ x. joined (map (report_lines im) (up_from 0 n)) ++ x) (append-nil (report_lines im n))

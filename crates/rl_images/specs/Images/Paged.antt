@@ -3,7 +3,7 @@
 use Rattle.std.specs.Prelude.{ℕ, zero, suc, ◌+◌, ◌-◌, ◌/◌, ◌%◌, ◌≤◌, ◌<◌, ◌≡◌, refl, take, drop}
 use Rattle.std.proofs.Common.{sym, ◌∙◌, take-append-drop, take_all}
 use Rattle.std.proofs.Math.Path.{ap}
-use mathlib.Core.List.{List, [], ◌∷◌, ◌++◌, append_assoc, append_nil}
+use mathlib.Core.List.{List, [], ◌∷◌, ◌++◌, append_assoc, append-nil}
 use native.Mathlib.Omega.{arith}
 use Rattle.std.proofs.Math.ListN.{length, replicate, length-take, length-drop, drop_of_length-le}
 use Rattle.rl_spec.specs.Pages.{spaces, page, pages_by, on_pages}
@@ -24,7 +24,7 @@ module _ (lines : List (List ℕ)) where
   unfolding page
   page_last l p =
       let few : 60 - length lines ≡ blanks (length lines) = omega arith in
-      rw (take_all 60 lines (omega arith), drop_of_length-le lines {i = 60} (omega arith), few) (append_nil (filled lines))
+      rw (take_all 60 lines (omega arith), drop_of_length-le lines {i = 60} (omega arith), few) (append-nil (filled lines))
 
   page_full : 60 ≤ length lines → page (take 60 lines) ++ filled (drop 60 lines) ≡ filled lines
   unfolding page
@@ -32,7 +32,7 @@ module _ (lines : List (List ℕ)) where
       let none : 60 - length (take 60 lines) ≡ 0 = omega (arith, length-take 60 lines) in
       let same : blanks (length (drop 60 lines)) ≡ blanks (length lines) = omega (arith, length-drop 60 lines) in
       let blank : List (List ℕ) = replicate (blanks (length lines)) (spaces 72) in
-      rw (none, same, append_nil (take 60 lines))
+      rw (none, same, append-nil (take 60 lines))
       (sym (append_assoc (take 60 lines) (drop 60 lines) blank) ∙ ap (λ (x : List (List ℕ)). x ++ blank) (take-append-drop 60 lines))
 
   page_then : 0 < length lines → page (take 60 lines) ++ filled (drop 60 lines) ≡ filled lines

@@ -9,7 +9,7 @@ use Rattle.rl_spec.specs.declared.Section.TheVariants.{Texts, Lists, Expressions
 use Rattle.rl_spec.specs.declared.Target.{Target}
 use Rattle.rl_spec.specs.declared.Sort.{Sort}
 use Rattle.rl_spec.specs.declared.Sort.TheVariants.{Raw, Byte, Scalar, Part, One, Maybe, Many, Range, OperandSort, Operand}
-use Rattle.rl_spec.specs.Schema.{lowest, highest, in_section, operand_sort, sort_of, width_of, fields_of, fields_in_lem, schema}
+use Rattle.rl_spec.specs.Schema.{lowest, highest, in_section, operand_sort, sort_of, width_of, fields_of, fields_in, schema}
 use Rattle.rl_spec.specs.Image.{order_of, section_of}
 use Rattle.rl_laws.specs.Tests.{by_ltb}
 
@@ -87,7 +87,7 @@ module _ (o : Section) (n : ℕ) (e : all (keeps o) (lowest o) n ≡ true) (d : 
 
 -- every row of the schema, by computation
 schema_keeps : (o : Section) (k : ℕ) → in_section o k ≡ true → keeps o k ≡ true
-unfolding fields_of fields_in_lem schema sort_of
+unfolding fields_of fields_in schema sort_of
 schema_keeps Texts = keeps_at Texts 1 refl (omega arith)
 schema_keeps Lists = keeps_at Lists 1 refl (omega arith)
 schema_keeps Expressions = keeps_at Expressions 42 refl (omega arith)

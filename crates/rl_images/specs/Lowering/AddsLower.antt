@@ -11,7 +11,7 @@ use Rattle.rl_spec.specs.declared.Optional.{Optional}
 use Rattle.rl_spec.specs.declared.Optional.TheVariants.{None, Some}
 use Rattle.rl_spec.specs.declared.Clause.{Clause}
 use Rattle.rl_spec.specs.Schema.{sort_of, fields_of}
-use Rattle.rl_spec.specs.Image.{Field, num, Rec, Image, record_of_lem, field_of, first}
+use Rattle.rl_spec.specs.Image.{Field, num, Rec, Image, record_of, field_of, first}
 use Rattle.rl_spec.specs.Tree.{ascii, number, below, descend_by, descend}
 use Rattle.rl_spec.specs.Ranges.{optional}
 use Rattle.rl_spec.specs.FnContracts.{RefineOperand, integer, str, bool, param, ParamRefinement, Param, is_empty}
@@ -117,7 +117,7 @@ module _ (clone : ℕ → Make ℕ) (h : (j : ℕ) → Adds (clone j)) where
 
 pub adds_clone : (id : ℕ) → Adds (deep_clone_expr id)
 unfolding deep_clone_expr
-adds_clone id = adds_descend adds_give (λ i clone h. adds_bind adds_here (λ im. adds_record clone h i (record_of_lem im Expressions i))) id
+adds_clone id = adds_descend adds_give (λ i clone h. adds_bind adds_here (λ im. adds_record clone h i (record_of im Expressions i))) id
 
 -- ---- guards and wrapped returns
 
@@ -181,7 +181,7 @@ module _ (walk : ℕ → Make (List ℕ)) (h : (s : ℕ) → Adds (walk s)) wher
 
   pub adds_branch : (s : ℕ) → Adds (transform_branch walk s)
   unfolding transform_branch
-  adds_branch s = adds_bind adds_here (λ im. adds_branch_by s (record_of_lem im Statements s))
+  adds_branch s = adds_bind adds_here (λ im. adds_branch_by s (record_of im Statements s))
 
   pub adds_else : (s : Optional) → Adds (transform_else walk s)
   adds_else None = adds_give None
@@ -192,7 +192,7 @@ module _ (walk : ℕ → Make (List ℕ)) (h : (s : ℕ) → Adds (walk s)) wher
 
   pub adds_arm : (s : ℕ) → Adds (transform_arm walk s)
   unfolding transform_arm
-  adds_arm s = adds_bind adds_here (λ im. adds_arm_by (record_of_lem im Statements s))
+  adds_arm s = adds_bind adds_here (λ im. adds_arm_by (record_of im Statements s))
 
   pub adds_conditional : (r : Rec) → Adds (conditional walk r)
   adds_conditional r =
@@ -224,7 +224,7 @@ module _ (walk : ℕ → Make (List ℕ)) (h : (s : ℕ) → Adds (walk s)) wher
 pub adds_statement : (ensures : List Clause) (s : ℕ) → Adds (transform_statement ensures s)
 unfolding transform_statement
 adds_statement ensures s =
-    adds_descend (λ i. adds_give (i ∷ [])) (λ i walk h. adds_bind adds_here (λ im. adds_statement_by walk h ensures i (record_of_lem im Statements i))) s
+    adds_descend (λ i. adds_give (i ∷ [])) (λ i walk h. adds_bind adds_here (λ im. adds_statement_by walk h ensures i (record_of im Statements i))) s
 
 pub adds_trailing : (ensures : List Clause) (body : List ℕ) → Adds (wrap_trailing ensures body)
 unfolding wrap_trailing

@@ -7,7 +7,7 @@ use Rattle.std.proofs.Math.Option.{Option, none, some, none-ne-some, some-inject
 use Rattle.std.proofs.lemmas.List.{set-get_or}
 use Rattle.rl_spec.specs.declared.Section.{Section}
 use Rattle.rl_spec.specs.declared.Section.TheVariants.{Texts, Lists, Expressions, Statements, Parameters, Clauses, Functions, Calls}
-use Rattle.rl_spec.specs.Image.{Field, Rec, Image, records_of, record_of_lem, field_of, encode, order_of, no_record, no_field}
+use Rattle.rl_spec.specs.Image.{Field, Rec, Image, records_of, record_of, field_of, encode, order_of, no_record, no_field}
 use Rattle.rl_spec.specs.Make.{Context, made}
 use Rattle.rl_spec.specs.Lower as lower
 use Rattle.rl_images.specs.Lowering.Gives.{given_is}
@@ -28,7 +28,7 @@ pub record Followed (im : Image) (f : ℕ) (im' : Image) : Type 0 where
   pub lists : Longer (records_of im Lists) (records_of im' Lists)
   pub expressions : Longer (records_of im Expressions) (records_of im' Expressions)
   pub statements : Longer (records_of im Statements) (records_of im' Statements)
-  pub functions : (list : Field) × (records_of im' Functions ≡ set (records_of im Functions) f (with_body_list (record_of_lem im Functions f) list))
+  pub functions : (list : Field) × (records_of im' Functions ≡ set (records_of im Functions) f (with_body_list (record_of im Functions f) list))
   pub parameters : records_of im' Parameters ≡ records_of im Parameters
   pub clauses : records_of im' Clauses ≡ records_of im Clauses
   pub calls : records_of im' Calls ≡ records_of im Calls
@@ -68,9 +68,9 @@ pub body_grows : (im : Image) (f : ℕ) (list : Field) (c : Context) → Eight i
 body_grows im f list c e d = (given_is (adds_later (adds_new_body im f) (lower.start im f) e) d).image
 
 same_body : (im : Image) (f : ℕ) →
-    records_of im Functions ≡ set (records_of im Functions) f (with_body_list (record_of_lem im Functions f) (field_of (record_of_lem im Functions f) 4))
+    records_of im Functions ≡ set (records_of im Functions) f (with_body_list (record_of im Functions f) (field_of (record_of im Functions f) 4))
 same_body im f =
-    let r : Rec = record_of_lem im Functions f in
+    let r : Rec = record_of im Functions f in
     let d : with_body_list r (field_of r 4) ≡ r = ap (made r.kind) (set-get_or r.fields 4 no_field) in
     sym (ap (set (records_of im Functions) f) d ∙ set-get_or (records_of im Functions) f no_record)
 
@@ -83,14 +83,14 @@ followed_by im im' f e untouched =
       lists = as_long refl;
       expressions = as_long refl;
       statements = as_long refl;
-      functions = (field_of (record_of_lem im Functions f) 4, same_body im f);
+      functions = (field_of (record_of im Functions f) 4, same_body im f);
       parameters = refl;
       clauses = refl;
       calls = refl;
     }
 followed_by im im' f e (rebuilt {list} {c} d l) =
     let g : Grows im c.image = body_grows im f list c e d in
-    let rs : List Rec = set (records_of c.image Functions) f (with_body_list (record_of_lem c.image Functions f) list) in
+    let rs : List Rec = set (records_of c.image Functions) f (with_body_list (record_of c.image Functions f) list) in
     let own : records_of (lower.with_body c.image f list) Functions ≡ rs = records_own c.image Functions rs (g.sections ∙ e) in
     let other : (q : Section) → (order_of q ≡ 6 → ⊥) → records_of (lower.with_body c.image f list) q ≡ records_of c.image q =
     (λ q h. records_other c.image Functions q rs h) in

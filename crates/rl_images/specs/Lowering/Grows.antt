@@ -1,7 +1,7 @@
 -- The image grows: what each making of records does to it, and that what was there is kept.
 -- Assumes nothing.
 use Rattle.std.specs.Prelude.{ℕ, suc, ◌+◌, ◌≤◌, ◌<◌, ◌≡◌, refl, Bool, true, false, ◌&&◌, List, [], ◌∷◌, ◌++◌, map, ltb, length, get_or, take, drop}
-use Rattle.std.proofs.Common.{ap, sym, ◌∙◌, append_assoc, append_nil, arith, length-append, length-drop, length-set, get_or-set_same, get_or-set_other, ltb-false}
+use Rattle.std.proofs.Common.{ap, sym, ◌∙◌, append_assoc, append-nil, arith, length-append, length-drop, length-set, get_or-set_same, get_or-set_other, ltb-false}
 use Rattle.std.proofs.lemmas.Bool.{false≢true}
 use Rattle.std.proofs.Math.Nat.{suc_inj}
 use Rattle.std.proofs.lemmas.List.{length-map, take-append-le, drop-append-le}
@@ -9,7 +9,7 @@ use Rattle.std.proofs.Math.ListN.{get_or-append}
 use Rattle.rl_spec.specs.declared.Section.{Section}
 use Rattle.rl_spec.specs.declared.Section.TheVariants.{Texts, Lists, Expressions, Statements, Parameters, Clauses, Functions, Calls}
 use Rattle.rl_spec.specs.Schema.{limits}
-use Rattle.rl_spec.specs.Image.{Field, num, pair, Rec, Image, order_of, records_of, size_of, record_of_lem, field_of, first, second, entry_of, text_of, no_record, AllWithin, WellFormed}
+use Rattle.rl_spec.specs.Image.{Field, num, pair, Rec, Image, order_of, records_of, size_of, record_of, field_of, first, second, entry_of, text_of, no_record, AllWithin, WellFormed}
 use Rattle.rl_spec.specs.Make.{Context, with_image, with_records, with_bytes, most, most_bytes, append, append_bytes, made, new_text, new_list, stmt}
 use Rattle.rl_spec.specs.Lower.{expr}
 use Rattle.rl_images.specs.Lowering.Gives.{Gives, gives, after, weaker, by_limit}
@@ -22,7 +22,7 @@ pub record Longer {A : Type 0} (l m : List A) : Type 0 where
   pub is : m ≡ l ++ rest
 
 pub as_long : {A : Type 0} {l m : List A} → m ≡ l → Longer l m
-as_long {l = l} e = record { rest = []; is = e ∙ sym (append_nil l) }
+as_long {l = l} e = record { rest = []; is = e ∙ sym (append-nil l) }
 
 pub longer_on : {A : Type 0} {l m n : List A} → Longer l m → Longer m n → Longer l n
 longer_on {l = l} p q = record { rest = p.rest ++ q.rest; is = q.is ∙ ap (λ z. z ++ q.rest) p.is ∙ append_assoc l p.rest q.rest }
@@ -40,7 +40,7 @@ longer_part {l = l} a n p h =
 
 -- a text stays where the text bytes and the texts get longer
 pub text_stays : (im im' : Image) → Longer im.bytes im'.bytes → Longer (records_of im Texts) (records_of im' Texts) → (t : ℕ) →
-    t < size_of im Texts → first (field_of (record_of_lem im Texts t) 0) + second (field_of (record_of_lem im Texts t) 0) ≤ length im.bytes →
+    t < size_of im Texts → first (field_of (record_of im Texts t) 0) + second (field_of (record_of im Texts t) 0) ≤ length im.bytes →
     text_of im' t ≡ text_of im t
 text_stays im im' bytes texts t h p = rw (longer_at no_record t texts h) (longer_part _ _ bytes p)
 
@@ -105,14 +105,14 @@ module _ {im im' : Image} (g : Grows im im') where
   pub size_grows : (o : Section) → size_of im o ≤ size_of im' o
   size_grows o = longer_length (grows_records g o)
 
-  pub record_kept : (o : Section) (i : ℕ) → i < size_of im o → record_of_lem im' o i ≡ record_of_lem im o i
+  pub record_kept : (o : Section) (i : ℕ) → i < size_of im o → record_of im' o i ≡ record_of im o i
   record_kept o i h = longer_at no_record i (grows_records g o) h
 
   pub entry_kept : (k : ℕ) → k < size_of im Lists → entry_of im' k ≡ entry_of im k
   entry_kept k h = rw (record_kept Lists k h) refl
 
   pub text_kept : (t : ℕ) → t < size_of im Texts →
-      first (field_of (record_of_lem im Texts t) 0) + second (field_of (record_of_lem im Texts t) 0) ≤ length im.bytes →
+      first (field_of (record_of im Texts t) 0) + second (field_of (record_of im Texts t) 0) ≤ length im.bytes →
       text_of im' t ≡ text_of im t
   text_kept = text_stays im im' g.bytes g.texts
 

@@ -1,11 +1,11 @@
 -- The last statement that is made for a body is bare exactly where the body's own last statement is, and then it is that statement.
 -- Assumes nothing.
 use Rattle.std.specs.Prelude.{ℕ, suc, ◌-◌, ◌≤◌, ◌<◌, ◌≡◌, refl, Bool, true, false, not, cond, ◌&&◌, List, [], ◌∷◌, ◌++◌, eqb, ltb, length, get_or}
-use Rattle.std.proofs.Common.{ap, sym, ◌∙◌, true≢false, append_nil, arith, eqb-true, ne_eqb}
+use Rattle.std.proofs.Common.{ap, sym, ◌∙◌, true≢false, append-nil, arith, eqb-true, ne_eqb}
 use Rattle.std.proofs.Math.Option.{Option}
 use Rattle.rl_spec.specs.declared.Section.TheVariants.{Statements}
 use Rattle.rl_spec.specs.declared.Clause.{Clause}
-use Rattle.rl_spec.specs.Image.{Field, num, Rec, Image, size_of, record_of_lem, field_of}
+use Rattle.rl_spec.specs.Image.{Field, num, Rec, Image, size_of, record_of, field_of}
 use Rattle.rl_spec.specs.Ranges.{optional, optional_field}
 use Rattle.rl_spec.specs.Tree.{ascii, number, below}
 use Rattle.rl_spec.specs.FnContracts.{is_empty}
@@ -52,7 +52,7 @@ last_is (before {m} {ns} p) = ap (λ k. get_or (m ∷ ns) k 0) d ∙ last_is p
 -- ---- a statement that is made, and is not bare
 
 abbrev bare_at : Image → ℕ → Bool
-bare_at im s = eqb (record_of_lem im Statements s).kind 65
+bare_at im s = eqb (record_of im Statements s).kind 65
 
 abbrev Other : ℕ → Context → Type 0
 Other n c = (n < size_of c.image Statements) × (bare_at c.image n ≡ false)
@@ -64,7 +64,7 @@ other_made : (kind span : ℕ) (fields : List Field) (ctx : Context) → (kind �
 unfolding stmt
 other_made kind span fields ctx h =
     record_ok Statements tt (made kind (num span ∷ fields)) ctx ▹ λ n c k a.
-    (a.1.inside, ne_eqb (record_of_lem c.image Statements n).kind 65 (λ e. h (sym (ap (λ r. r.kind) a.1.is) ∙ e)))
+    (a.1.inside, ne_eqb (record_of c.image Statements n).kind 65 (λ e. h (sym (ap (λ r. r.kind) a.1.is) ∙ e)))
 
 only_other : {ctx : Context} {o : Option (ℕ × Context)} → GrowsTo ctx Other o → GrowsTo ctx OtherLast (and_then o (λ n. give (n ∷ [])))
 only_other g = g ▷ λ n c k h. given (n, end, h)
@@ -115,7 +115,7 @@ module _ (walk : ℕ → Make (List ℕ)) (grow : (n : ℕ) → Adds (walk n)) w
 
   statement_ends : (ensures : List Clause) (s : ℕ) (ctx : Context) → s < size_of ctx.image Statements →
       GrowsTo ctx (λ ns c. Ends ctx.image s ns c.image)
-      (transform_statement_by walk ensures s (record_of_lem ctx.image Statements s) ctx)
+      (transform_statement_by walk ensures s (record_of ctx.image Statements s) ctx)
   statement_ends ensures s ctx l =
       by_kind 66 _ _ (λ e. omega arith) (λ h. wrap_other (number r 1) ensures ctx)
       (by_kind 67 _ _ (λ e. omega arith) (λ h. expr_good 16 [] ctx ▷ λ null c k p. wrap_other null ensures c)
@@ -129,7 +129,7 @@ module _ (walk : ℕ → Make (List ℕ)) (grow : (n : ℕ) → Adds (walk n)) w
       (given (record { last = s; ends = end; inside = l; same = refl; number = λ e. refl }))))))))))
     where
       r : Rec
-      r = record_of_lem ctx.image Statements s
+      r = record_of ctx.image Statements s
 
       a_loop_lem : (kept : List Field) (list : Field) → (r.kind ≡ 65 → ⊥) → GrowsTo ctx OtherLast (only walk (loop walk r kept list) ctx)
       a_loop_lem kept list h = only_other (loop_other r kept list ctx h)
@@ -159,7 +159,7 @@ transform_ends ensures s ctx l = rw (descend_is untouched step s)
     (λ n. adds_cond (ltb n s) (adds_statement ensures n) (adds_give (n ∷ []))) ensures s ctx l)
   where
     step : ℕ → (ℕ → Make (List ℕ)) → Make (List ℕ)
-    step = λ s walk. image_so_far >>= λ im. transform_statement_by walk ensures s (record_of_lem im Statements s)
+    step = λ s walk. image_so_far >>= λ im. transform_statement_by walk ensures s (record_of im Statements s)
 
     untouched : ℕ → Make (List ℕ)
     untouched = λ s. give (s ∷ [])
@@ -181,7 +181,7 @@ ends_later {a} {b} {s = s} ms g l p =
 body_ends : (ensures : List Clause) {s : ℕ} {body : List ℕ} (ctx : Context) → EndsIn s body → s < size_of ctx.image Statements →
     GrowsTo ctx (λ ss c. Ends ctx.image s ss c.image) (flat_map (transform_statement ensures) body ctx)
 unfolding flat_map
-body_ends ensures {s} ctx end l = transform_ends ensures s ctx l ▷ λ ns c k h. given (rw (append_nil ns) h)
+body_ends ensures {s} ctx end l = transform_ends ensures s ctx l ▷ λ ns c k h. given (rw (append-nil ns) h)
 body_ends ensures {s} ctx (before {m} p) l =
     adds_grows (adds_statement ensures m) ctx ▷ λ ms c k h. body_ends ensures c p (omega (arith, l, size_grows k.image Statements)) ▷ λ ns d j q.
     given (ends_later ms k.image l q)
@@ -205,8 +205,8 @@ last_of_lem {im} {im'} {s} {body} {ss} g l e p =
       same = bare_last im' p.ends ∙ p.same ∙ sym (bare_last im e);
       number = λ b. last_is p.ends ∙ stays b ∙ sym (last_is e);
       kept = λ b.
-          ap (record_of_lem im' Statements) (last_is p.ends ∙ stays b) ∙ record_kept g Statements s l ∙
-          ap (record_of_lem im Statements) (sym (last_is e));
+          ap (record_of im' Statements) (last_is p.ends ∙ stays b) ∙ record_kept g Statements s l ∙
+          ap (record_of im Statements) (sym (last_is e));
     }
   where
     stays : (not (is_empty body) && eqb (last_of im body).kind 65) ≡ true → p.last ≡ s

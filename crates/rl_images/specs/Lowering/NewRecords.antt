@@ -6,7 +6,7 @@ use Rattle.std.proofs.Math.Seq.{get_or-append_seam}
 use Rattle.rl_spec.specs.declared.Section.{Section}
 use Rattle.rl_spec.specs.declared.Section.TheVariants.{Texts, Lists, Expressions, Statements, Parameters, Clauses, Functions, Calls}
 use Rattle.rl_spec.specs.Schema.{limits}
-use Rattle.rl_spec.specs.Image.{Rec, Image, records_of, size_of, no_record, record_of_lem}
+use Rattle.rl_spec.specs.Image.{Rec, Image, records_of, size_of, no_record, record_of}
 use Rattle.rl_spec.specs.Make.{Context, most, append}
 use Rattle.rl_images.specs.Lowering.Gives.{weaker}
 use Rattle.rl_images.specs.Lowering.Grows.{records_own, Growing, appended, Appended}
@@ -16,7 +16,7 @@ use Rattle.rl_images.specs.Lowering.GrowsTo.{Limited, GrowsTo, append_good}
 pub record At (im : Image) (o : Section) (i : ℕ) (r : Rec) : Type 0 where
   pub inside : i < size_of im o
   pub small : i < 65535
-  pub is : record_of_lem im o i ≡ r
+  pub is : record_of im o i ≡ r
 
 limit_small : (o : Section) → most o < 65535
 unfolding limits

@@ -6,7 +6,7 @@ use Rattle.std.specs.Prelude.{◌≡◌, Bool, true, false, cond, take}
 use Rattle.std.proofs.Math.Path.{refl}
 use Rattle.std.proofs.Common.{sym, ap, take-append-drop, length-take, length-drop, drop-drop}
 use Rattle.std.proofs.lemmas.Bool.{false≢true}
-use mathlib.Core.List.{List, [], ◌∷◌, ◌++◌, append_assoc, append_nil}
+use mathlib.Core.List.{List, [], ◌∷◌, ◌++◌, append_assoc, append-nil}
 use native.Mathlib.Omega.{arith}
 use Rattle.std.proofs.Math.Numerals.{add-one}
 use Rattle.std.proofs.Math.ListN.{length, get_or, drop}
@@ -20,7 +20,7 @@ use Rattle.rl_spec.specs.declared.Sort.TheVariants.{Raw, Byte, Scalar, Part, One
 use Rattle.rl_spec.specs.Bytes.{num_at, u16_at}
 use Rattle.rl_spec.specs.Schema.{text_bytes_at, sections, count_of, sort_of, width_of, fields_of}
 use Rattle.rl_spec.specs.Read.{counts_of, answer_of}
-use Rattle.rl_spec.specs.Image.{num, pair, bytes_of, encode_field, encode_fields, encode_record, encode_records, encode_sections, encode_counts, encode, is_pair, field_in_lem, fields_at, widths_of, record_in, next_at, records_in, end_at, sections_in, image_of, AllBytes}
+use Rattle.rl_spec.specs.Image.{num, pair, bytes_of, encode_field, encode_fields, encode_record, encode_records, encode_sections, encode_counts, encode, is_pair, field_in, fields_at, widths_of, record_in, next_at, records_in, end_at, sections_in, image_of, AllBytes}
 use Rattle.rl_images.specs.Reading.Rows.{last_at, sections_at}
 use Rattle.rl_images.specs.Reading.ReadOutcome.{Reads, accepted_reads}
 use Rattle.rl_images.specs.Encoding.BytesAt.{u16_number, u32_number}
@@ -88,7 +88,7 @@ module _ (s : List ℕ) (bytes : AllBytes s) where
   u16_bytes : (at : ℕ) → at + 2 ≤ length s → bytes_of 2 (u16_at s at) ++ drop (at + 2) s ≡ drop at s
   u16_bytes at h = rw u16_number (number_bytes 2 at h)
 
-  field_bytes : (o : Sort) (at : ℕ) → at + width_of o ≤ length s → encode_field o (field_in_lem s o at) ++ drop (at + width_of o) s ≡ drop at s
+  field_bytes : (o : Sort) (at : ℕ) → at + width_of o ≤ length s → encode_field o (field_in s o at) ++ drop (at + width_of o) s ≡ drop at s
   field_bytes o at h = go (is_pair o) refl
     where
       go : (b : Bool) → is_pair o ≡ b → encode_field o (cond b (pair (u16_at s at) (u16_at s (at + 2))) (num (num_at s at (width_of o)))) ++ drop (at + width_of o) s ≡ drop at s
@@ -127,7 +127,7 @@ module _ (s : List ℕ) (bytes : AllBytes s) where
 
   -- sections that end where the bytes do
   sections_rest : (c : Counts) (os : List Section) (at : ℕ) → length s ≡ last_at s c os at → encode_sections (sections_in s c os at) ≡ drop at s
-  sections_rest c os at e = rw (← e, drop-length, append_nil) at (sections_bytes c os at (omega arith))
+  sections_rest c os at e = rw (← e, drop-length, append-nil) at (sections_bytes c os at (omega arith))
 
   -- ---- the header and the whole
 

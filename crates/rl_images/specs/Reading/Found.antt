@@ -9,9 +9,9 @@ use Rattle.rl_spec.specs.declared.Counts.{Counts}
 use Rattle.rl_spec.specs.declared.Answer.TheVariants.{Accepted}
 use Rattle.rl_spec.specs.declared.Section.{Section}
 use Rattle.rl_spec.specs.declared.Section.TheVariants.{Texts, Lists, Expressions, Statements, Parameters, Clauses, Functions, Calls}
-use Rattle.rl_spec.specs.Schema.{sections, count_of, lowest, highest, in_section, sort_of, schema, fields_in_lem, fields_of}
+use Rattle.rl_spec.specs.Schema.{sections, count_of, lowest, highest, in_section, sort_of, schema, fields_in, fields_of}
 use Rattle.rl_spec.specs.Read.{counts_of, answer_of, starts_of}
-use Rattle.rl_spec.specs.Image.{records_of, size_of, no_record, record_of_lem, widths_of, record_in, sections_in, image_of}
+use Rattle.rl_spec.specs.Image.{records_of, size_of, no_record, record_of, widths_of, record_in, sections_in, image_of}
 use Rattle.rl_spec.specs.Found.{place_of, calls_at, functions_at, clauses_at, parameters_at, record_as, kind_found, record_found, image_found}
 use Rattle.rl_laws.specs.Found.{size_found, record_found_lem}
 use Rattle.rl_images.specs.Images.SchemaSorts.{kind_range}
@@ -29,7 +29,7 @@ kind_found_lem Clauses k h = omega (arith, kind_range Clauses k h)
 kind_found_lem Functions k h = omega (arith, kind_range Functions k h)
 kind_found_lem Calls k h = omega (arith, kind_range Calls k h)
 
-found_stands : (s : List ℕ) (o : Section) (i at : ℕ) → StandsAt s o i at → record_as s (kind_found s o at) at ≡ record_of_lem (image_of s) o i
+found_stands : (s : List ℕ) (o : Section) (i at : ℕ) → StandsAt s o i at → record_as s (kind_found s o at) at ≡ record_of (image_of s) o i
 unfolding record_as record_in
 found_stands s o i at h = rw (kind_found_lem o (get_or s at 0) h.kind) h.found
 
@@ -49,7 +49,7 @@ module _ (s : List ℕ) (k : ℕ) (a : ArenaNo) (c : Counts) (e : answer_of s k 
 
   -- each record stands where it is looked for
   stands_found : (o : Section) (i : ℕ) → i < count_of c o → StandsAt s o i (place_of s (starts_of s k) c o i)
-  unfolding width_in widths_of fields_of fields_in_lem schema sort_of
+  unfolding width_in widths_of fields_of fields_in schema sort_of
   stands_found Texts i h = stands_text s k a c e i h
   stands_found Lists i h = stands_entry s k a c e i h
   stands_found Expressions i h = starts_expression s k a c e i h
@@ -67,7 +67,7 @@ module _ (s : List ℕ) (k : ℕ) (a : ArenaNo) (c : Counts) (e : answer_of s k 
       (n ∙ sym (sizes_are_counts s k a c e o))
       (λ i h. go i (rw n at h))
     where
-      go : (i : ℕ) → i < count_of c o → record_of_lem (image_found s (starts_of s k) c) o i ≡ record_of_lem (image_of s) o i
+      go : (i : ℕ) → i < count_of c o → record_of (image_found s (starts_of s k) c) o i ≡ record_of (image_of s) o i
       go i h = record_found_lem s (starts_of s k) c o i h ∙ found_stands s o i (place_of s (starts_of s k) c o i) (stands_found o i h)
 
   -- THEOREM

@@ -14,10 +14,10 @@ use Rattle.rl_spec.specs.declared.Counts.{Counts}
 use Rattle.rl_spec.specs.declared.Answer.TheVariants.{Accepted}
 use Rattle.rl_spec.specs.declared.Section.{Section}
 use Rattle.rl_spec.specs.declared.Section.TheVariants.{Texts, Lists, Expressions, Statements, Parameters, Clauses, Functions, Calls}
-use Rattle.rl_spec.specs.Schema.{limits, text_bytes_at, sections, count_of, lowest, highest, in_section, sort_of, schema, fields_in_lem, fields_of}
+use Rattle.rl_spec.specs.Schema.{limits, text_bytes_at, sections, count_of, lowest, highest, in_section, sort_of, schema, fields_in, fields_of}
 use Rattle.rl_spec.specs.Fields.{lists_at}
 use Rattle.rl_spec.specs.Read.{counts_of, keep, most_starts, answer_of, starts_of}
-use Rattle.rl_spec.specs.Image.{order_of, records_of, size_of, no_record, record_of_lem, widths_of, record_in, next_at, records_in, end_at, sections_in, image_of}
+use Rattle.rl_spec.specs.Image.{order_of, records_of, size_of, no_record, record_of, widths_of, record_in, next_at, records_in, end_at, sections_in, image_of}
 use Rattle.rl_images.specs.Reading.Filled.{two_filled}
 use Rattle.rl_images.specs.Images.SchemaSorts.{kind_range}
 use Rattle.rl_images.specs.Reading.Rows.{starts_from, starts_in, last_at, sections_at}
@@ -73,9 +73,9 @@ pub record StandsAt (s : List ℕ) (o : Section) (i at : ℕ) : Type 0 where
   pub kind : in_section o (get_or s at 0) ≡ true
   pub start : at < length s
   pub end : next_at s at ≤ length s
-  pub found : record_in s at ≡ record_of_lem (image_of s) o i
+  pub found : record_in s at ≡ record_of (image_of s) o i
 
-stands_whole : (s : List ℕ) (o : Section) (i at : ℕ) → Whole s o at → record_in s at ≡ record_of_lem (image_of s) o i → StandsAt s o i at
+stands_whole : (s : List ℕ) (o : Section) (i at : ℕ) → Whole s o at → record_in s at ≡ record_of (image_of s) o i → StandsAt s o i at
 unfolding next_at
 stands_whole s o i at w e =
     let h : at + 1 + widths_of (fields_of (get_or s at 0)) ≤ length s = w.inside in
@@ -242,7 +242,7 @@ module _ (s : List ℕ) (k : ℕ) (a : ArenaNo) (c : Counts) (e : answer_of s k 
 
   -- THEOREM
   pub section_places : SectionPlaces s c
-  unfolding section_at last_at sections width_in widths_of fields_of fields_in_lem schema sort_of
+  unfolding section_at last_at sections width_in widths_of fields_of fields_in schema sort_of
   section_places = rw (accepted_header s k a c e).1 (go (accepted_reads s k a c e))
     where
       go : {p : List ℕ} → Reads s p → SectionPlaces s (counts_of s)
@@ -260,11 +260,11 @@ module _ (s : List ℕ) (k : ℕ) (a : ArenaNo) (c : Counts) (e : answer_of s k 
 
   -- THEOREM: a text takes 5 bytes, a list entry 3
   pub stands_text : (i : ℕ) → i < c.texts → StandsAt s Texts i (text_bytes_at + c.bytes + i * 5)
-  unfolding width_in widths_of fields_of fields_in_lem schema sort_of
+  unfolding width_in widths_of fields_of fields_in schema sort_of
   stands_text = rw (← section_places.texts) (stands_by_width Texts refl)
 
   pub stands_entry : (i : ℕ) → i < c.lists → StandsAt s Lists i (lists_at c + i * 3)
-  unfolding width_in widths_of fields_of fields_in_lem schema sort_of
+  unfolding width_in widths_of fields_of fields_in schema sort_of
   stands_entry = rw (← section_places.lists) (stands_by_width Lists refl)
 
   -- THEOREM

@@ -2,7 +2,7 @@
 -- Assumes nothing.
 use Rattle.std.specs.Prelude.{◌≡◌, ℕ, zero, suc, ◌+◌, ◌<◌, List, [], ◌∷◌, ◌++◌, map, length, get_or, slice_index_or}
 use Rattle.std.proofs.Math.Path.{refl, ap₂}
-use Rattle.std.proofs.Common.{sym, ap, append_nil, append_assoc}
+use Rattle.std.proofs.Common.{sym, ap, append-nil, append_assoc}
 use native.Mathlib.Omega.{arith}
 use Rattle.rl_spec.specs.declared.Answer.TheVariants.{Accepted, Refused}
 use Rattle.rl_spec.specs.declared.ArenaNo.{ArenaNo}
@@ -57,7 +57,7 @@ module _ (s : List ℕ) where
   -- THEOREM: of one that is refused, the one line of its refusal
   pub output_refused : (q : Cause) (p : ℕ) → answer_of s 8192 ≡ Refused q p → output_of s ≡ refused_line q p
   unfolding output_of lines_of joined
-  output_refused q p e = rw e (append_nil (refused_line q p))
+  output_refused q p e = rw e (append-nil (refused_line q p))
 
 -- ---- a line
 

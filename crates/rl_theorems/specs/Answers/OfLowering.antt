@@ -4,7 +4,7 @@ use Rattle.std.specs.Prelude.{◌≡◌, ℕ, zero, suc, ◌<◌, Bool, true, fa
 use Rattle.std.proofs.Common.{sym, ap, inl, inr, arith}
 use Rattle.std.proofs.lemmas.Bool.{false≢true}
 use Rattle.std.proofs.Math.Option.{Option, none, some}
-use borrow.Author.Tests.{ltb-true, ltb-false, not_true, not_false}
+use borrow.Author.Tests.{ltb-true, ltb-false, not-true, not-false}
 use Rattle.rl_spec.specs.declared.Cause.{Cause}
 use Rattle.rl_spec.specs.declared.Cause.TheVariants.{LimitPassed}
 use Rattle.rl_spec.specs.declared.Section.TheVariants.{Expressions, Statements, Functions}
@@ -82,8 +82,8 @@ module _ (s : List ℕ) (k f room : ℕ) where
   making_by =
       after_reading s k (making_rows (image_of s) f room) (lower_by s f room) (λ q n. refl) λ a c e.
       let functions = sizes_are_counts s k a c e Functions in
-      checks (not (nat_lt f c.functions)) (λ d. omega (arith, functions, ltb-false f c.functions (not_true _ d)))
-      (λ d h. omega (arith, functions, ltb-true f c.functions (not_false _ d), h))
+      checks (not (nat_lt f c.functions)) (λ d. omega (arith, functions, ltb-false f c.functions (not-true _ d)))
+      (λ d h. omega (arith, functions, ltb-true f c.functions (not-false _ d), h))
       (checks (too_tall (image_of s)) (tall_over (image_of s)) (tall_under (image_of s))
       (checks (nat_lt room 65535) (ltb-true room 65535) (λ d h. omega (arith, ltb-false room 65535 d, h)) (limit_by (lowered (image_of s) f))))
 

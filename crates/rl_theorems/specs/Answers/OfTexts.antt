@@ -10,7 +10,7 @@ use Rattle.rl_spec.specs.declared.MessageAnswer.TheVariants as message
 use Rattle.rl_spec.specs.declared.Section.TheVariants.{Texts, Calls}
 use Rattle.rl_spec.specs.declared.TextAnswer.TheVariants as text
 use Rattle.rl_spec.specs.declared.TextPart.{TextPart}
-use Rattle.rl_spec.specs.Image.{size_of, record_of_lem, field_of, first, second, text_of, image_of, AllBytes}
+use Rattle.rl_spec.specs.Image.{size_of, record_of, field_of, first, second, text_of, image_of, AllBytes}
 use Rattle.rl_spec.specs.Texts.{text_part, text_by, text_for, message_at, message_from, message_answer}
 use Rattle.rl_laws.specs.Tests.{by_ltb}
 use Rattle.rl_images.specs.Encoding.Accepted.{accepted_well_formed}
@@ -60,8 +60,8 @@ module _ (s : List ℕ) (k t : ℕ) where
       let read = (read_accepts s k).1 unmet.0 in
       let reads = accepted_reads s k read.0 read.1 read.2 in
       let there : t < size_of (image_of s) Texts = by_ltb t (size_of (image_of s) Texts) (λ l. l) (λ l. absurd (unmet.1.0 l)) in
-      let at : ℕ = first (field_of (record_of_lem (image_of s) Texts t) 0) in
-      let size : ℕ = second (field_of (record_of_lem (image_of s) Texts t) 0) in
+      let at : ℕ = first (field_of (record_of (image_of s) Texts t) 0) in
+      let size : ℕ = second (field_of (record_of (image_of s) Texts t) 0) in
       let inside : at + size ≤ length (image_of s).bytes =
       (text_says (image_of s) (accepted_well_formed s k read.0 read.1 bytes read.2) t there).part
       in

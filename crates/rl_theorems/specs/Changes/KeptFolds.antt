@@ -7,7 +7,7 @@ use Rattle.std.proofs.Math.Option.{Option, none, some}
 use Rattle.rl_spec.specs.declared.Form.{Form}
 use Rattle.rl_spec.specs.declared.Form.TheVariants.{Null, Literal, Identifier, Unary, Binary, Grouping, Assign, OkLiteral, ErrLiteral, IsErr, ResultUnwrap, Other}
 use Rattle.rl_spec.specs.declared.Section.TheVariants.{Expressions}
-use Rattle.rl_spec.specs.Image.{Image, record_of_lem, text_of}
+use Rattle.rl_spec.specs.Image.{Image, record_of, text_of}
 use Rattle.rl_spec.specs.Values.{ConstVal}
 use Rattle.rl_spec.specs.Fold.{Binding, unary_folded, binary_folded, lookup, const_eval}
 use Rattle.rl_spec.specs.Tree.{Expr, other, below, tree_by, expr_tree}
@@ -74,7 +74,7 @@ module _ (bytes : ℕ → List ℕ) where
     all_below zero i l = absurd (omega arith)
     all_below (suc b) i l =
         rw (tree_is (before im) i, tree_is im i, form_at im i)
-        (small_kept (is_small (record_of_lem im Expressions i).kind) _ _ _ (λ n. child_kept i n (λ m. all_below b n (omega arith))))
+        (small_kept (is_small (record_of im Expressions i).kind) _ _ _ (λ n. child_kept i n (λ m. all_below b n (omega arith))))
 
     pub tree_kept : (i : ℕ) → KeptFolds (expr_tree (before im) i) (expr_tree im i)
     tree_kept i = all_below (suc i) i (omega arith)

@@ -4,8 +4,8 @@
 use Rattle.std.specs.Prelude.{◌≡◌, ℕ, zero, suc, ◌+◌, ◌-◌, ◌*◌, ◌/◌, ◌%◌, ◌^◌, ◌<◌, ◌≤◌, List, [], ◌∷◌, ◌++◌, map, length, refl}
 use Rattle.std.proofs.Common.{arith, lt-ltb, le-ltb, length-append, take_all}
 use Rattle.rl_spec.specs.declared.Section.TheVariants.{Calls}
-use Rattle.rl_spec.specs.Schema.{limits, schema, sort_of, fields_in_lem, fields_of}
-use Rattle.rl_spec.specs.Image.{Field, Rec, Image, size_of, record_of_lem, a_raw, a_reference, a_list, FieldsFit, no_fields, ◌&◌, RecordFits, WellFormed}
+use Rattle.rl_spec.specs.Schema.{limits, schema, sort_of, fields_in, fields_of}
+use Rattle.rl_spec.specs.Image.{Field, Rec, Image, size_of, record_of, a_raw, a_reference, a_list, FieldsFit, no_fields, ◌&◌, RecordFits, WellFormed}
 use Rattle.rl_spec.specs.Tree.{number}
 use Rattle.rl_spec.specs.Records.{call_at}
 use Rattle.rl_spec.specs.Make.{made}
@@ -64,7 +64,7 @@ few_digits k n l = digits_by 20 k n l
 
 module _ {im : Image} {i : ℕ} where
   call_view : {fs : List Field} → FieldsFit im Calls i 0 (map sort_of (fields_of 83)) fs → number (made 83 fs) 1 < 256 ^ 4
-  unfolding fields_of fields_in_lem schema sort_of
+  unfolding fields_of fields_in schema sort_of
   call_view (a_reference t & a_raw w & a_list p e es & no_fields) = w
 
   call_says : (r : Rec) → RecordFits im Calls i r → number r 1 < 256 ^ 4
@@ -80,7 +80,7 @@ module _ (im : Image) (wf : WellFormed im) (call : ℕ) (there : call < size_of 
 
   span_small : (call_at im call).span < 256 ^ 4
   unfolding call_at
-  span_small = call_says (record_of_lem im Calls call) (wf.fits Calls call there)
+  span_small = call_says (record_of im Calls call) (wf.fits Calls call there)
 
   pub span_whole : right 10 (decimal (call_at im call).span) ≡ spaces (10 - length (decimal (call_at im call).span)) ++ decimal (call_at im call).span
   span_whole = number_whole 10 (call_at im call).span (few_digits 9 (call_at im call).span (omega (arith, span_small)))

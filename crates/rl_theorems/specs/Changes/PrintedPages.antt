@@ -3,7 +3,7 @@
 -- Assumes nothing.
 use Rattle.std.specs.Prelude.{◌≡◌, ℕ, zero, suc, ◌+◌, ◌-◌, ◌*◌, ◌/◌, ◌≤◌, true, ◌↔◌, List, [], ◌∷◌, ◌++◌, map, length, take, drop, replicate}
 use Rattle.std.proofs.Math.Path.{refl, ap, ap₂}
-use Rattle.std.proofs.Common.{◌∙◌, append_nil, arith, lt-ltb, le-ltb, take_all}
+use Rattle.std.proofs.Common.{◌∙◌, append-nil, arith, lt-ltb, le-ltb, take_all}
 use Rattle.std.proofs.Math.ListN.{length-append, length-take, length-map}
 use Rattle.std.proofs.lemmas.List.{length-replicate}
 use Rattle.rl_spec.specs.declared.ProveAnswer.TheVariants.{Proved}
@@ -310,7 +310,7 @@ module _ (columns : ℕ) (text : Text) where
       let full : columns - length (map printed (take columns (scalars_of text))) ≡ 0 =
       omega (arith, length-map (take columns (scalars_of text)) printed, length-take columns (scalars_of text))
       in
-      rw full (append_nil (map printed (take columns (scalars_of text))))
+      rw full (append-nil (map printed (take columns (scalars_of text))))
 
 -- THEOREM: a text without scalars below 32 is shown as it is
 pub printed_same : (cs : List ℕ) → Every (λ (c : ℕ). 32 ≤ c) cs → map printed cs ≡ cs

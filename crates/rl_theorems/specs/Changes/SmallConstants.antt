@@ -20,7 +20,7 @@ use Rattle.rl_spec.specs.declared.Section.{Section}
 use Rattle.rl_spec.specs.declared.Section.TheVariants.{Texts, Lists, Expressions, Parameters, Clauses, Functions, Calls}
 use Rattle.rl_spec.specs.declared.Violation.{Violation}
 use Rattle.rl_spec.specs.declared.Violation.TheVariants.{Refinement, Requires}
-use Rattle.rl_spec.specs.Image.{Field, Rec, Image, order_of, records_of, size_of, no_record, record_of_lem, field_of, first, second, entry_of, text_of}
+use Rattle.rl_spec.specs.Image.{Field, Rec, Image, order_of, records_of, size_of, no_record, record_of, field_of, first, second, entry_of, text_of}
 use Rattle.rl_spec.specs.Values.{same_text}
 use Rattle.rl_spec.specs.Tree.{Expr, other, ascii, below, is_res_path, call_form, form_by, form_of, tree_by, expr_tree, optional_tree}
 use Rattle.rl_spec.specs.Ranges.{numbers_in}
@@ -71,7 +71,7 @@ module _ (im : Image) where
   unfolding before
   records_before o = get_or-map (map was) im.records (order_of o) []
 
-  record_before : (o : Section) (i : ℕ) → record_of_lem (before im) o i ≡ was (record_of_lem im o i)
+  record_before : (o : Section) (i : ℕ) → record_of (before im) o i ≡ was (record_of im o i)
   record_before o i = ap (λ rs. slice_index_or rs i no_record) (records_before o) ∙ get_or-map was (records_of im o) i no_record
 
   size_same : (o : Section) → size_of (before im) o ≡ size_of im o
@@ -125,12 +125,12 @@ module _ (im : Image) where
       go true = refl
       go false = rw (call_form_lem (field_of r 1) (field_of r 2)) refl
 
-  pub form_at : (i : ℕ) → form_of (before im) i ≡ cond (is_small (record_of_lem im Expressions i).kind) Other (form_of im i)
-  form_at i = ap (form_by (before im)) (record_before Expressions i) ∙ form_before (record_of_lem im Expressions i)
+  pub form_at : (i : ℕ) → form_of (before im) i ≡ cond (is_small (record_of im Expressions i).kind) Other (form_of im i)
+  form_at i = ap (form_by (before im)) (record_before Expressions i) ∙ form_before (record_of im Expressions i)
 
   -- THEOREM: its trees are the same trees with small constants as `other`
   pub tree_before : (i : ℕ) →
-      expr_tree (before im) i ≡ tree_by (before im) (cond (is_small (record_of_lem im Expressions i).kind) Other (form_of im i)) (below i (λ _. other) (expr_tree (before im)))
+      expr_tree (before im) i ≡ tree_by (before im) (cond (is_small (record_of im Expressions i).kind) Other (form_of im i)) (below i (λ _. other) (expr_tree (before im)))
   tree_before i = tree_is (before im) i ∙ ap (λ form. tree_by (before im) form (below i (λ _. other) (expr_tree (before im)))) (form_at i)
 
   -- ---- the callee of a call
@@ -181,7 +181,7 @@ module _ (im : Image) where
 
   string_same : (n : ℕ) → string_in (expr_tree (before im) n) ≡ string_in (expr_tree im n)
   string_same n =
-      rw (tree_is (before im) n, tree_is im n, form_at n) (string_form (record_of_lem im Expressions n) (is_small (record_of_lem im Expressions n).kind) refl _ _)
+      rw (tree_is (before im) n, tree_is im n, form_at n) (string_form (record_of im Expressions n) (is_small (record_of im Expressions n).kind) refl _ _)
 
   own_same : (o : Optional) → own_string (optional_tree (before im) o) ≡ own_string (optional_tree im o)
   own_same None = refl

@@ -21,7 +21,7 @@ use Rattle.rl_spec.specs.declared.Target.TheVariants.{Expression}
 use Rattle.rl_spec.specs.declared.Value.TheVariants.{Plain as Bare}
 use Rattle.rl_spec.specs.Schema.{sort_of, fields_of}
 use Rattle.rl_spec.specs.Read.{counts_of}
-use Rattle.rl_spec.specs.Image.{Rec, Image, record_of_lem, size_of, field_of, first, second, entry_of, text_of, encode, image_of, AllBytes}
+use Rattle.rl_spec.specs.Image.{Rec, Image, record_of, size_of, field_of, first, second, entry_of, text_of, encode, image_of, AllBytes}
 use Rattle.rl_spec.specs.Values as value
 use Rattle.rl_spec.specs.Values.{ConstVal}
 use Rattle.rl_spec.specs.Tree.{ascii, number, expr_tree}
@@ -36,7 +36,7 @@ use Rattle.rl_spec.specs.Message.{decimal}
 use Rattle.rl_spec.specs.Printed.{lines_of}
 use Rattle.rl_spec.specs.Functions.{contract_function, reading_in}
 use Rattle.rl_spec.specs.Lowerer.{lower_of, lower_answer, lower_out}
-use Rattle.rl_spec.specs.Runner.{outcome_in, all_have_lem, given, values_of, run_of}
+use Rattle.rl_spec.specs.Runner.{outcome_in, all_have, given, values_of, run_of}
 use Rattle.rl_theorems.specs.Reading.EncodedAnswers.{bytes_by}
 use Rattle.rl_theorems.specs.Lowering.LowerFrame.{begins}
 use Rattle.rl_theorems.specs.DemandThree.OverRecords.{free_texts, last_ensured, asked}
@@ -65,7 +65,7 @@ NoReservedText im = (t : ℕ) → t < size_of im Texts → Begins (ascii "__ensu
 abbrev pub NoBareLast : Image → ℕ → Type 0
 NoBareLast im f =
     0 < (function_at im f).ensured.count → 2 ≤ (function_at im f).body.count →
-    (record_of_lem im Statements (entry_of im ((function_at im f).body.first + (function_at im f).body.count - 1))).kind ≢ 65
+    (record_of im Statements (entry_of im ((function_at im f).body.first + (function_at im f).body.count - 1))).kind ≢ 65
 
 -- where the runner refuses the function's run in s, it refuses that in t by the same number; otherwise its run in t and its contract
 -- reading in s are alike in outcome, value, message or number of the fault, texts by bytes, and in steps used
@@ -80,7 +80,7 @@ RunsAsRead s t k f args budget =
 -- at that length. The two runs have a work slice of k' entries. The texts of the values are the original's
 pub first_half : (s : List ℕ) (k f room n : ℕ) → AllBytes s → lower_answer (lower_of s k f room) ≡ Lowered n →
     NoReservedText (image_of s) → NoBareLast (image_of s) f →
-    (k' : ℕ) (args : Arguments) (budget : ℕ) → all_have_lem (counts_of s) (given args) ≡ true →
+    (k' : ℕ) (args : Arguments) (budget : ℕ) → all_have (counts_of s) (given args) ≡ true →
     RunsAsRead s (take n (lower_out room (lower_of s k f room))) k' f args budget
 first_half s k f room n bytes e texts last k' args budget own = (
   out_refused s k f room n bytes e k' args budget own,
@@ -101,11 +101,11 @@ pub data Names (im : Image) (x : Rec) : ℕ → Type 0 where
 -- the expression n stands at some depth in the expression i: it is i, or stands in one that i names
 pub data StandsIn (im : Image) (n : ℕ) : ℕ → Type 0 where
   itself : StandsIn im n n
-  deeper : {i j : ℕ} → Names im (record_of_lem im Expressions i) j → StandsIn im n j → StandsIn im n i
+  deeper : {i j : ℕ} → Names im (record_of im Expressions i) j → StandsIn im n j → StandsIn im n i
 
 -- no record of this kind stands at any depth in the expression i
 abbrev pub NoneIn : Image → ℕ → ℕ → Type 0
-NoneIn im kind i = (n : ℕ) → StandsIn im n i → (record_of_lem im Expressions n).kind ≢ kind
+NoneIn im kind i = (n : ℕ) → StandsIn im n i → (record_of im Expressions n).kind ≢ kind
 
 -- the j-th argument of a call, and the name of the j-th parameter of a function
 abbrev pub argument : Image → ℕ → ℕ → ℕ
@@ -240,12 +240,12 @@ tested {im} {x} (one_or_none c e n) test h = option_passes im test x c h e
 tested {im} {x} (entry c k {l} {r} {m} e t q) test h = entry_passes im test x c k l r m h e t q
 
 pub in_depth : (im : Image) (ok : Rec → Bool) (i : ℕ) → throughout im ok i ≡ true → (n : ℕ) → StandsIn im n i →
-    ok (record_of_lem im Expressions n) ≡ true
+    ok (record_of im Expressions n) ≡ true
 in_depth im ok i h n itself = ok_itself im ok i h
 in_depth im ok i h n (deeper {j = j} x d) = in_depth im ok j (throughout_named im ok i j h (tested x)) n d
 
 pub none_in : (im : Image) (kind i : ℕ) → throughout im (is_not kind) i ≡ true → NoneIn im kind i
-none_in im kind i h n d = is_not_lem kind (record_of_lem im Expressions n) (in_depth im (is_not kind) i h n d)
+none_in im kind i h n d = is_not_lem kind (record_of im Expressions n) (in_depth im (is_not kind) i h n d)
 
 pub no_identifier : (call : ℕ) → (call_at opens call).args.count ≡ 1 → throughout opens (is_not 30) (argument opens call 0) ≡ true →
     NoIdentifier opens call

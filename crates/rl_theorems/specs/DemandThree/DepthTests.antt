@@ -13,7 +13,7 @@ use Rattle.rl_spec.specs.declared.Target.TheVariants.{Expression}
 use Rattle.rl_spec.specs.declared.Sort.{Sort}
 use Rattle.rl_spec.specs.declared.Sort.TheVariants.{Raw, Byte, Scalar, Part, One, Maybe, Many, Range, OperandSort, Operand}
 use Rattle.rl_spec.specs.Schema.{sort_of, fields_of}
-use Rattle.rl_spec.specs.Image.{Field, Rec, Image, record_of_lem, size_of, field_of, first, second, entry_of, text_of}
+use Rattle.rl_spec.specs.Image.{Field, Rec, Image, record_of, size_of, field_of, first, second, entry_of, text_of}
 use Rattle.rl_spec.specs.Values.{ConstVal}
 use Rattle.rl_spec.specs.Tree.{number, below, descend, expr_tree}
 use Rattle.rl_spec.specs.Fold.{const_eval}
@@ -88,7 +88,7 @@ module _ (im : Image) (test : ℕ → Bool) where
 
 module _ (im : Image) (ok : Rec → Bool) where
   abbrev step : ℕ → (ℕ → Bool) → Bool
-  step i deeper = ok (record_of_lem im Expressions i) && all_named im deeper (record_of_lem im Expressions i)
+  step i deeper = ok (record_of im Expressions i) && all_named im deeper (record_of im Expressions i)
 
   unfoldable pub throughout : ℕ → Bool
   throughout = descend (λ _. false) step
@@ -97,8 +97,8 @@ module _ (im : Image) (ok : Rec → Bool) where
   unfolding throughout
   parts i h = sym (descend_is (λ _. false) step i) ∙ h
 
-  pub ok_itself : (i : ℕ) → throughout i ≡ true → ok (record_of_lem im Expressions i) ≡ true
-  ok_itself i h = and_left (ok (record_of_lem im Expressions i)) _ (parts i h)
+  pub ok_itself : (i : ℕ) → throughout i ≡ true → ok (record_of im Expressions i) ≡ true
+  ok_itself i h = and_left (ok (record_of im Expressions i)) _ (parts i h)
 
   earlier : (j : ℕ) (b : Bool) → cond b (throughout j) false ≡ true → throughout j ≡ true
   earlier j true h = h
@@ -106,9 +106,9 @@ module _ (im : Image) (ok : Rec → Bool) where
 
   -- of an expression that passes every test that all do which the i-th names
   pub throughout_named : (i j : ℕ) → throughout i ≡ true →
-      ((test : ℕ → Bool) → all_named im test (record_of_lem im Expressions i) ≡ true → test j ≡ true) → throughout j ≡ true
+      ((test : ℕ → Bool) → all_named im test (record_of im Expressions i) ≡ true → test j ≡ true) → throughout j ≡ true
   throughout_named i j h x =
-      earlier j (nat_lt j i) (x (below i (λ _. false) throughout) (and_right (ok (record_of_lem im Expressions i)) _ (parts i h)))
+      earlier j (nat_lt j i) (x (below i (λ _. false) throughout) (and_right (ok (record_of im Expressions i)) _ (parts i h)))
 
 abbrev pub is_not : ℕ → Rec → Bool
 is_not kind x = not (x.kind == kind)

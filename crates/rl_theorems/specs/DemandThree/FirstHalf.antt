@@ -17,7 +17,7 @@ use Rattle.rl_spec.specs.Reading.{run_function}
 use Rattle.rl_spec.specs.Mapped.{map_value}
 use Rattle.rl_spec.specs.Functions.{contract_function, reading_in}
 use Rattle.rl_spec.specs.Lowerer.{made, lower_of, lower_answer, lower_out}
-use Rattle.rl_spec.specs.Runner.{outcome_in, all_have_lem, given, values_of, run_of}
+use Rattle.rl_spec.specs.Runner.{outcome_in, all_have, given, values_of, run_of}
 use Rattle.rl_images.specs.Reading.Decode.{accepted_encodes}
 use Rattle.rl_theorems.specs.Lowering.LoweredRuns.{Premises}
 use Rattle.rl_theorems.specs.Lowering.LoweredFunctions.{lowered_reads}
@@ -52,7 +52,7 @@ module _ (s : List ℕ) (k f room : ℕ) (im' : Image) (bytes : AllBytes s) (e :
       subst (Keeps im) (sym same)
       (followed_keeps im im' f (original_well_formed s k f room im' bytes e) (made_followed s k f room im' bytes e))
 
-  module _ (k' : ℕ) (args : Arguments) (budget : ℕ) (texts : all_have_lem (counts_of s) (given args) ≡ true) where
+  module _ (k' : ℕ) (args : Arguments) (budget : ℕ) (texts : all_have (counts_of s) (given args) ≡ true) where
     -- THEOREM: where the runner refuses the original's run, it refuses the lowered one's by the same number, at the same place
     pub first_half_refused : (q : Cause) (p : ℕ) → run_of s k' f args budget ≡ Refused q p → run_of (encode im') k' f args budget ≡ Refused q p
     first_half_refused = refused_alike s (encode im') original_whole made_whole made_keeps k' f args budget texts
@@ -74,7 +74,7 @@ module _ (s : List ℕ) (k f room : ℕ) (im' : Image) (bytes : AllBytes s) (e :
 
 -- the same of the bytes that stand in the output slice at the length that lowering answers
 module _ (s : List ℕ) (k f room n : ℕ) (bytes : AllBytes s) (e : lower_answer (lower_of s k f room) ≡ Lowered n) (k' : ℕ) (args : Arguments)
-    (budget : ℕ) (texts : all_have_lem (counts_of s) (given args) ≡ true) where
+    (budget : ℕ) (texts : all_have (counts_of s) (given args) ≡ true) where
   abbrev out : List ℕ
   out = take n (lower_out room (lower_of s k f room))
 

@@ -8,7 +8,7 @@ use Rattle.rl_spec.specs.Image.{Image, num, pair, encode}
 use Rattle.rl_spec.specs.Functions.{plain_function, reading_in}
 use Rattle.rl_spec.specs.Lower.{lowered}
 use Rattle.rl_spec.specs.Lowerer.{made, or_limit, lower_of}
-use Rattle.rl_spec.specs.Runner.{all_have_lem, ran_in, run_of}
+use Rattle.rl_spec.specs.Runner.{all_have, ran_in, run_of}
 use Rattle.rl_theorems.specs.Reading.EncodedAnswers.{lowered_encoded, well_formed_by}
 use Rattle.rl_examples.specs.MarkedImages.{made as a, bool, identifier, parameter, clause, function, build}
 use Rattle.rl_examples.specs.LowerExamples.{loop_and_last, loop_and_last_lowered, loop_and_last_whole, lowering, running}
@@ -131,5 +131,5 @@ last_made =
 -- ---- what the computation of runs and readings opens
 
 unfoldable pub answering : Unit {0}
-unfolding decoding lowering running run_of ran_in all_have_lem reading_in plain_function
+unfolding decoding lowering running run_of ran_in all_have reading_in plain_function
 answering = tt

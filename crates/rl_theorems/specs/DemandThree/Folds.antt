@@ -6,7 +6,7 @@ use Rattle.std.proofs.Math.Option.{Option, none, some}
 use Rattle.std.proofs.Common.{arith, le_refl, le_trans}
 use Rattle.rl_spec.specs.Values.{ConstVal}
 use Rattle.rl_spec.specs.Fold.{Binding, unary_value, unary_folded, binary_value, binary_folded, lookup, const_eval}
-use Rattle.rl_spec.specs.Tree.{Expr, null, literal, identifier, unary, binary, grouping, assign, ok_literal, err_literal, is_err_lem, result_unwrap_lem, other}
+use Rattle.rl_spec.specs.Tree.{Expr, null, literal, identifier, unary, binary, grouping, assign, ok_literal, err_literal, is_err, result_unwrap, other}
 use Rattle.rl_spec.specs.Run.{Value, Env, spent, Result, got, ended, Run, and_then, ◌>>=◌, ◌>>◌, give, or_fault, tick, operand, folds, find, unary_on, binary_on, eval}
 
 -- the value v, the bindings as they were and at most n left; or the budget is spent
@@ -86,6 +86,6 @@ module _ {T : Type 0} (bytes : T → List ℕ) where
   folds_run names env h (assign x a) v e n = absurd (none≢some e)
   folds_run names env h (ok_literal a) v e n = absurd (none≢some e)
   folds_run names env h (err_literal a) v e n = absurd (none≢some e)
-  folds_run names env h (is_err_lem a) v e n = absurd (none≢some e)
-  folds_run names env h (result_unwrap_lem a) v e n = absurd (none≢some e)
+  folds_run names env h (is_err a) v e n = absurd (none≢some e)
+  folds_run names env h (result_unwrap a) v e n = absurd (none≢some e)
   folds_run names env h other v e n = absurd (none≢some e)

@@ -6,7 +6,7 @@ use Rattle.std.proofs.Math.Option.{Option, none, some}
 use Rattle.rl_spec.specs.Values as value
 use Rattle.rl_spec.specs.Values.{ConstVal}
 use Rattle.rl_spec.specs.Fold.{Binding, unary_value, binary_value, const_eval}
-use Rattle.rl_spec.specs.Tree.{Expr, null, literal, identifier, unary, binary, grouping, assign, ok_literal, err_literal, is_err_lem, result_unwrap_lem, other}
+use Rattle.rl_spec.specs.Tree.{Expr, null, literal, identifier, unary, binary, grouping, assign, ok_literal, err_literal, is_err, result_unwrap, other}
 use Rattle.rl_spec.specs.Run.{nothing, folded, Value, plain, ok, err, Env, Outcome, stopped, returned, Result, got, ended, Run, and_then, ◌>>=◌, ◌>>◌, give, halt, or_fault, tick, charge, truth, plain_of, err_of, unwrapped, operand, find, look, unary_on, binary_on, eval}
 use Rattle.rl_spec.specs.Reading.{Check, unless, violated, check, checks}
 use Rattle.rl_theorems.specs.Trees.NamesIn.{NamesIn}
@@ -122,8 +122,8 @@ module _ {T : Type 0} (bytes : T → List ℕ) where
   evals_still (assign x e) h = absurd h.0
   evals_still (ok_literal e) h = then ticks (λ _. then (evals_still e h) (λ v. then (plain_ofs v) (λ p. gives _)))
   evals_still (err_literal e) h = then ticks (λ _. then (evals_still e h) (λ v. then (plain_ofs v) (λ p. gives _)))
-  evals_still (is_err_lem e) h = then ticks (λ _. then (evals_still e h) (λ v. then (err_ofs v) (λ b. gives _)))
-  evals_still (result_unwrap_lem e) h = then ticks (λ _. then (evals_still e h) unwrappeds)
+  evals_still (is_err e) h = then ticks (λ _. then (evals_still e h) (λ v. then (err_ofs v) (λ b. gives _)))
+  evals_still (result_unwrap e) h = then ticks (λ _. then (evals_still e h) unwrappeds)
   evals_still other h = then ticks (λ _. halts _)
 
   -- ---- lists of checks

@@ -7,7 +7,7 @@ use Rattle.std.proofs.Common.{ap₂, sym, ◌∙◌, subst, true≢false}
 use Rattle.std.proofs.Math.Option.{Option, none, some}
 use Rattle.rl_spec.specs.Values.{ConstVal, same_text}
 use Rattle.rl_spec.specs.Fold.{Binding, unary_folded, binary_folded, lookup, const_eval}
-use Rattle.rl_spec.specs.Tree.{Expr, null, literal, identifier, unary, binary, grouping, assign, ok_literal, err_literal, is_err_lem, result_unwrap_lem, other}
+use Rattle.rl_spec.specs.Tree.{Expr, null, literal, identifier, unary, binary, grouping, assign, ok_literal, err_literal, is_err, result_unwrap, other}
 use Rattle.rl_spec.specs.FnContracts.{Param}
 use Rattle.rl_spec.specs.Prove.{bound, bind_arguments}
 use Rattle.rl_spec.specs.Mapped.{map_const, Text}
@@ -39,8 +39,8 @@ const_closed bytes names names' (grouping e) h = const_closed bytes names names'
 const_closed bytes names names' (assign x e) h = refl
 const_closed bytes names names' (ok_literal e) h = refl
 const_closed bytes names names' (err_literal e) h = refl
-const_closed bytes names names' (is_err_lem e) h = refl
-const_closed bytes names names' (result_unwrap_lem e) h = refl
+const_closed bytes names names' (is_err e) h = refl
+const_closed bytes names names' (result_unwrap e) h = refl
 const_closed bytes names names' other h = refl
 
 apart_if : (s t : Text) (b : Bool) → same_text t s ≡ b → same_text s t ≡ false → b ≡ false

@@ -22,7 +22,7 @@ use Rattle.rl_spec.specs.Run as run
 use Rattle.rl_spec.specs.Reading.{Function, run_function}
 use Rattle.rl_spec.specs.Mapped.{map_value, map_outcome, Text}
 use Rattle.rl_spec.specs.Functions.{plain_function, contract_function}
-use Rattle.rl_spec.specs.Runner.{plain_of, value_of, as_plain, as_value, as_outcome, outcome_of, outcome_in, all_have_lem, given, values_of, ran_in, is_for, run_of}
+use Rattle.rl_spec.specs.Runner.{plain_of, value_of, as_plain, as_value, as_outcome, outcome_of, outcome_in, all_have, given, values_of, ran_in, is_for, run_of}
 use Rattle.rl_laws.specs.Tests.{by_ltb}
 use Rattle.rl_images.specs.Encoding.ReaderKnows.{counts}
 use Rattle.rl_images.specs.Encoding.Encoded.{encoded_accepted}
@@ -96,7 +96,7 @@ both_run true true true r r' o n e = no_run _ _ o n e
 both_run true true false r r' o n e = refl
 
 module _ (s s' : List ℕ) (w : Whole s) (w' : Whole s') (to : Keeps (image_of s) (image_of s')) (k f : ℕ) (args : Arguments) (budget : ℕ)
-    (texts : all_have_lem (counts_of s) (given args) ≡ true) where
+    (texts : all_have (counts_of s) (given args) ≡ true) where
   abbrev im : Image
   im = image_of s
 
@@ -112,14 +112,14 @@ module _ (s s' : List ℕ) (w : Whole s) (w' : Whole s') (to : Keeps (image_of s
   first_runs : 8192 ≤ k → run_of s k f args budget ≡ admitted there fits (nat_lt 1000000 budget) (ran_in im f (given args) budget)
   unfolding run_of
   first_runs l =
-      let h : all_have_lem (counts im) (given args) ≡ true =
+      let h : all_have (counts im) (given args) ≡ true =
       values_have im im (keeps_all im) (counts_of s) (counts im) (section_size s Texts) refl (given args) texts in
       rw (whole_accepted s k w l, h) refl
 
   second_runs : 8192 ≤ k → run_of s' k f args budget ≡ admitted there fits (nat_lt 1000000 budget) (ran_in im' f (given args) budget)
   unfolding run_of
   second_runs l =
-      let h : all_have_lem (counts im') (given args) ≡ true =
+      let h : all_have (counts im') (given args) ≡ true =
       values_have im im' to (counts_of s) (counts im') (section_size s Texts) refl (given args) texts in
       by_ltb f (size_of im Functions)
       (λ d. rw (whole_accepted s' k w' l, h, to.functions, to.params f d) refl)

@@ -20,7 +20,7 @@ use Rattle.rl_spec.specs.declared.Section.TheVariants.{Expressions, Functions, C
 use Rattle.rl_spec.specs.declared.Value.TheVariants.{Plain as Bare}
 use Rattle.rl_spec.specs.declared.Violation.{Violation}
 use Rattle.rl_spec.specs.declared.Violation.TheVariants.{Refinement, Requires}
-use Rattle.rl_spec.specs.Schema.{limits, sections, in_section, sort_of, fields_of, fields_in_lem, schema}
+use Rattle.rl_spec.specs.Schema.{limits, sections, in_section, sort_of, fields_of, fields_in, schema}
 use Rattle.rl_spec.specs.Utf8.{within, utf8_char, begins, width_by, char_width, octets, utf8}
 use Rattle.rl_spec.specs.Bytes.{num_at, u16_at, u32_at, past}
 use Rattle.rl_spec.specs.Fields.{zeros, kind_of_statement, allowed, child_height, entry_at, range_of, part_of, byte_in, operand_sort_of, refer_to, refer_or_none, entries_from, list_of, operand_of, value_of, field_at, fields_from, record_at}
@@ -38,7 +38,7 @@ use Rattle.rl_spec.specs.Run.{find, eval}
 use Rattle.rl_spec.specs.Reading.{checks, stmt, body, branch_or, or_else, top, run_function, reading}
 use Rattle.rl_spec.specs.Mapped.{map_expr, map_body}
 use Rattle.rl_spec.specs.Functions.{refinement_checks, plain_function, contract_function, reading_in}
-use Rattle.rl_spec.specs.Runner.{outcome_in, all_have_lem, ran_of, ran_in, run_of}
+use Rattle.rl_spec.specs.Runner.{outcome_in, all_have, ran_of, ran_in, run_of}
 use Rattle.rl_spec.specs.Message.{decimal_by, decimal, message_by, opening, message_of}
 use Rattle.rl_spec.specs.Printed.{output_of}
 use Rattle.rl_spec.specs.Lower.{lowered}
@@ -163,7 +163,7 @@ module _ (im : Image) (b : are_bytes (encode im) ≡ true) (a : answer_of (encod
 -- ---- by computation. What it opens of decoding, of folding, of proving and of reading contracts:
 
 unfoldable pub decoding : Unit {0}
-unfolding text_bytes text_records ascii encode encode_counts encode_sections encode_records encode_record encode_fields bytes_of fields_of fields_in_lem schema sort_of answer_of read_of header_of counts_from limits counts_of body_of end_of sections_from sections records_from record_at in_section fields_from field_at value_of refer_to refer_or_none allowed kind_of_statement child_height entry_at entries_from list_of range_of part_of byte_in operand_sort_of operand_of zeros past u16_at u32_at num_at utf8 octets char_width width_by begins utf8_char within image_of sections_in records_in record_in next_at end_at fields_at widths_of
+unfolding text_bytes text_records ascii encode encode_counts encode_sections encode_records encode_record encode_fields bytes_of fields_of fields_in schema sort_of answer_of read_of header_of counts_from limits counts_of body_of end_of sections_from sections records_from record_at in_section fields_from field_at value_of refer_to refer_or_none allowed kind_of_statement child_height entry_at entries_from list_of range_of part_of byte_in operand_sort_of operand_of zeros past u16_at u32_at num_at utf8 octets char_width width_by begins utf8_char within image_of sections_in records_in record_in next_at end_at fields_at widths_of
 decoding = tt
 
 unfoldable pub folding : Unit {0}
@@ -214,7 +214,7 @@ runs_14 budget enough =
     ap ran_of (run_same (text_of returns_true_lowered) (plain_function returns_true_lowered 0) [] 9 budget tt enough)
 
 ends_14 : EndsSo returns_true 0 (Returned (Bare (Const (Truth true)))) 9
-unfolding decoding folding proving running lowering all_have_lem
+unfolding decoding folding proving running lowering all_have
 ends_14 =
     record {
       image = refl;

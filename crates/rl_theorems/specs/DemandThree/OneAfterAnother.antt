@@ -12,9 +12,9 @@ use Rattle.rl_spec.specs.declared.Outcome.{Outcome}
 use Rattle.rl_spec.specs.declared.RunAnswer.{RunAnswer}
 use Rattle.rl_spec.specs.declared.RunAnswer.TheVariants.{Ran, Refused}
 use Rattle.rl_spec.specs.declared.Section.TheVariants.{Expressions, Clauses, Functions}
-use Rattle.rl_spec.specs.Schema.{sort_of, fields_of, fields_in_lem, schema}
+use Rattle.rl_spec.specs.Schema.{sort_of, fields_of, fields_in, schema}
 use Rattle.rl_spec.specs.Read.{counts_of}
-use Rattle.rl_spec.specs.Image.{Image, record_of_lem, size_of, text_of, encode, image_of, AllBytes, WellFormed}
+use Rattle.rl_spec.specs.Image.{Image, record_of, size_of, text_of, encode, image_of, AllBytes, WellFormed}
 use Rattle.rl_spec.specs.Tree.{ascii, number}
 use Rattle.rl_spec.specs.Records.{function_at}
 use Rattle.rl_spec.specs.Run as run
@@ -22,7 +22,7 @@ use Rattle.rl_spec.specs.Reading.{run_function}
 use Rattle.rl_spec.specs.Mapped.{Text, map_value}
 use Rattle.rl_spec.specs.Functions.{contract_function, reading_in}
 use Rattle.rl_spec.specs.Lowerer.{made, lower_of, lower_answer, lower_out}
-use Rattle.rl_spec.specs.Runner.{outcome_in, all_have_lem, given, values_of, run_of}
+use Rattle.rl_spec.specs.Runner.{outcome_in, all_have, given, values_of, run_of}
 use Rattle.rl_images.specs.Images.SchemaSorts.{kind_range}
 use Rattle.rl_images.specs.Images.FunctionFields.{function_fits}
 use Rattle.rl_theorems.specs.Reading.EncodedBytes.{encoded_bytes}
@@ -50,13 +50,13 @@ pub data BytesInTurn : List ℕ → List ℕ → List ℕ → Type 0 where
 -- no name that begins with `__ensure_ret_` is looked up (30) or assigned (39) at any depth of the expression i
 abbrev pub NoReservedIn : Image → ℕ → Type 0
 NoReservedIn im i =
-    (n : ℕ) → StandsIn im n i → ((record_of_lem im Expressions n).kind ≡ 30) ⊎ ((record_of_lem im Expressions n).kind ≡ 39) →
-    Begins (ascii "__ensure_ret_") (text_of im (number (record_of_lem im Expressions n) 1)) → ⊥
+    (n : ℕ) → StandsIn im n i → ((record_of im Expressions n).kind ≡ 30) ⊎ ((record_of im Expressions n).kind ≡ 39) →
+    Begins (ascii "__ensure_ret_") (text_of im (number (record_of im Expressions n) 1)) → ⊥
 
 -- nor in an ensures of the function: in no expression that its clauses name, which are their conditions and messages
 abbrev pub NoReservedEnsures : Image → ℕ → Type 0
 NoReservedEnsures im f =
-    (j i : ℕ) → j < (function_at im f).ensured.count → Names im (record_of_lem im Clauses ((function_at im f).ensured.first + j)) i → NoReservedIn im i
+    (j i : ℕ) → j < (function_at im f).ensured.count → Names im (record_of im Clauses ((function_at im f).ensured.first + j)) i → NoReservedIn im i
 
 -- where the runner refuses the run in s, it refuses that in t by the same number; otherwise both end alike, after as many steps
 abbrev pub RunsAsBefore : List ℕ → List ℕ → ℕ → ℕ → Arguments → ℕ → Type 0
@@ -79,14 +79,14 @@ module _ (im : Image) (wf : WellFormed im) (f : ℕ) (there : f < size_of im Fun
       tree_names im (NoReservedIn im) (λ i c q e n d. q n (deeper (one c e) d)) (λ i c q e l n d. q n (deeper (entry c 0 e refl l) d)) _ _
       (λ i q e. free _ (q i itself (inl e))) (λ i q e. free _ (q i itself (inr e))) i q
 
-  clause_kind : (j : ℕ) → j < (function_at im f).ensured.count → (record_of_lem im Clauses (at j)).kind ≡ 81
+  clause_kind : (j : ℕ) → j < (function_at im f).ensured.count → (record_of im Clauses (at j)).kind ≡ 81
   unfolding function_at
   clause_kind j l =
       let x = function_fits im wf f there in
       omega (arith, kind_range Clauses _ (wf.fits Clauses (at j) (omega (arith, x.ensured))).kind)
 
   clean_ensures : CleanChecks (contract_function im f).ensures
-  unfolding fields_of fields_in_lem schema sort_of
+  unfolding fields_of fields_in schema sort_of
   clean_ensures =
       ensures_clean im f (λ j l. let e = clause_kind j l in (
         clean_at _ (h j _ l (one 0 (ap (λ k. sort_of (slice_index (fields_of k) 0)) e))),
@@ -151,7 +151,7 @@ same_answer o o' m m' e = ap (answer (o, m)) e
 -- ---- THEOREMS, for a work slice of k entries for the runs, and values whose texts are those of the first image
 
 module _ (s last : List ℕ) (fs : List ℕ) (bytes : AllBytes s) (in_turn : BytesInTurn s fs last) (f k : ℕ) (args : Arguments) (budget : ℕ)
-    (texts : all_have_lem (counts_of s) (given args) ≡ true) where
+    (texts : all_have (counts_of s) (given args) ≡ true) where
   abbrev im : Image
   im = image_of s
 

@@ -11,7 +11,7 @@ use Rattle.rl_spec.specs.declared.Plain.TheVariants.{Const}
 use Rattle.rl_spec.specs.declared.RunAnswer.TheVariants.{Ran}
 use Rattle.rl_spec.specs.declared.Value.TheVariants.{Plain as Bare}
 use Rattle.rl_spec.specs.declared.Section.TheVariants.{Expressions, Clauses}
-use Rattle.rl_spec.specs.Image.{num, pair, Rec, Image, record_of_lem, text_of, encode, image_of, AllBytes}
+use Rattle.rl_spec.specs.Image.{num, pair, Rec, Image, record_of, text_of, encode, image_of, AllBytes}
 use Rattle.rl_spec.specs.Tree.{ascii, number}
 use Rattle.rl_spec.specs.Records.{function_at}
 use Rattle.rl_spec.specs.Values as value
@@ -114,8 +114,8 @@ no_reserved : (f : ℕ) → (function_at first f).ensured.first ≡ 1 → (funct
 unfolding decoding lowering begins all_named throughout
 no_reserved f a n j i l x m d k =
     let z : (function_at first f).ensured.first + j ≡ 1 = omega (arith, a, n, l) in
-    let y : Names first (record_of_lem first Clauses 1) i = rw z at x in
-    begins_not (ascii "__ensure_ret_") _ (free_name (record_of_lem first Expressions m) (in_depth first free i (tested y (throughout first free) refl) m d) k)
+    let y : Names first (record_of first Clauses 1) i = rw z at x in
+    begins_not (ascii "__ensure_ret_") _ (free_name (record_of first Expressions m) (in_depth first free i (tested y (throughout first free) refl) m d) k)
 
 -- a body of one statement
 one_statement : (f : ℕ) → (function_at first f).body.count ≡ 1 → NoBareLast first f

@@ -13,11 +13,11 @@ use Rattle.rl_spec.specs.declared.Section.TheVariants.{Texts, Expressions, State
 use Rattle.rl_spec.specs.declared.Sort.TheVariants.{One, Many}
 use Rattle.rl_spec.specs.declared.StatementForm.{StatementForm}
 use Rattle.rl_spec.specs.declared.Target.TheVariants.{Expression}
-use Rattle.rl_spec.specs.Image.{Image, records_of, size_of, no_record, record_of_lem, field_of, second, entry_of, text_of}
+use Rattle.rl_spec.specs.Image.{Image, records_of, size_of, no_record, record_of, field_of, second, entry_of, text_of}
 use Rattle.rl_spec.specs.Values.{ConstVal, same_text}
 use Rattle.rl_spec.specs.Tree.{ascii, number, expr_tree, optional_tree}
 use Rattle.rl_spec.specs.Fold.{const_eval}
-use Rattle.rl_spec.specs.Statement.{Body, Item, body_from, as_statement, statement_by, item_by_lem, item_tree}
+use Rattle.rl_spec.specs.Statement.{Body, Item, body_from, as_statement, statement_by, item_by, item_tree}
 use Rattle.rl_spec.specs.Ranges.{up_from, numbers_in}
 use Rattle.rl_spec.specs.Records.{param_at, clause_at, function_at, call_at}
 use Rattle.rl_spec.specs.FnContracts.{ContractClause, param_of, clause_of, contracts_of, arguments_of}
@@ -80,7 +80,7 @@ module _ (im : Image) where
   -- the condition of a clause, and its message where it has one
   abbrev pub CleanClause : ℕ → Type 0
   CleanClause c =
-      CleanAt (number (record_of_lem im Clauses c) 0) × ((number (record_of_lem im Clauses c) 1 ≢ 65535) → CleanAt (number (record_of_lem im Clauses c) 1))
+      CleanAt (number (record_of im Clauses c) 0) × ((number (record_of im Clauses c) 1 ≢ 65535) → CleanAt (number (record_of im Clauses c) 1))
 
   abbrev CleanCheck : Text → ContractClause ℕ → Type 0
   CleanCheck d c = Clean (map_expr (text_of im) c.condition) × Clean (message_or d (Option.map (map_expr (text_of im)) c.message))
@@ -99,7 +99,7 @@ module _ (im : Image) where
       let a : ℕ = (function_at im f).ensured.first in
       checks_clean d (map (clause_of im) (numbers_in (function_at im f).ensured))
       (all_from (CleanCheck d) (clause_of im) _ _
-      (λ j l. (clean_tree _ (h j l).0, message_clean d (optional_unless (field_of (record_of_lem im Clauses (a + j)) 1) (h j l).1))))
+      (λ j l. (clean_tree _ (h j l).0, message_clean d (optional_unless (field_of (record_of im Clauses (a + j)) 1) (h j l).1))))
 
   -- where no text of the image is reserved
   module _ (free : (t : ℕ) → t < size_of im Texts → (rest : Text) × (reserved ++ rest ≡ text_of im t) → ⊥) where
@@ -117,19 +117,19 @@ module _ (im : Image) where
 
   -- ---- a bare last expression
 
-  module _ (i : ℕ) (other : (record_of_lem im Statements i).kind ≡ 65 → ⊥) where
+  module _ (i : ℕ) (other : (record_of im Statements i).kind ≡ 65 → ⊥) where
     record NotBare (form : StatementForm) : Type 0 where
-      says : (item : ℕ → Item ℕ) → bare (map_stmt (text_of im) (as_statement (item_by_lem im form item))) ≡ none
+      says : (item : ℕ → Item ℕ) → bare (map_stmt (text_of im) (as_statement (item_by im form item))) ≡ none
 
     by_test : (b : Bool) (x y : StatementForm) → (b ≡ true → NotBare x) → NotBare y → NotBare (cond b x y)
     by_test true x y f g = f refl
     by_test false x y f g = g
 
-    by_kind : (m : ℕ) (x y : StatementForm) → ((record_of_lem im Statements i).kind ≡ m → NotBare x) → NotBare y →
-        NotBare (cond ((record_of_lem im Statements i).kind == m) x y)
-    by_kind m x y f g = by_test ((record_of_lem im Statements i).kind == m) x y (λ e. f (eqb-true (record_of_lem im Statements i).kind m e)) g
+    by_kind : (m : ℕ) (x y : StatementForm) → ((record_of im Statements i).kind ≡ m → NotBare x) → NotBare y →
+        NotBare (cond ((record_of im Statements i).kind == m) x y)
+    by_kind m x y f g = by_test ((record_of im Statements i).kind == m) x y (λ e. f (eqb-true (record_of im Statements i).kind m e)) g
 
-    form_other : NotBare (statement_by (record_of_lem im Statements i))
+    form_other : NotBare (statement_by (record_of im Statements i))
     unfolding statement_by map_stmt
     form_other =
         by_kind 64 _ _ (λ e. record { says = λ item. refl })
@@ -149,12 +149,12 @@ module _ (im : Image) where
   abbrev rows : ℕ → ℕ → Body Text
   rows a n = map_body (text_of im) (body_from (map (λ k. item_tree im (entry_of im k)) (up_from a n)))
 
-  last_not_bare : (n a : ℕ) → ((record_of_lem im Statements (entry_of im (a + n))).kind ≢ 65) → NoBareLast (rows a (suc n))
+  last_not_bare : (n a : ℕ) → ((record_of im Statements (entry_of im (a + n))).kind ≢ 65) → NoBareLast (rows a (suc n))
   unfolding up_from map_stmt
   last_not_bare zero a h = let z : a + 0 ≡ a = omega arith in not_bare (entry_of im a) (rw z at h)
   last_not_bare (suc n) a h = let s : a + suc n ≡ a + 1 + n = omega arith in last_not_bare n (a + 1) (rw s at h)
 
-  only_bare : (n a : ℕ) → (2 ≤ n → (record_of_lem im Statements (entry_of im (a + n - 1))).kind ≢ 65) → OnlyBare (rows a n)
+  only_bare : (n a : ℕ) → (2 ≤ n → (record_of im Statements (entry_of im (a + n - 1))).kind ≢ 65) → OnlyBare (rows a n)
   unfolding up_from map_stmt
   only_bare zero a h = tt
   only_bare (suc zero) a h = tt
@@ -169,7 +169,7 @@ module _ (im : Image) where
   some_ensured d b a (suc n) h = h (omega arith)
 
   pub last_ensured : (f : ℕ) → (0 < (function_at im f).ensured.count → 2 ≤ (function_at im f).body.count →
-      (record_of_lem im Statements (entry_of im ((function_at im f).body.first + (function_at im f).body.count - 1))).kind ≢ 65) →
+      (record_of im Statements (entry_of im ((function_at im f).body.first + (function_at im f).body.count - 1))).kind ≢ 65) →
       Ensured (contract_function im f).ensures (contract_function im f).body
   unfolding contract_function
   last_ensured f h = some_ensured (ascii "ensures violated") _ _ _ (λ l. only_bare _ _ (h l))
@@ -214,10 +214,10 @@ module _ (im : Image) where
       )
 
   -- None kind i: no expression of the kind stands in the i-th at any depth
-  module _ (None : ℕ → ℕ → Type 0) (own : (kind i : ℕ) → None kind i → (record_of_lem im Expressions i).kind ≢ kind)
-      (one : (kind i c : ℕ) → None kind i → sort_in (record_of_lem im Expressions i) c ≡ One Expression → None kind (number (record_of_lem im Expressions i) c))
-      (entry : (kind i c : ℕ) → None kind i → sort_in (record_of_lem im Expressions i) c ≡ Many Expression Expression 1 →
-      0 < second (field_of (record_of_lem im Expressions i) c) → None kind (entry_of im (number (record_of_lem im Expressions i) c + 0)))
+  module _ (None : ℕ → ℕ → Type 0) (own : (kind i : ℕ) → None kind i → (record_of im Expressions i).kind ≢ kind)
+      (one : (kind i c : ℕ) → None kind i → sort_in (record_of im Expressions i) c ≡ One Expression → None kind (number (record_of im Expressions i) c))
+      (entry : (kind i c : ℕ) → None kind i → sort_in (record_of im Expressions i) c ≡ Many Expression Expression 1 →
+      0 < second (field_of (record_of im Expressions i) c) → None kind (entry_of im (number (record_of im Expressions i) c + 0)))
       (f call : ℕ) where
     abbrev params : Interval
     params = (function_at im f).params

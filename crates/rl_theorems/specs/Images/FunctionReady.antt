@@ -6,7 +6,7 @@ use Rattle.std.proofs.Math.Option.{Option, none, some}
 use Rattle.std.proofs.Common.{arith}
 use Rattle.rl_spec.specs.declared.Section.TheVariants.{Texts, Expressions, Statements, Parameters, Clauses, Functions}
 use Rattle.rl_spec.specs.declared.Target.TheVariants.{Statement}
-use Rattle.rl_spec.specs.Image.{Rec, Image, size_of, record_of_lem, field_of, entry_of, text_of, Refers, Entries, heights}
+use Rattle.rl_spec.specs.Image.{Rec, Image, size_of, record_of, field_of, entry_of, text_of, Refers, Entries, heights}
 use Rattle.rl_spec.specs.Tree.{number}
 use Rattle.rl_spec.specs.Records.{param_at, clause_at, function_at}
 use Rattle.rl_spec.specs.Ranges.{up_from}
@@ -52,7 +52,7 @@ module _ {im : Image} (s : Sound im) where
   param_ready : (i : ℕ) → i < size_of im Parameters → RefinementReady im (param_of im i).name (param_of im i).refinement
   unfolding param_of param_at
   param_ready i p =
-      let x : ParameterFits im (record_of_lem im Parameters i) = parameter_says (record_of_lem im Parameters i) (s.fits Parameters i p) in
+      let x : ParameterFits im (record_of im Parameters i) = parameter_says (record_of im Parameters i) (s.fits Parameters i p) in
       refinement_ready (param_of im i).name (param_of im i).refinement (named (param_of im i).name x.name) (refinement_says im i x)
 
   params_from_lem : (k n : ℕ) → k + n ≤ size_of im Parameters → ParamsReady im (map (param_of im) (up_from k n))
@@ -69,7 +69,7 @@ module _ {im : Image} (s : Sound im) (f : ℕ) (low : Under 64 (heights im Expre
   clause_ready : (i : ℕ) → i < size_of im Clauses → ClauseReady (clause_at im i) (start im f)
   unfolding clause_at
   clause_ready i p =
-      let r : Rec = record_of_lem im Clauses i in
+      let r : Rec = record_of im Clauses i in
       let x : ClauseFits im r = clause_says r (s.fits Clauses i p) in
       record {
         condition = node_ready (number r 0) x.0;
@@ -90,8 +90,8 @@ module _ {im : Image} (s : Sound im) (f : ℕ) (low : Under 64 (heights im Expre
       ref (record { refers = there; low = under_at 32 (heights im Statements) lower (entry_of im a) }) (lines_ready n (a + 1) h.1)
 
   module _ (p : f < size_of im Functions) where
-    here : FunctionFits im f (record_of_lem im Functions f)
-    here = function_says (record_of_lem im Functions f) (s.fits Functions f p)
+    here : FunctionFits im f (record_of im Functions f)
+    here = function_says (record_of im Functions f) (s.fits Functions f p)
 
     pub start_ready : Ready (start im f)
     unfolding function_at

@@ -11,9 +11,9 @@ use Rattle.rl_spec.specs.declared.Target.{Target}
 use Rattle.rl_spec.specs.declared.Target.TheVariants.{Text, Expression, Statement, Branch, ElseBranch, Arm}
 use Rattle.rl_spec.specs.declared.Sort.{Sort}
 use Rattle.rl_spec.specs.declared.Sort.TheVariants.{Many}
-use Rattle.rl_spec.specs.Schema.{in_section, sort_of, fields_of, fields_in_lem, schema}
+use Rattle.rl_spec.specs.Schema.{in_section, sort_of, fields_of, fields_in, schema}
 use Rattle.rl_spec.specs.Fields.{takes}
-use Rattle.rl_spec.specs.Image.{Field, num, pair, no_record, Rec, Image, records_of, size_of, record_of_lem, entry_of, section_of, same_section, height_of, tallest_entry, tallest_child, heights, Entries, a_raw, a_part, a_list, FieldsFit, no_fields, ◌&◌, RecordFits}
+use Rattle.rl_spec.specs.Image.{Field, num, pair, no_record, Rec, Image, records_of, size_of, record_of, entry_of, section_of, same_section, height_of, tallest_entry, tallest_child, heights, Entries, a_raw, a_part, a_list, FieldsFit, no_fields, ◌&◌, RecordFits}
 use Rattle.rl_spec.specs.Make.{Context, Make, and_then, with_image, with_bytes, append, made, new_text, new_list, most, most_bytes}
 use Rattle.rl_images.specs.Encoding.Header.{bounded}
 use Rattle.rl_images.specs.Lowering.Grows.{size_grows, appended, with_text, text_records, list_records, records_own, Growing}
@@ -101,13 +101,13 @@ Lines h ns c = Refs c.image Statements h Statement Statement ns
 
 text_fits : (im : Image) (s : List ℕ) → Proper s →
     FieldsFit (with_bytes im (im.bytes ++ s)) Texts (size_of im Texts) 0 (map sort_of (fields_of 2)) (pair (length im.bytes) (length s) ∷ [])
-unfolding fields_of fields_in_lem schema sort_of
+unfolding fields_of fields_in schema sort_of
 text_fits im s p =
     let e : take (length s) (drop (length im.bytes) (im.bytes ++ s)) ≡ s = rw (drop-append_seam im.bytes s) (take-length s) in
     a_part {a = length im.bytes} {n = length s} (rw length-append (omega arith)) (rw e p.is_utf8) & no_fields
 
 text_low : (im : Image) (h : List ℕ) (f : Field) → tallest_child im Texts h (fields_of 2) (f ∷ []) ≡ 0
-unfolding tallest_child fields_of fields_in_lem schema sort_of
+unfolding tallest_child fields_of fields_in schema sort_of
 text_low im h f = refl
 
 text_kind : in_section Texts 2 ≡ true
@@ -147,7 +147,7 @@ lists_flat ElseBranch = refl
 lists_flat Arm = refl
 
 entry_fits : (im : Image) (i n : ℕ) → n < 65536 → RecordFits im Lists i (made 3 (num n ∷ []))
-unfolding in_section fields_of fields_in_lem schema sort_of
+unfolding in_section fields_of fields_in schema sort_of
 entry_fits im i n p = record { kind = refl; fields = a_raw {n = 2} p & no_fields; height = flat_height im Lists lists_flat i }
 
 refs_small : {im : Image} {o : Section} {h : ℕ} {l r : Target} (ns : List ℕ) → Sound im → Refs im o h l r ns → (j : ℕ) → j < length ns →
@@ -205,7 +205,7 @@ list_sure m ns c e xs =
 -- ---- an expression and a statement
 
 module _ {im : Image} (s : Sound im) (q : Section) (k : Growing q) (r : Rec) where
-  last_is : record_of_lem (appended im q (r ∷ [])) q (size_of im q) ≡ r
+  last_is : record_of (appended im q (r ∷ [])) q (size_of im q) ≡ r
   last_is = ap (λ (l : List Rec). get_or l (size_of im q) no_record) (own s q k (r ∷ [])) ∙ get_or-append_seam (records_of im q) r [] no_record
 
   last_there : size_of im q < size_of (appended im q (r ∷ [])) q

@@ -8,14 +8,14 @@ use Rattle.rl_spec.specs.declared.Target.{Target}
 use Rattle.rl_spec.specs.declared.Target.TheVariants.{Text, Expression, Statement, Branch, ElseBranch, Arm}
 use Rattle.rl_spec.specs.declared.Sort.{Sort}
 use Rattle.rl_spec.specs.Fields.{takes}
-use Rattle.rl_spec.specs.Image.{Field, Rec, Image, order_of, size_of, record_of_lem, entry_of, section_of, same_section, Refers, Entries, OperandFits, FieldFits, a_raw, a_byte, a_scalar, a_part, a_reference, an_option, a_list, a_range, a_sort, an_operand, FieldsFit, no_fields, ◌&◌}
+use Rattle.rl_spec.specs.Image.{Field, Rec, Image, order_of, size_of, record_of, entry_of, section_of, same_section, Refers, Entries, OperandFits, FieldFits, a_raw, a_byte, a_scalar, a_part, a_reference, an_option, a_list, a_range, a_sort, an_operand, FieldsFit, no_fields, ◌&◌}
 use Rattle.rl_images.specs.Lowering.Grows.{Longer, Grows, longer_length, longer_part, size_grows, record_kept, entry_kept}
 
 pub record Keeps (im im' : Image) : Type 0 where
   pub bytes : Longer im.bytes im'.bytes
   pub sizes : (o : Section) → size_of im o ≤ size_of im' o
   pub entries : (k : ℕ) → k < size_of im Lists → entry_of im' k ≡ entry_of im k
-  pub kinds : (n : ℕ) → n < size_of im Statements → (record_of_lem im' Statements n).kind ≡ (record_of_lem im Statements n).kind
+  pub kinds : (n : ℕ) → n < size_of im Statements → (record_of im' Statements n).kind ≡ (record_of im Statements n).kind
 
 pub grows_keeps : {im im' : Image} → Grows im im' → Keeps im im'
 grows_keeps g =
@@ -42,8 +42,8 @@ refers_there {im} {o} {i} t n l r = go (same_section o (section_of t)) refl r.ea
 -- ---- from the i-th record of a section to the j-th, a later one
 
 module _ {im im' : Image} (k : Keeps im im') (o : Section) (i j : ℕ) (l : i ≤ j) (m : i ≤ size_of im o) where
-  taken_kept : (t : Target) (n : ℕ) → n < size_of im (section_of t) → takes t (record_of_lem im Statements n).kind ≡ true →
-      takes t (record_of_lem im' Statements n).kind ≡ true
+  taken_kept : (t : Target) (n : ℕ) → n < size_of im (section_of t) → takes t (record_of im Statements n).kind ≡ true →
+      takes t (record_of im' Statements n).kind ≡ true
   taken_kept Text n p h = refl
   taken_kept Expression n p h = refl
   taken_kept Statement n p h = rw (k.kinds n p) h

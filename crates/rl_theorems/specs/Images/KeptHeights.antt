@@ -12,7 +12,7 @@ use Rattle.rl_spec.specs.declared.Target.{Target}
 use Rattle.rl_spec.specs.declared.Sort.{Sort}
 use Rattle.rl_spec.specs.declared.Sort.TheVariants.{Raw, Byte, Scalar, Part, One, Maybe, Many, Range, OperandSort, Operand}
 use Rattle.rl_spec.specs.Schema.{sort_of, fields_of}
-use Rattle.rl_spec.specs.Image.{Field, Rec, Image, records_of, size_of, no_record, record_of_lem, first, second, entry_of, section_of, same_section, height_of, tallest_entry, tallest_in, tallest_child, heights_from, heights, Refers, Entries, FieldFits, a_raw, a_byte, a_scalar, a_part, a_reference, an_option, a_list, a_range, a_sort, an_operand, FieldsFit, no_fields, ◌&◌}
+use Rattle.rl_spec.specs.Image.{Field, Rec, Image, records_of, size_of, no_record, record_of, first, second, entry_of, section_of, same_section, height_of, tallest_entry, tallest_in, tallest_child, heights_from, heights, Refers, Entries, FieldFits, a_raw, a_byte, a_scalar, a_part, a_reference, an_option, a_list, a_range, a_sort, an_operand, FieldsFit, no_fields, ◌&◌}
 use Rattle.rl_laws.specs.Tests.{by_ltb}
 use Rattle.rl_images.specs.Encoding.SectionLoop.{heights_kept}
 use Rattle.rl_images.specs.Encoding.Encoded.{heights_all}
@@ -72,7 +72,7 @@ heights_append im o [] qs h = refl
 heights_append im o (r ∷ rs) qs h = heights_append im o rs qs (h ++ (tallest_child im o h (fields_of r.kind) r.fields + 1) ∷ [])
 
 abbrev pub AllFit : Image → Section → Type 0
-AllFit im o = (i : ℕ) → i < size_of im o → FieldsFit im o i 0 (map sort_of (fields_of (record_of_lem im o i).kind)) (record_of_lem im o i).fields
+AllFit im o = (i : ℕ) → i < size_of im o → FieldsFit im o i 0 (map sort_of (fields_of (record_of im o i).kind)) (record_of im o i).fields
 
 module _ {im im' : Image} (k : Keeps im im') (o : Section) where
   same_heights : (rs : List Rec) (h : List ℕ) →
@@ -109,10 +109,10 @@ module _ {im im' : Image} (k : Keeps im im') (o : Section) where
 
 -- the height of a record that is there
 pub own_height : (im : Image) (o : Section) → AllFit im o → (i : ℕ) → i < size_of im o →
-    slice_index (heights im o) i ≡ tallest_child im o (heights im o) (fields_of (record_of_lem im o i).kind) (record_of_lem im o i).fields + 1
+    slice_index (heights im o) i ≡ tallest_child im o (heights im o) (fields_of (record_of im o i).kind) (record_of im o i).fields + 1
 own_height im o fit i p =
-    let next : Next im o (heights im o) i (record_of_lem im o i) = next_at_lem im o i p in
-    let r : Rec = record_of_lem im o i in
+    let next : Next im o (heights im o) i (record_of im o i) = next_at_lem im o i p in
+    let r : Rec = record_of im o i in
     let same : tallest_child im o (heights im o) (fields_of r.kind) r.fields ≡ tallest_child im o next.earlier (fields_of r.kind) r.fields =
     tallest_child_lem (grows_keeps grows_same) o i next.earlier (heights im o) next.same (fields_of r.kind) (fit i p) in
     next.here ∙ ap (λ (n : ℕ). n + 1) (sym same)
@@ -156,7 +156,7 @@ module _ (im : Image) (o : Section) (flat : Flat o) (h : List ℕ) where
 pub flat_height : (im : Image) (o : Section) → Flat o → (i : ℕ) → slice_index (heights im o) i ≤ 1
 flat_height im o flat i =
     by_ltb i (size_of im o) (λ p.
-    let next : Next im o (heights im o) i (record_of_lem im o i) = next_at_lem im o i p in
-    let r : Rec = record_of_lem im o i in
+    let next : Next im o (heights im o) i (record_of im o i) = next_at_lem im o i p in
+    let r : Rec = record_of im o i in
     omega (arith, next.here, flat_fields im o flat next.earlier (fields_of r.kind) r.fields))
     (λ p. rw (get_or-eq_default (heights im o) 0 {n = i} (rw heights_all p)) (omega arith))

@@ -2,16 +2,16 @@
 -- Assumes nothing.
 use Rattle.std.specs.Prelude.{◌≡◌, ℕ, zero, suc, ◌+◌, ◌<◌, ◌≤◌, List, [], map, length, get_or, ◌≢◌, slice_index_or, slice_set}
 use Rattle.std.proofs.Math.Path.{refl}
-use Rattle.std.proofs.Common.{ap, sym, ◌∙◌, append_nil, arith, length-set, get_or-set_same, get_or-set_other}
+use Rattle.std.proofs.Common.{ap, sym, ◌∙◌, append-nil, arith, length-set, get_or-set_same, get_or-set_other}
 use Rattle.std.proofs.Math.Option.{some}
 use Rattle.rl_spec.specs.declared.Section.{Section}
 use Rattle.rl_spec.specs.declared.Section.TheVariants.{Lists, Expressions, Statements, Functions}
 use Rattle.rl_spec.specs.declared.Target.TheVariants.{Text, Expression, Statement, Branch, ElseBranch, Arm}
 use Rattle.rl_spec.specs.declared.Sort.TheVariants.{Many}
 use Rattle.rl_spec.specs.declared.Answer.TheVariants.{Accepted}
-use Rattle.rl_spec.specs.Schema.{sort_of, fields_of, fields_in_lem, schema}
+use Rattle.rl_spec.specs.Schema.{sort_of, fields_of, fields_in, schema}
 use Rattle.rl_spec.specs.Read.{answer_of}
-use Rattle.rl_spec.specs.Image.{Field, no_record, Rec, Image, order_of, records_of, size_of, record_of_lem, field_of, first, heights, encode, image_of, Entries, FieldFits, a_list, FieldsFit, RecordFits, WellFormed}
+use Rattle.rl_spec.specs.Image.{Field, no_record, Rec, Image, order_of, records_of, size_of, record_of, field_of, first, heights, encode, image_of, Entries, FieldFits, a_list, FieldsFit, RecordFits, WellFormed}
 use Rattle.rl_spec.specs.Make.{Context}
 use Rattle.rl_spec.specs.Lower.{new_body, start, bodied, with_body, lowered, params_in, body_in, requires_in, ensures_in}
 use Rattle.rl_laws.specs.Tests.{by_eqb}
@@ -60,7 +60,7 @@ module _ {im : Image} (s : Sound im) (f : ℕ) (p : f < size_of im Functions) (l
   changed = with_body im f list
 
   abbrev function : Rec
-  function = record_of_lem im Functions f
+  function = record_of im Functions f
 
   other : (o : Section) → (order_of Functions ≢ order_of o) → records_of changed o ≡ records_of im o
   other o n = records_other im Functions o _ (λ e. n (sym e))
@@ -86,18 +86,18 @@ module _ {im : Image} (s : Sound im) (f : ℕ) (p : f < size_of im Functions) (l
       }
 
   kept_fields : (o : Section) (i : ℕ) → i < size_of im o →
-      FieldsFit changed o i 0 (map sort_of (fields_of (record_of_lem im o i).kind)) (record_of_lem im o i).fields
+      FieldsFit changed o i 0 (map sort_of (fields_of (record_of im o i).kind)) (record_of im o i).fields
   kept_fields o i l = fields_kept changed_keeps o i i (omega arith) (omega arith) (all_fit s o i l)
 
   other_fits : (o : Section) → (order_of Functions ≢ order_of o) → (i : ℕ) → i < size_of im o →
-      RecordFits changed o i (record_of_lem changed o i)
+      RecordFits changed o i (record_of changed o i)
   other_fits o n i l =
-      let e : record_of_lem changed o i ≡ record_of_lem im o i = ap (λ (rs : List Rec). get_or rs i no_record) (other o n) in
+      let e : record_of changed o i ≡ record_of im o i = ap (λ (rs : List Rec). get_or rs i no_record) (other o n) in
       rw e
       (record {
         kind = (s.fits o i l).kind;
         fields = kept_fields o i l;
-        height = rw (height_stays changed_keeps o (all_fit s o) [] (other o n ∙ sym (append_nil (records_of im o))) i l) (s.fits o i l).height;
+        height = rw (height_stays changed_keeps o (all_fit s o) [] (other o n ∙ sym (append-nil (records_of im o))) i l) (s.fits o i l).height;
       })
 
   -- the list's entries are statements of a body for a function too
@@ -111,16 +111,16 @@ module _ {im : Image} (s : Sound im) (f : ℕ) (p : f < size_of im Functions) (l
   list_fits (a_list {a = a} {n = n} p e es) = a_list p e (entries_body n a es)
 
   body_fits : FieldsFit im Functions f 0 (map sort_of (fields_of function.kind)) (slice_set function.fields 4 list)
-  unfolding fields_of fields_in_lem schema sort_of
+  unfolding fields_of fields_in schema sort_of
   body_fits =
       let e : function.kind ≡ 82 = omega (arith, kind_range Functions function.kind (s.fits Functions f p).kind) in
       rw e (fields_set 4 (fields_of 82) list refl (λ a. list_fits held.fits) (rw e at (all_fit s Functions f p)))
 
-  function_fits : (i : ℕ) → i < size_of im Functions → RecordFits changed Functions i (record_of_lem changed Functions i)
+  function_fits : (i : ℕ) → i < size_of im Functions → RecordFits changed Functions i (record_of changed Functions i)
   function_fits i l =
       by_eqb f i
       (λ e.
-      let d : record_of_lem changed Functions f ≡ bodied function list =
+      let d : record_of changed Functions f ≡ bodied function list =
       ap (λ (rs : List Rec). get_or rs f no_record) functions_are ∙ get_or-set_same (records_of im Functions) f (bodied function list) no_record p in
       rw (← e, d)
       (record {
@@ -129,13 +129,13 @@ module _ {im : Image} (s : Sound im) (f : ℕ) (p : f < size_of im Functions) (l
         height = flat_height changed Functions functions_flat f;
       }))
       (λ n.
-      let d : record_of_lem changed Functions i ≡ record_of_lem im Functions i =
+      let d : record_of changed Functions i ≡ record_of im Functions i =
       ap (λ (rs : List Rec). get_or rs i no_record) functions_are
       ∙ get_or-set_other (records_of im Functions) f i (bodied function list) no_record (λ e. n (sym e)) in
       rw d
       (record { kind = (s.fits Functions i l).kind; fields = kept_fields Functions i l; height = flat_height changed Functions functions_flat i }))
 
-  changed_fits : (o : Section) (i : ℕ) → i < size_of changed o → RecordFits changed o i (record_of_lem changed o i)
+  changed_fits : (o : Section) (i : ℕ) → i < size_of changed o → RecordFits changed o i (record_of changed o i)
   changed_fits o i l =
       by_eqb (order_of Functions) (order_of o)
       (λ e.

@@ -8,7 +8,7 @@ use Rattle.rl_spec.specs.declared.Target.{Target}
 use Rattle.rl_spec.specs.declared.Sort.{Sort}
 use Rattle.rl_spec.specs.declared.Sort.TheVariants.{Raw, One, Maybe, Many}
 use Rattle.rl_spec.specs.Schema.{sort_of, fields_of}
-use Rattle.rl_spec.specs.Image.{Field, no_field, Rec, Image, size_of, record_of_lem, first, second, entry_of, section_of, height_of, tallest_entry, tallest_in, tallest_child, heights, Refers, Entries, FieldFits, FieldsFit, no_fields, ◌&◌}
+use Rattle.rl_spec.specs.Image.{Field, no_field, Rec, Image, size_of, record_of, first, second, entry_of, section_of, height_of, tallest_entry, tallest_in, tallest_child, heights, Refers, Entries, FieldFits, FieldsFit, no_fields, ◌&◌}
 use Rattle.rl_spec.specs.Ranges.{up_from, optional}
 use Rattle.rl_spec.specs.Make.{entries_of}
 use Rattle.rl_images.specs.Images.FieldFacts.{raw_says, reference_says, option_says, list_says}
@@ -99,7 +99,7 @@ refs_append (ref x xs) q = ref x (refs_append xs q)
 
 module _ {im : Image} (s : Sound im) (o : Section) (i : ℕ) (p : i < size_of im o) where
   abbrev here : Rec
-  here = record_of_lem im o i
+  here = record_of im o i
 
   pub own_held : {h : ℕ} → slice_index (heights im o) i ≤ h + 1 → AllHeld im o h 0 (fields_of here.kind) here.fields
   own_held {h} l =

@@ -4,9 +4,9 @@ use Rattle.std.specs.Prelude.{◌≡◌, ℕ, zero, suc, ◌+◌, ◌/◌, ◌%�
 use Rattle.std.proofs.Common.{ap, ◌∙◌, arith, ltb-true}
 use Rattle.std.proofs.Math.Option.{some}
 use Rattle.rl_spec.specs.declared.Section.TheVariants.{Texts}
-use Rattle.rl_spec.specs.Schema.{sort_of, fields_of, fields_in_lem, schema}
+use Rattle.rl_spec.specs.Schema.{sort_of, fields_of, fields_in, schema}
 use Rattle.rl_spec.specs.Utf8.{utf8, octets, encode_text}
-use Rattle.rl_spec.specs.Image.{Field, no_field, Rec, Image, record_of_lem, first, second, text_of, a_part, FieldsFit, no_fields, ◌&◌, RecordFits, AllBytes}
+use Rattle.rl_spec.specs.Image.{Field, no_field, Rec, Image, record_of, first, second, text_of, a_part, FieldsFit, no_fields, ◌&◌, RecordFits, AllBytes}
 use Rattle.rl_spec.specs.Values.{RefineOp, gt, ge, lt, le, eq, ne}
 use Rattle.rl_spec.specs.Tree.{ascii}
 use Rattle.rl_spec.specs.Words.{bits64}
@@ -70,12 +70,12 @@ decimal_proper n = decimal_by_lem 20 n
 module _ (im : Image) (bytes : AllBytes im.bytes) where
   part_proper : {t : ℕ} {fs : List Field} → FieldsFit im Texts t 0 (map sort_of (fields_of 2)) fs →
       Proper (take (second (slice_index_or fs 0 no_field)) (drop (first (slice_index_or fs 0 no_field)) im.bytes))
-  unfolding fields_of fields_in_lem schema sort_of
+  unfolding fields_of fields_in schema sort_of
   part_proper (a_part {a} {n} p u & no_fields) = record { bytes = take_bytes n (drop a im.bytes) (drop_bytes a im.bytes bytes); is_utf8 = u }
 
-  pub text_proper : (t : ℕ) → RecordFits im Texts t (record_of_lem im Texts t) → Proper (text_of im t)
+  pub text_proper : (t : ℕ) → RecordFits im Texts t (record_of im Texts t) → Proper (text_of im t)
   text_proper t h =
-      let r : Rec = record_of_lem im Texts t in
+      let r : Rec = record_of im Texts t in
       let e : r.kind ≡ 2 = omega (arith, kind_range Texts r.kind h.kind) in
       part_proper (rw e at h.fields)
 

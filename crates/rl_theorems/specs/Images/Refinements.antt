@@ -7,7 +7,7 @@ use Rattle.std.proofs.Common.{arith}
 use Rattle.std.proofs.lemmas.Bool.{eqb-false}
 use Rattle.rl_spec.specs.declared.ParamRefinement.TheVariants.{Unrefined, Refined}
 use Rattle.rl_spec.specs.declared.Section.TheVariants.{Texts, Parameters}
-use Rattle.rl_spec.specs.Image.{Rec, Image, size_of, record_of_lem, SortFits, OperandFits}
+use Rattle.rl_spec.specs.Image.{Rec, Image, size_of, record_of, SortFits, OperandFits}
 use Rattle.rl_spec.specs.Tree.{signed, number}
 use Rattle.rl_spec.specs.Words.{bits64}
 use Rattle.rl_spec.specs.Records.{refine_op, refine_operand, param_at}
@@ -49,8 +49,8 @@ module _ (im : Image) where
   by_sort n sort x h o true e = tt
   by_sort n sort x h o false e = operand_says sort x (sort_some n sort (eqb-false n 0 e) h) o
 
-  pub refinement_says : (i : ℕ) → ParameterFits im (record_of_lem im Parameters i) → RefinementSays im (param_of im i).refinement
+  pub refinement_says : (i : ℕ) → ParameterFits im (record_of im Parameters i) → RefinementSays im (param_of im i).refinement
   unfolding param_of param_at
   refinement_says i x =
-      let r : Rec = record_of_lem im Parameters i in
+      let r : Rec = record_of im Parameters i in
       by_sort (number r 2) (number r 3) (number r 4) x.sort x.operand (number r 2 == 0) refl

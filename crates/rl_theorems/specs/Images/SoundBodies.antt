@@ -8,7 +8,7 @@ use Rattle.rl_spec.specs.declared.Section.{Section}
 use Rattle.rl_spec.specs.declared.Target.{Target}
 use Rattle.rl_spec.specs.declared.Target.TheVariants.{Statement}
 use Rattle.rl_spec.specs.declared.Clause.{Clause}
-use Rattle.rl_spec.specs.Schema.{in_section, sort_of, fields_of, fields_in_lem, schema}
+use Rattle.rl_spec.specs.Schema.{in_section, sort_of, fields_of, fields_in, schema}
 use Rattle.rl_spec.specs.Image.{num, Rec, Image, field_of, text_of}
 use Rattle.rl_spec.specs.Values.{RefineOp, gt, ge, lt, le, eq, ne}
 use Rattle.rl_spec.specs.Tree.{ascii, number}
@@ -42,7 +42,7 @@ token_fits eq = (omega arith, omega arith)
 token_fits ne = (omega arith, omega arith)
 
 operand_sure : (im : Image) (x : RefineOperand ℕ) (c : Context) → OperandReady im x → KeepsSound c (Node 1) (operand_expr im x c)
-unfolding expr in_section fields_of fields_in_lem schema sort_of
+unfolding expr in_section fields_of fields_in schema sort_of
 operand_sure im (integer v) c p =
     sure_ready λ r. node_sure {h = 0} 17 (num c.span ∷ num (bits64 v) ∷ []) c refl (omega arith)
     (cons_held refl (raw_held r.span) (cons_held refl (raw_held p) nil_held))
@@ -54,7 +54,7 @@ operand_sure im (param t) c p = ident_sure (text_of im t) p c
 
 predicate_sure : (im : Image) (name : ℕ) (r : ParamRefinement ℕ) (c : Context) → Proper (text_of im name) → OperandReady im r.operand →
     KeepsSound c (Node 2) (refine_predicate im name r c)
-unfolding refine_predicate expr in_section fields_of fields_in_lem schema sort_of
+unfolding refine_predicate expr in_section fields_of fields_in schema sort_of
 predicate_sure im name r c p q =
     operand_sure im r.operand c q ⇝ λ right d on x. ident_sure (text_of im name) p d ⇝ λ left e on' y.
     sure_ready λ ready. node_sure {h = 1} 32 (num e.span ∷ num left ∷ num (token_of r.op) ∷ num right ∷ []) e refl (omega arith)
@@ -105,7 +105,7 @@ some_length (n ∷ ns) e = omega arith
 
 trailing_sure : (ensures : List Clause) (body : List ℕ) (c : Context) → Every ClauseReady c ensures → Lines 34 body c →
     KeepsSound c (Lines 34) (wrap_trailing ensures body c)
-unfolding wrap_trailing fields_of fields_in_lem schema sort_of
+unfolding wrap_trailing fields_of fields_in schema sort_of
 trailing_sure ensures body c es xs =
     let r : Rec = last_of c.image body in
     sure_ready λ ready.

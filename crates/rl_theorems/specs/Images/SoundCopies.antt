@@ -10,8 +10,8 @@ use Rattle.rl_spec.specs.declared.Target.{Target}
 use Rattle.rl_spec.specs.declared.Target.TheVariants.{Text, Expression, Statement, Branch, ElseBranch, Arm}
 use Rattle.rl_spec.specs.declared.Sort.{Sort}
 use Rattle.rl_spec.specs.declared.Sort.TheVariants.{Raw, Byte, Scalar, Part, One, Maybe, Many, Range, OperandSort, Operand}
-use Rattle.rl_spec.specs.Schema.{in_section, sort_of, fields_of, fields_in_lem, schema}
-use Rattle.rl_spec.specs.Image.{Field, Rec, Image, size_of, record_of_lem, first, second, entry_of, tallest_child, heights, FieldsFit, no_fields, ◌&◌}
+use Rattle.rl_spec.specs.Schema.{in_section, sort_of, fields_of, fields_in, schema}
+use Rattle.rl_spec.specs.Image.{Field, Rec, Image, size_of, record_of, first, second, entry_of, tallest_child, heights, FieldsFit, no_fields, ◌&◌}
 use Rattle.rl_spec.specs.Tree.{below, descend_by, descend}
 use Rattle.rl_spec.specs.Ranges.{up_from}
 use Rattle.rl_spec.specs.Make.{Context, Make, ◌>>=◌, give, image_so_far, append, made, new_list, entries_of}
@@ -26,7 +26,7 @@ use Rattle.rl_theorems.specs.Images.KeepsSound.{Ready, KeepsSound, ref_on, refs_
 -- ---- no field of an expression looks at the one before it
 
 expression_plain : (k : ℕ) → in_section Expressions k ≡ true → all_plain (fields_of k) ≡ true
-unfolding fields_of fields_in_lem schema sort_of
+unfolding fields_of fields_in schema sort_of
 expression_plain k e =
     let r = kind_range Expressions k e in
     all_at (λ j. all_plain (fields_of j)) 42 16 k refl r.0 (omega (arith, r.1))
@@ -111,9 +111,9 @@ abbrev Copies : (ℕ → Make ℕ) → Type 0
 Copies clone = (h n : ℕ) (c : Context) → h ≤ 68 → Node h n c → KeepsSound c (Node h) (clone n c)
 
 record_sure : (clone : ℕ → Make ℕ) → Copies clone → (h id : ℕ) (c : Context) → h ≤ 68 → Node h id c →
-    KeepsSound c (Node h) (clone_record clone id (record_of_lem c.image Expressions id) c)
+    KeepsSound c (Node h) (clone_record clone id (record_of c.image Expressions id) c)
 record_sure clone copies h id c l x =
-    let r : Rec = record_of_lem c.image Expressions id in
+    let r : Rec = record_of c.image Expressions id in
     sure_ready λ ready.
     let p : 1 ≤ h = node_tall c id ready x in
     let q : h - 1 + 1 ≤ h = omega arith in
@@ -128,7 +128,7 @@ record_sure clone copies h id c l x =
     node_sure r.kind fs d kind (omega arith) (ys 0) ↠ λ n z on' y. ref_higher q y)
 
 abbrev copy_step : ℕ → (ℕ → Make ℕ) → Make ℕ
-copy_step id clone = image_so_far >>= λ im. clone_record clone id (record_of_lem im Expressions id)
+copy_step id clone = image_so_far >>= λ im. clone_record clone id (record_of im Expressions id)
 
 copies_by : (n : ℕ) → Copies (descend_by give copy_step n)
 unfolding descend_by

@@ -10,7 +10,7 @@ use Rattle.rl_spec.specs.declared.Target.{Target}
 use Rattle.rl_spec.specs.declared.Target.TheVariants.{Text, Expression, Statement, Branch}
 use Rattle.rl_spec.specs.declared.Sort.TheVariants.{Many}
 use Rattle.rl_spec.specs.declared.Clause.{Clause}
-use Rattle.rl_spec.specs.Schema.{in_section, sort_of, fields_of, fields_in_lem, schema}
+use Rattle.rl_spec.specs.Schema.{in_section, sort_of, fields_of, fields_in, schema}
 use Rattle.rl_spec.specs.Image.{Field, num, Image, size_of, tallest_child, a_raw, a_byte, a_reference, an_option, no_fields, ◌&◌}
 use Rattle.rl_spec.specs.Tree.{ascii}
 use Rattle.rl_spec.specs.Ranges.{optional_field}
@@ -50,33 +50,33 @@ every_refs (more p ps) = ref p (every_refs ps)
 
 name_held : (im : Image) (kind span t : ℕ) → fields_of kind ≡ fields_of 30 → span < 256 ^ 4 → t < size_of im Texts →
     AllHeld im Expressions 0 0 (fields_of kind) (num span ∷ num t ∷ [])
-unfolding fields_of fields_in_lem schema sort_of tallest_child
+unfolding fields_of fields_in schema sort_of tallest_child
 name_held im kind span t e p q = rw e (record { fits = a_raw p & a_reference (record { earlier = q; taken = refl }) & no_fields; low = omega arith })
 
 pub ident_sure : (s : List ℕ) → Proper s → (c : Context) → KeepsSound c (Node 1) (ident s c)
-unfolding ident expr in_section fields_of fields_in_lem schema
+unfolding ident expr in_section fields_of fields_in schema
 ident_sure s p c =
     text_sure s p c ⇝ λ t d on y. sure_ready λ r. node_sure 30 _ d refl (omega arith) (name_held d.image 30 d.span t refl r.span y)
 
 pub string_sure : (s : List ℕ) → Proper s → (c : Context) → KeepsSound c (Node 1) (str_lit s c)
-unfolding str_lit expr in_section fields_of fields_in_lem schema
+unfolding str_lit expr in_section fields_of fields_in schema
 string_sure s p c =
     text_sure s p c ⇝ λ t d on y. sure_ready λ r. node_sure 25 _ d refl (omega arith) (name_held d.image 25 d.span t refl r.span y)
 
 err_held : {h : ℕ} (c : Context) (msg : ℕ) → Ready c → Node h msg c →
     AllHeld c.image Expressions h 0 (fields_of 50) (num c.span ∷ num msg ∷ [])
-unfolding fields_of fields_in_lem schema sort_of tallest_child
+unfolding fields_of fields_in schema sort_of tallest_child
 err_held c msg r x = record { fits = a_raw r.span & a_reference x.refers & no_fields; low = omega (arith, x.low) }
 
 not_held_lem : {h : ℕ} (c : Context) (n : ℕ) → Ready c → Node h n c →
     AllHeld c.image Expressions h 0 (fields_of 33) (num c.span ∷ num 5 ∷ num n ∷ [])
-unfolding fields_of fields_in_lem schema sort_of tallest_child
+unfolding fields_of fields_in schema sort_of tallest_child
 not_held_lem c n r x = record { fits = a_raw r.span & a_byte (lit≤ tt) (lit≤ tt) & a_reference x.refers & no_fields; low = omega (arith, x.low) }
 
 call_held : {h : ℕ} (c : Context) (path args : Field) → Ready c → Held c.image Expressions 0 (Many Text Text 1) path →
     Held c.image Expressions h (Many Expression Expression 1) args →
     AllHeld c.image Expressions h 0 (fields_of 41) (num c.span ∷ path ∷ args ∷ [])
-unfolding fields_of fields_in_lem schema sort_of tallest_child
+unfolding fields_of fields_in schema sort_of tallest_child
 call_held c path args r p q =
     record { fits = a_raw r.span & plain_fits refl p.fits & plain_fits refl q.fits & no_fields; low = omega (arith, p.low, q.low) }
 
@@ -103,7 +103,7 @@ unwrap_sure x c l q = call_sure (ascii "result_unwrap_lem") unwrap_proper x c l 
 
 there_held : (kind : ℕ) (c : Context) (n : ℕ) → fields_of kind ≡ fields_of 66 → Ready c → n < size_of c.image Expressions →
     AllHeld c.image Statements 0 0 (fields_of kind) (num c.span ∷ num n ∷ [])
-unfolding fields_of fields_in_lem schema sort_of tallest_child
+unfolding fields_of fields_in schema sort_of tallest_child
 there_held kind c n e r p = rw e (record { fits = a_raw r.span & a_reference (record { earlier = p; taken = refl }) & no_fields; low = omega arith })
 
 return_sure : (n : ℕ) (c : Context) → n < size_of c.image Expressions → KeepsSound c (Line 1) (new_stmt 66 (num n ∷ []) c)
@@ -111,7 +111,7 @@ unfolding stmt in_section
 return_sure n c p = sure_ready λ r. statement_sure Statement 66 _ c refl refl refl (omega arith) (there_held 66 c n refl r p)
 
 bare_sure : (n : ℕ) (c : Context) → n < size_of c.image Expressions → KeepsSound c (Line 1) (new_stmt 65 (num n ∷ []) c)
-unfolding stmt in_section fields_of fields_in_lem schema
+unfolding stmt in_section fields_of fields_in schema
 bare_sure n c p = sure_ready λ r. statement_sure Statement 65 _ c refl refl refl (omega arith) (there_held 65 c n refl r p)
 
 cond_zero : (b : Bool) → ◌≡◌ {A = ℕ} (cond b 0 0) 0
@@ -121,7 +121,7 @@ cond_zero false = refl
 branch_held : {h : ℕ} (c : Context) (condition : ℕ) (body : Field) → Ready c → condition < size_of c.image Expressions →
     Held c.image Statements h (Many Statement Statement 1) body →
     AllHeld c.image Statements h 0 (fields_of 69) (num c.span ∷ num condition ∷ body ∷ num 0 ∷ [])
-unfolding fields_of fields_in_lem schema sort_of tallest_child
+unfolding fields_of fields_in schema sort_of tallest_child
 branch_held c condition body r p q =
     record {
       fits = a_raw r.span & an_option (inr (record { earlier = p; taken = refl })) & plain_fits refl q.fits & a_byte (lit≤ tt) (lit≤ tt)
@@ -131,7 +131,7 @@ branch_held c condition body r p q =
 
 only_held : {h : ℕ} (c : Context) (branch : ℕ) → Ready c → Ref c.image Statements h Branch branch →
     AllHeld c.image Statements h 0 (fields_of 68) (num c.span ∷ num branch ∷ optional_field None ∷ [])
-unfolding fields_of fields_in_lem schema sort_of tallest_child
+unfolding fields_of fields_in schema sort_of tallest_child
 only_held c branch r x = record { fits = a_raw r.span & a_reference x.refers & an_option (inl refl) & no_fields; low = omega (arith, x.low) }
 
 pub only_if_sure : {h : ℕ} (condition s : ℕ) (c : Context) → h < 34 → condition < size_of c.image Expressions → Line h s c →
@@ -191,7 +191,7 @@ clauses_sure default p clauses c xs =
 
 declare_held : (c : Context) (t value : ℕ) → Ready c → t < size_of c.image Texts → value < size_of c.image Expressions →
     AllHeld c.image Statements 0 0 (fields_of 64) (num c.span ∷ num t ∷ num 0 ∷ num value ∷ num 0 ∷ [])
-unfolding fields_of fields_in_lem schema sort_of tallest_child
+unfolding fields_of fields_in schema sort_of tallest_child
 declare_held c t value r p q =
     record {
       fits = a_raw r.span & a_reference (record { earlier = p; taken = refl }) & a_raw (lit< tt)

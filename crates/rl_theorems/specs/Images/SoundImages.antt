@@ -5,7 +5,7 @@ use Rattle.std.proofs.Common.{ap, sym, ◌∙◌, subst, arith, length-append, g
 use Rattle.rl_spec.specs.declared.Section.{Section}
 use Rattle.rl_spec.specs.declared.Section.TheVariants.{Texts, Lists, Expressions, Statements, Parameters, Clauses, Functions, Calls}
 use Rattle.rl_spec.specs.Schema.{limits, sections, tallest, in_section, sort_of, fields_of}
-use Rattle.rl_spec.specs.Image.{Rec, Image, order_of, records_of, size_of, no_record, record_of_lem, tallest_child, heights, encode, FieldsFit, RecordFits, AllBytes, AllWithin, WellFormed}
+use Rattle.rl_spec.specs.Image.{Rec, Image, order_of, records_of, size_of, no_record, record_of, tallest_child, heights, encode, FieldsFit, RecordFits, AllBytes, AllWithin, WellFormed}
 use Rattle.rl_spec.specs.Make.{with_bytes, most, most_bytes}
 use Rattle.rl_laws.specs.Tests.{by_ltb, by_eqb}
 use Rattle.rl_theorems.specs.Reading.EncodedBytes.{append_bytes_lem}
@@ -19,7 +19,7 @@ pub record Sound (im : Image) : Type 0 where
   pub bytes : AllBytes im.bytes
   pub counts : AllWithin (length im.bytes ∷ map length im.records) limits
   pub eight : Eight im
-  pub fits : (o : Section) (i : ℕ) → i < size_of im o → RecordFits im o i (record_of_lem im o i)
+  pub fits : (o : Section) (i : ℕ) → i < size_of im o → RecordFits im o i (record_of im o i)
 
 pub well_formed_sound : (im : Image) → WellFormed im → Sound im
 well_formed_sound im wf =
@@ -56,9 +56,9 @@ counts_bytes n ns m h l = within_set (n ∷ ns) limits 0 m h l
 
 -- ---- what was there goes on fitting
 
-pub fits_kept : {im im' : Image} → Sound im → Grows im im' → (o : Section) (i : ℕ) → i < size_of im o → RecordFits im' o i (record_of_lem im' o i)
+pub fits_kept : {im im' : Image} → Sound im → Grows im im' → (o : Section) (i : ℕ) → i < size_of im o → RecordFits im' o i (record_of im' o i)
 fits_kept {im} {im'} s g o i p =
-    let r : Rec = record_of_lem im o i in
+    let r : Rec = record_of im o i in
     let f : RecordFits im o i r = s.fits o i p in
     let l : Longer (records_of im o) (records_of im' o) = grows_records g o in
     rw (record_kept g o i p)
@@ -98,16 +98,16 @@ module _ {im : Image} (s : Sound im) (q : Section) (k : Growing q) (rs : List Re
   own = records_own im q (records_of im q ++ rs) s.eight
 
   module _ (new : (j : ℕ) → j < length rs → RecordFits longer q (size_of im q + j) (slice_index_or rs j no_record)) where
-    new_fits : (i : ℕ) → size_of im q ≤ i → i < size_of longer q → RecordFits longer q i (record_of_lem longer q i)
+    new_fits : (i : ℕ) → size_of im q ≤ i → i < size_of longer q → RecordFits longer q i (record_of longer q i)
     new_fits i p l =
         let j : ℕ = i - size_of im q in
         let e : size_of im q + j ≡ i = omega arith in
         let m : size_of longer q ≡ size_of im q + length rs = ap length own ∙ length-append (records_of im q) rs in
-        let d : record_of_lem longer q (size_of im q + j) ≡ get_or rs j no_record =
+        let d : record_of longer q (size_of im q + j) ≡ get_or rs j no_record =
         ap (λ (l : List Rec). get_or l (size_of im q + j) no_record) own ∙ get_or-append-add (records_of im q) rs j no_record in
-        subst (λ (n : ℕ). RecordFits longer q n (record_of_lem longer q n)) e (rw d (new j (omega arith)))
+        subst (λ (n : ℕ). RecordFits longer q n (record_of longer q n)) e (rw d (new j (omega arith)))
 
-    longer_fits : (o : Section) (i : ℕ) → i < size_of longer o → RecordFits longer o i (record_of_lem longer o i)
+    longer_fits : (o : Section) (i : ℕ) → i < size_of longer o → RecordFits longer o i (record_of longer o i)
     longer_fits o i l =
         by_ltb i (size_of im o) (fits_kept s longer_grows o i)
         (λ p. by_eqb (order_of q) (order_of o)

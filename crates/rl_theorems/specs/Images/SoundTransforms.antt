@@ -14,9 +14,9 @@ use Rattle.rl_spec.specs.declared.Target.TheVariants.{Statement, Branch, ElseBra
 use Rattle.rl_spec.specs.declared.Sort.{Sort}
 use Rattle.rl_spec.specs.declared.Sort.TheVariants.{Raw, Maybe, Many}
 use Rattle.rl_spec.specs.declared.Clause.{Clause}
-use Rattle.rl_spec.specs.Schema.{in_section, sort_of, fields_of, fields_in_lem, schema}
+use Rattle.rl_spec.specs.Schema.{in_section, sort_of, fields_of, fields_in, schema}
 use Rattle.rl_spec.specs.Fields.{takes}
-use Rattle.rl_spec.specs.Image.{Field, num, Rec, Image, size_of, record_of_lem, field_of, section_of, heights, an_option}
+use Rattle.rl_spec.specs.Image.{Field, num, Rec, Image, size_of, record_of, field_of, section_of, heights, an_option}
 use Rattle.rl_spec.specs.Tree.{number, below, descend_by, descend}
 use Rattle.rl_spec.specs.Ranges.{optional_field}
 use Rattle.rl_spec.specs.Make.{Context, Make, and_then, ◌>>=◌, give, image_so_far, flat_map, append, made, stmt, entries_of}
@@ -46,10 +46,10 @@ FieldIs k j o = (j < length (fields_of k)) × (sort_of (slice_index (fields_of k
 
 -- its j-th field, where it is of kind k
 pub own_field : {c : Context} {h n : ℕ} {s : Sort} (t : Target) (k j : ℕ) → OfStatements t → Ready c → Ref c.image Statements h t n →
-    (record_of_lem c.image Statements n).kind ≡ k → FieldIs k j s →
-    Held c.image Statements (h - 1) s (field_of (record_of_lem c.image Statements n) j)
+    (record_of c.image Statements n).kind ≡ k → FieldIs k j s →
+    Held c.image Statements (h - 1) s (field_of (record_of c.image Statements n) j)
 own_field {c} {h} {n} {s} t k j o r x e f =
-    let q : Rec = record_of_lem c.image Statements n in
+    let q : Rec = record_of c.image Statements n in
     let a : AllHeld c.image Statements (h - 1) 0 (fields_of q.kind) q.fields =
     own_held r.sound Statements n (statement_there t o x) (omega (arith, statement_low t o x)) in
     let b : AllHeld c.image Statements (h - 1) 0 (fields_of k) q.fields = rw e at a in
@@ -88,10 +88,10 @@ module _ (ensures : List Clause) where
     module _ (h : ℕ) (l : h ≤ 32) where
       branch_by_sure : (t : Target) (s : ℕ) (c : Context) → OfStatements t → takes t 69 ≡ true → Every ClauseReady c ensures →
           Ref c.image Statements h t s →
-          KeepsSound c (λ n d. Ref d.image Statements (h + 2) t n) (transform_branch_by walk s (record_of_lem c.image Statements s) c)
-      unfolding stmt in_section fields_of fields_in_lem schema sort_of
+          KeepsSound c (λ n d. Ref d.image Statements (h + 2) t n) (transform_branch_by walk s (record_of c.image Statements s) c)
+      unfolding stmt in_section fields_of fields_in schema sort_of
       branch_by_sure t s c o k es x =
-          let r : Rec = record_of_lem c.image Statements s in
+          let r : Rec = record_of c.image Statements s in
           let up : h - 1 ≤ h - 1 + 2 = omega arith in
           sure_ready λ ready.
           let tall : 1 ≤ h = statement_tall t o ready x in
@@ -121,10 +121,10 @@ module _ (ensures : List Clause) where
           sure_given (record { before = 0; fits = an_option (inr y.refers); low = cond_low (n == 65535) y.low })
 
       arm_by_sure : (s : ℕ) (c : Context) → Every ClauseReady c ensures → Ref c.image Statements h Arm s →
-          KeepsSound c (λ n d. Ref d.image Statements (h + 2) Arm n) (transform_arm_by walk (record_of_lem c.image Statements s) c)
-      unfolding stmt in_section fields_of fields_in_lem schema sort_of
+          KeepsSound c (λ n d. Ref d.image Statements (h + 2) Arm n) (transform_arm_by walk (record_of c.image Statements s) c)
+      unfolding stmt in_section fields_of fields_in schema sort_of
       arm_by_sure s c es x =
-          let r : Rec = record_of_lem c.image Statements s in
+          let r : Rec = record_of c.image Statements s in
           let d : r.kind ≡ 76 = eqb-true r.kind 76 x.refers.taken in
           let up : h - 1 ≤ h - 1 + 2 = omega arith in
           sure_ready λ ready.
@@ -145,7 +145,7 @@ module _ (ensures : List Clause) where
 
     module _ (h s : ℕ) (c : Context) (l : h ≤ 32) (es : Every ClauseReady c ensures) (x : Line h s c) where
       abbrev here : Rec
-      here = record_of_lem c.image Statements s
+      here = record_of c.image Statements s
 
       -- what is rebuilt, from its fields
       rebuilt_sure : (k : ℕ) → here.kind ≡ k → (fs : List Field) (d : Context) → Onward c d →
@@ -176,21 +176,21 @@ module _ (ensures : List Clause) where
             held_higher up (held_on on (own_field Statement k j refl on.was x e f))
 
       while_sure : here.kind ≡ 70 → KeepsSound c (Line (h + 2)) (loop walk here (field_of here 1 ∷ []) (field_of here 2) c)
-      unfolding fields_of fields_in_lem schema sort_of
+      unfolding fields_of fields_in schema sort_of
       while_sure e =
           loop_sure (field_of here 1 ∷ []) (field_of here 2) (λ r. own_field Statement 70 2 refl r x e (omega arith, refl)) λ body d on y. rw e
           (cons_held refl (span_held 70 e on (omega arith, refl))
           (cons_held refl (field_held 70 e on 1 (omega arith, refl)) (cons_held refl y nil_held)))
 
       forever_sure : here.kind ≡ 71 → KeepsSound c (Line (h + 2)) (loop walk here [] (field_of here 1) c)
-      unfolding fields_of fields_in_lem schema sort_of
+      unfolding fields_of fields_in schema sort_of
       forever_sure e =
           loop_sure [] (field_of here 1) (λ r. own_field Statement 71 1 refl r x e (omega arith, refl)) λ body d on y. rw e
           (cons_held refl (span_held 71 e on (omega arith, refl)) (cons_held refl y nil_held))
 
       for_sure : here.kind ≡ 72 →
           KeepsSound c (Line (h + 2)) (loop walk here (field_of here 1 ∷ field_of here 2 ∷ field_of here 3 ∷ []) (field_of here 4) c)
-      unfolding fields_of fields_in_lem schema sort_of
+      unfolding fields_of fields_in schema sort_of
       for_sure e =
           loop_sure (field_of here 1 ∷ field_of here 2 ∷ field_of here 3 ∷ []) (field_of here 4)
           (λ r. own_field Statement 72 4 refl r x e (omega arith, refl)) λ body d on y. rw e
@@ -199,7 +199,7 @@ module _ (ensures : List Clause) where
           (cons_held refl (field_held 72 e on 3 (omega arith, refl)) (cons_held refl y nil_held)))))
 
       for_range_sure : here.kind ≡ 73 → KeepsSound c (Line (h + 2)) (loop walk here (field_of here 1 ∷ field_of here 2 ∷ []) (field_of here 3) c)
-      unfolding fields_of fields_in_lem schema sort_of
+      unfolding fields_of fields_in schema sort_of
       for_range_sure e =
           loop_sure (field_of here 1 ∷ field_of here 2 ∷ []) (field_of here 3)
           (λ r. own_field Statement 73 3 refl r x e (omega arith, refl)) λ body d on y. rw e
@@ -207,7 +207,7 @@ module _ (ensures : List Clause) where
           (cons_held refl (field_held 73 e on 2 (omega arith, refl)) (cons_held refl y nil_held))))
 
       for_each_sure : here.kind ≡ 74 → KeepsSound c (Line (h + 2)) (loop walk here (field_of here 1 ∷ field_of here 2 ∷ []) (field_of here 3) c)
-      unfolding fields_of fields_in_lem schema sort_of
+      unfolding fields_of fields_in schema sort_of
       for_each_sure e =
           loop_sure (field_of here 1 ∷ field_of here 2 ∷ []) (field_of here 3)
           (λ r. own_field Statement 74 3 refl r x e (omega arith, refl)) λ body d on y. rw e
@@ -215,7 +215,7 @@ module _ (ensures : List Clause) where
           (cons_held refl (field_held 74 e on 2 (omega arith, refl)) (cons_held refl y nil_held))))
 
       match_sure : here.kind ≡ 75 → KeepsSound c (Line (h + 2)) (match walk here c)
-      unfolding stmt fields_of fields_in_lem schema sort_of
+      unfolding stmt fields_of fields_in schema sort_of
       match_sure e =
           sure_ready λ r.
           let arms : Refs c.image Statements (h - 1) Arm Arm (entries_of c.image (field_of here 2)) =
@@ -231,7 +231,7 @@ module _ (ensures : List Clause) where
           (cons_held refl (field_held 75 e (on then on') 1 (omega arith, refl)) (cons_held refl y nil_held)))
 
       conditional_sure : here.kind ≡ 68 → KeepsSound c (Line (h + 2)) (conditional walk here c)
-      unfolding stmt fields_of fields_in_lem schema sort_of
+      unfolding stmt fields_of fields_in schema sort_of
       conditional_sure e =
           sure_ready λ r.
           branch_sure (h - 1) (omega arith) Branch (number here 1) c refl refl es
@@ -248,14 +248,14 @@ module _ (ensures : List Clause) where
       lines_up d r ys = let tall : 1 ≤ h = statement_tall Statement refl r x in refs_higher (omega arith) ys
 
       return_sure : here.kind ≡ 66 → KeepsSound c (Lines (h + 2)) (wrap_return (number here 1) ensures c)
-      unfolding fields_of fields_in_lem schema sort_of
+      unfolding fields_of fields_in schema sort_of
       return_sure e =
           sure_ready λ r.
           wrap_sure (number here 1) ensures c (ref_there (one_ref (field_of here 1) (own_field Statement 66 1 refl r x e (omega arith, refl)))) es
           ↠ λ ns d on ys. lines_up d r ys
 
       alone_sure : KeepsSound c (Lines (h + 2)) ((expr 16 [] >>= λ null. wrap_return null ensures) c)
-      unfolding expr in_section fields_of fields_in_lem schema sort_of
+      unfolding expr in_section fields_of fields_in schema sort_of
       alone_sure =
           sure_ready λ r. node_sure {h = 0} 16 (num c.span ∷ []) c refl (omega arith)
           (cons_held refl (raw_held r.span) nil_held) ⇝ λ null d on y.
@@ -283,7 +283,7 @@ module _ (ensures : List Clause) where
   -- ---- all the statements before
 
   abbrev statement_step : ℕ → (ℕ → Make (List ℕ)) → Make (List ℕ)
-  statement_step s walk = image_so_far >>= λ im. transform_statement_by walk ensures s (record_of_lem im Statements s)
+  statement_step s walk = image_so_far >>= λ im. transform_statement_by walk ensures s (record_of im Statements s)
 
   abbrev untouched : ℕ → Make (List ℕ)
   untouched s = give (s ∷ [])

@@ -9,8 +9,8 @@ use Rattle.rl_spec.specs.declared.Section.TheVariants.{Expressions}
 use Rattle.rl_spec.specs.declared.Target.{Target}
 use Rattle.rl_spec.specs.declared.Sort.{Sort}
 use Rattle.rl_spec.specs.declared.Sort.TheVariants.{Raw, Byte, Scalar, Part, One, Maybe, Many, Range, OperandSort, Operand}
-use Rattle.rl_spec.specs.Schema.{schema, sort_of, fields_in_lem, fields_of}
-use Rattle.rl_spec.specs.Image.{Field, num, Rec, Image, size_of, record_of_lem, first}
+use Rattle.rl_spec.specs.Schema.{schema, sort_of, fields_in, fields_of}
+use Rattle.rl_spec.specs.Image.{Field, num, Rec, Image, size_of, record_of, first}
 use Rattle.rl_spec.specs.Values.{ConstVal, str}
 use Rattle.rl_spec.specs.Tree.{Expr, null, literal, identifier, unary, binary, grouping, assign, ok_literal, err_literal, below}
 use Rattle.rl_spec.specs.Mapped.{Text}
@@ -197,12 +197,12 @@ module _ {im im' : Image} (grown : Grows im im') where
   New k gs e = Reads im' (size_of im' Expressions) k gs e
 
   null_copy : {s : Field} {gs : List Field} → CopiesOf 16 (s ∷ []) gs → New 16 gs null
-  unfolding fields_of fields_in_lem schema sort_of
+  unfolding fields_of fields_in schema sort_of
   null_copy (p ▸ no_sorts) = a_null refl
 
   plain_copy : {k n : ℕ} {v : Option (ConstVal Text)} {s : Field} {gs : List Field} → Plain k n v → CopiesOf k (s ∷ num n ∷ []) gs →
       New k gs (literal v)
-  unfolding fields_of fields_in_lem schema sort_of
+  unfolding fields_of fields_in schema sort_of
   plain_copy an_integer (p ▸ q ▸ no_sorts) = rw (q.kept refl) (a_literal an_integer)
   plain_copy anSInt (p ▸ q ▸ no_sorts) = rw (q.kept refl) (a_literal anSInt)
   plain_copy aUInt (p ▸ q ▸ no_sorts) = rw (q.kept refl) (a_literal aUInt)
@@ -217,17 +217,17 @@ module _ {im im' : Image} (grown : Grows im im') where
 
   string_copy : {t : ℕ} {s : Field} {x : Text} {gs : List Field} → Says im t x → CopiesOf 25 (s ∷ num t ∷ []) gs →
       New 25 gs (literal (some (str x)))
-  unfolding fields_of fields_in_lem schema sort_of
+  unfolding fields_of fields_in schema sort_of
   string_copy t (p ▸ q ▸ no_sorts) = rw (q.kept refl) (a_string refl (keep_says grown t))
 
   identifier_copy : {t : ℕ} {s : Field} {x : Text} {gs : List Field} → Says im t x → CopiesOf 30 (s ∷ num t ∷ []) gs →
       New 30 gs (identifier x)
-  unfolding fields_of fields_in_lem schema sort_of
+  unfolding fields_of fields_in schema sort_of
   identifier_copy t (p ▸ q ▸ no_sorts) = rw (q.kept refl) (an_identifier refl (keep_says grown t))
 
   binary_copy : {l op r : ℕ} {s : Field} {d e : Expr Text} {gs : List Field} → IsExpr im l d → IsExpr im r e →
       CopiesOf 32 (s ∷ num l ∷ num op ∷ num r ∷ []) gs → New 32 gs (binary d op e)
-  unfolding fields_of fields_in_lem schema sort_of
+  unfolding fields_of fields_in schema sort_of
   binary_copy {d = d} {e = e} h k (p ▸ a ▸ q ▸ b ▸ no_sorts) =
       let x = a.node refl in
       let y = b.node refl in
@@ -237,7 +237,7 @@ module _ {im im' : Image} (grown : Grows im im') where
 
   unary_copy : {op n : ℕ} {s : Field} {e : Expr Text} {gs : List Field} → IsExpr im n e → CopiesOf 33 (s ∷ num op ∷ num n ∷ []) gs →
       New 33 gs (unary op e)
-  unfolding fields_of fields_in_lem schema sort_of
+  unfolding fields_of fields_in schema sort_of
   unary_copy {e = e} h (p ▸ q ▸ a ▸ no_sorts) =
       let x = a.node refl in
       let u = x.2 e h in
@@ -245,7 +245,7 @@ module _ {im im' : Image} (grown : Grows im im') where
 
   grouping_copy : {n : ℕ} {s : Field} {e : Expr Text} {gs : List Field} → IsExpr im n e → CopiesOf 34 (s ∷ num n ∷ []) gs →
       New 34 gs (grouping e)
-  unfolding fields_of fields_in_lem schema sort_of
+  unfolding fields_of fields_in schema sort_of
   grouping_copy {e = e} h (p ▸ a ▸ no_sorts) =
       let x = a.node refl in
       let u = x.2 e h in
@@ -253,7 +253,7 @@ module _ {im im' : Image} (grown : Grows im im') where
 
   assign_copy : {t n : ℕ} {s : Field} {y : Text} {e : Expr Text} {gs : List Field} → Says im t y → IsExpr im n e →
       CopiesOf 39 (s ∷ num t ∷ num n ∷ []) gs → New 39 gs (assign y e)
-  unfolding fields_of fields_in_lem schema sort_of
+  unfolding fields_of fields_in schema sort_of
   assign_copy {e = e} t h (p ▸ q ▸ a ▸ no_sorts) =
       let x = a.node refl in
       let u = x.2 e h in
@@ -261,14 +261,14 @@ module _ {im im' : Image} (grown : Grows im im') where
 
   call_copy : {i : ℕ} {s path args : Field} {ts ns : List ℕ} {xs : List Text} {es : List (Expr Text)} {gs : List Field} → Holds im path ts →
       AllSay im ts xs → Holds im args ns → Args im i ns es → CopiesOf 41 (s ∷ path ∷ args ∷ []) gs → New 41 gs (call_tree xs es)
-  unfolding fields_of fields_in_lem schema sort_of
+  unfolding fields_of fields_in schema sort_of
   call_copy {i} {ns = ns} {es = es} h ts a ds (p ▸ q ▸ b ▸ no_sorts) =
       let x = b.list refl i ns es a ds in
       rw (q.kept refl) (a_call refl (keep_holds grown h) (keep_all grown ts) x.1 x.2 refl)
 
   ok_copy : {n : ℕ} {s : Field} {e : Expr Text} {gs : List Field} → IsExpr im n e → CopiesOf 49 (s ∷ num n ∷ []) gs →
       New 49 gs (ok_literal e)
-  unfolding fields_of fields_in_lem schema sort_of
+  unfolding fields_of fields_in schema sort_of
   ok_copy {e = e} h (p ▸ a ▸ no_sorts) =
       let x = a.node refl in
       let u = x.2 e h in
@@ -276,7 +276,7 @@ module _ {im im' : Image} (grown : Grows im im') where
 
   err_copy : {n : ℕ} {s : Field} {e : Expr Text} {gs : List Field} → IsExpr im n e → CopiesOf 50 (s ∷ num n ∷ []) gs →
       New 50 gs (err_literal e)
-  unfolding fields_of fields_in_lem schema sort_of
+  unfolding fields_of fields_in schema sort_of
   err_copy {e = e} h (p ▸ a ▸ no_sorts) =
       let x = a.node refl in
       let u = x.2 e h in
@@ -302,7 +302,7 @@ module _ {im im' : Image} (grown : Grows im im') where
 
 -- ---- the copy
 
-record_copy : {im im' im'' : Image} {i j : ℕ} {r : Rec} {gs : List Field} {e : Expr Text} → record_of_lem im Expressions i ≡ r →
+record_copy : {im im' im'' : Image} {i j : ℕ} {r : Rec} {gs : List Field} {e : Expr Text} → record_of im Expressions i ≡ r →
     Grows im im' → Grows im' im'' →
     Copies im im' (map sort_of (fields_of r.kind)) r.fields gs → j ≡ size_of im' Expressions → At im'' Expressions j (made r.kind gs) →
     IsExpr im i e → IsExpr im'' j e
@@ -311,7 +311,7 @@ record_copy {im} {i = i} {r = r} {gs = gs} {e = e} q g l c s at (stands k fs h d
     stands {e = e} r.kind gs at (rw s (keep_reads l (reads_copy g d' c)))
 
 step_ok : (i : ℕ) (clone : ℕ → Make ℕ) → Clones clone → (ctx : Context) →
-    GrowsTo ctx (Copied ctx i) (clone_record clone i (record_of_lem ctx.image Expressions i) ctx)
+    GrowsTo ctx (Copied ctx i) (clone_record clone i (record_of ctx.image Expressions i) ctx)
 step_ok i clone clones ctx =
     test (is_lambda r.kind) (give i) _ ctx
     (λ q. given λ e h. h)
@@ -320,7 +320,7 @@ step_ok i clone clones ctx =
     λ e x. record_copy refl k₁.image k₂.image h₁ h₂.0 h₂.1 x)
   where
     r : Rec
-    r = record_of_lem ctx.image Expressions i
+    r = record_of ctx.image Expressions i
 
 clones_below : (i : ℕ) → ((n : ℕ) → n < i → (ctx : Context) → GrowsTo ctx (Copied ctx n) (deep_clone_expr n ctx)) →
     Clones (below i give deep_clone_expr)
@@ -333,7 +333,7 @@ copy_under (suc b) i l ctx = rw (descend_is give clone_step i)
     (step_ok i (below i give deep_clone_expr) (clones_below i λ n m c. copy_under b n (omega arith) c) ctx)
   where
     clone_step : ℕ → (ℕ → Make ℕ) → Make ℕ
-    clone_step = λ id clone. image_so_far >>= λ im. clone_record clone id (record_of_lem im Expressions id)
+    clone_step = λ id clone. image_so_far >>= λ im. clone_record clone id (record_of im Expressions id)
 
 -- THEOREM: the copy of any expression; where the original stands for a tree the copy does
 pub copy_ok : Clones deep_clone_expr

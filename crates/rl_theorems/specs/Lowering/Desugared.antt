@@ -11,7 +11,7 @@ use Rattle.rl_spec.specs.declared.RefineOp as operator
 use Rattle.rl_spec.specs.declared.RefineOperand.TheVariants.{Integer, Str, Bool as Truth, Param as Named}
 use Rattle.rl_spec.specs.declared.ParamRefinement.TheVariants.{Unrefined, Refined}
 use Rattle.rl_spec.specs.declared.Clause.{Clause}
-use Rattle.rl_spec.specs.Image.{num, Image, record_of_lem, text_of}
+use Rattle.rl_spec.specs.Image.{num, Image, record_of, text_of}
 use Rattle.rl_spec.specs.Values as value
 use Rattle.rl_spec.specs.Values.{RefineOp, gt, ge, lt, le, eq, ne}
 use Rattle.rl_spec.specs.Tree.{literal, identifier, binary, ascii, signed, number}
@@ -109,7 +109,7 @@ module _ (im : Image) where
   ranged : (i : ℕ) → RangedOption (param_of im i).refinement
   unfolding param_of param_at
   ranged i =
-      let r = record_of_lem im Parameters i in
+      let r = record_of im Parameters i in
       by_sort (refine_op (number r 2)) (number r 4) (number r 4 % 65536) (number r 4 == 1) (number r 2 == 0)
       (number r 3 == 1) (number r 3 == 2) (number r 3 == 3)
 

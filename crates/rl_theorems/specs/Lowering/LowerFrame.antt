@@ -9,7 +9,7 @@ use Rattle.std.proofs.Math.Dec.{eqb_refl}
 use Rattle.rl_spec.specs.Values as value
 use Rattle.rl_spec.specs.Values.{ConstVal, same_text}
 use Rattle.rl_spec.specs.Fold.{unary_value, binary_value}
-use Rattle.rl_spec.specs.Tree.{Expr, null, literal, identifier, unary, binary, grouping, assign, ok_literal, err_literal, is_err_lem, result_unwrap_lem, other}
+use Rattle.rl_spec.specs.Tree.{Expr, null, literal, identifier, unary, binary, grouping, assign, ok_literal, err_literal, is_err, result_unwrap, other}
 use Rattle.rl_spec.specs.Mapped.{Text}
 use Rattle.rl_spec.specs.Run.{nothing, folded, Value, plain, ok, err, named, hidden, Env, Outcome, Result, got, ended, Run, and_then, ◌>>=◌, give, halt, or_fault, tick, charge, truth, plain_of, err_of, unwrapped, operand, find, behind, update, look, store, unary_on, binary_on, eval}
 use Rattle.rl_spec.specs.Reading.{Check, unless, violated, check, checks}
@@ -216,8 +216,8 @@ module _ (t : Text) (v : Value Text) (isReserved : begins reserved t ≡ true) w
   blind_eval (assign x e) c = blind_then blind_tick (λ _. blind_then (blind_eval e c.1) (λ w. blind_then (blind_store x w c.0) (λ _. blind_give w)))
   blind_eval (ok_literal e) c = blind_then blind_tick (λ _. blind_then (blind_eval e c) (λ w. blind_then (blind_plain_of w) (λ p. blind_give _)))
   blind_eval (err_literal e) c = blind_then blind_tick (λ _. blind_then (blind_eval e c) (λ w. blind_then (blind_plain_of w) (λ p. blind_give _)))
-  blind_eval (is_err_lem e) c = blind_then blind_tick (λ _. blind_then (blind_eval e c) (λ w. blind_then (blind_err_of w) (λ p. blind_give _)))
-  blind_eval (result_unwrap_lem e) c = blind_then blind_tick (λ _. blind_then (blind_eval e c) blind_unwrapped)
+  blind_eval (is_err e) c = blind_then blind_tick (λ _. blind_then (blind_eval e c) (λ w. blind_then (blind_err_of w) (λ p. blind_give _)))
+  blind_eval (result_unwrap e) c = blind_then blind_tick (λ _. blind_then (blind_eval e c) blind_unwrapped)
   blind_eval other c = blind_then blind_tick (λ _. blind_halt _)
 
   blind_violated : (r : Bool) (m : Expr Text) → Clean m → Blind (violated own r m)

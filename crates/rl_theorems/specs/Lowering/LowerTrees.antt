@@ -2,7 +2,7 @@
 -- no helper with the contract reading.
 use Rattle.std.specs.Prelude.{ℕ, suc, Bool, true, false, List, [], ◌∷◌, ◌++◌}
 use Rattle.std.proofs.Math.Option.{Option, none, some}
-use Rattle.rl_spec.specs.Tree.{Expr, null, identifier, unary, err_literal, is_err_lem, result_unwrap_lem, ascii}
+use Rattle.rl_spec.specs.Tree.{Expr, null, identifier, unary, err_literal, is_err, result_unwrap, ascii}
 use Rattle.rl_spec.specs.Statement.{Stmt, declaration, expression, return, return_alone, conditional, while, loop, break, continue, other_statement, Body, nil, ◌▸◌, Branch, branch, Else, no_else, else_branch, else_conditional}
 use Rattle.rl_spec.specs.Message.{decimal}
 use Rattle.rl_spec.specs.Mapped.{Text}
@@ -19,7 +19,7 @@ nil ⧺ b = b
 -- `std::res::result_unwrap(err(message))`; in a result function `return err(message)`
 abbrev pub violation : Bool → Expr Text → Stmt Text
 violation true m = return (err_literal m)
-violation false m = expression (result_unwrap_lem (err_literal m))
+violation false m = expression (result_unwrap (err_literal m))
 
 -- `if (cond) { s }`
 abbrev pub only_if : Expr Text → Stmt Text → Stmt Text
@@ -49,12 +49,12 @@ ret_name = ascii "ret"
 -- of a result function: `if (std::res::is_err(temp)) { return temp }`
 abbrev pub skip_err : Bool → Text → Body Text → Body Text
 skip_err false t b = b
-skip_err true t b = only_if (is_err_lem (identifier t)) (return (identifier t)) ▸ b
+skip_err true t b = only_if (is_err (identifier t)) (return (identifier t)) ▸ b
 
 -- of a result function: what the Ok holds
 abbrev pub inner : Bool → Text → Expr Text
 inner false t = identifier t
-inner true t = result_unwrap_lem (identifier t)
+inner true t = result_unwrap (identifier t)
 
 -- under the temporary's name
 abbrev pub wrap_as : Bool → List (Check Text) → Text → Expr Text → Body Text

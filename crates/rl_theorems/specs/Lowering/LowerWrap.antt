@@ -3,7 +3,7 @@
 use Rattle.std.specs.Prelude.{◌≡◌, ℕ, zero, suc, Bool, true, false, cond, List, ◌∷◌, length, nat_lt}
 use Rattle.std.proofs.Math.Path.{refl}
 use Rattle.std.proofs.Common.{◌∙◌}
-use Rattle.rl_spec.specs.Tree.{Expr, null, identifier, result_unwrap_lem, ascii}
+use Rattle.rl_spec.specs.Tree.{Expr, null, identifier, result_unwrap, ascii}
 use Rattle.rl_spec.specs.Statement.{declaration, return, return_alone, Body, nil, ◌▸◌}
 use Rattle.rl_spec.specs.Mapped.{Text}
 use Rattle.rl_spec.specs.Run.{Plain, Value, plain, ok, err, named, hidden, Env, returned, fault, Result, got, ended, Run, and_then, ◌>>=◌, ◌>>◌, give, halt, charge, bind, find, eval}
@@ -54,7 +54,7 @@ module _ (cs : List (Check Text)) (clean : CleanChecks cs) (t : Text) (isReserve
 
   -- an Ok is unwrapped
   unwrapping : (p : Plain Text) (env : Env Text) (n : ℕ) →
-      run (declaration ret_name (result_unwrap_lem (identifier t)) ▸ tail true) (named t (ok p) ∷ env) n
+      run (declaration ret_name (result_unwrap (identifier t)) ▸ tail true) (named t (ok p) ∷ env) n
       ≡ ((charge 3 >> give (plain p)) >>= λ w. bind (named ret_name w) >> tail' true (ok p)) (hidden (ok p) ∷ env) n
   unfolding stmt eval find
   unwrapping p env zero = refl

@@ -15,14 +15,14 @@ use Rattle.rl_spec.specs.declared.Plain.TheVariants.{Null, Const}
 use Rattle.rl_spec.specs.declared.Section.TheVariants.{Texts, Functions}
 use Rattle.rl_spec.specs.declared.Value.{Value}
 use Rattle.rl_spec.specs.declared.Value.TheVariants.{Plain as Bare, Ok, Err}
-use Rattle.rl_spec.specs.Image.{Rec, Image, no_field, no_record, records_of, size_of, record_of_lem, text_of, WellFormed}
+use Rattle.rl_spec.specs.Image.{Rec, Image, no_field, no_record, records_of, size_of, record_of, text_of, WellFormed}
 use Rattle.rl_spec.specs.Values as value
 use Rattle.rl_spec.specs.Folded.{const_of}
 use Rattle.rl_spec.specs.Records.{function_at}
 use Rattle.rl_spec.specs.Run as run
 use Rattle.rl_spec.specs.Mapped.{map_const, map_plain, map_value}
 use Rattle.rl_spec.specs.Lower.{bodied}
-use Rattle.rl_spec.specs.Runner.{plain_of, value_of, const_has, plain_has, value_has, all_have_lem, values_of}
+use Rattle.rl_spec.specs.Runner.{plain_of, value_of, const_has, plain_has, value_has, all_have, values_of}
 use Rattle.rl_images.specs.Lowering.Grows.{longer_length, text_stays}
 use Rattle.rl_theorems.specs.Trees.DenotingExpressions.{text_says}
 use Rattle.rl_images.specs.Lowering.Followed.{Followed}
@@ -51,16 +51,16 @@ keeps_then p q =
 
 module _ (im im' : Image) (f : ℕ) (wf : WellFormed im) (to : Followed im f im') where
   abbrev changed : Rec
-  changed = bodied (record_of_lem im Functions f) to.functions.0
+  changed = bodied (record_of im Functions f) to.functions.0
 
-  record_of_lem : (g : ℕ) → record_of_lem im' Functions g ≡ slice_index_or (slice_set (records_of im Functions) f changed) g no_record
+  record_of_lem : (g : ℕ) → record_of im' Functions g ≡ slice_index_or (slice_set (records_of im Functions) f changed) g no_record
   record_of_lem g = ap (λ (rs : List Rec). get_or rs g no_record) to.functions.1
 
   own_params : f < size_of im Functions → (function_at im' f).params ≡ (function_at im f).params
   unfolding function_at
   own_params l =
-      let r : Rec = record_of_lem im Functions f in
-      let d : record_of_lem im' Functions f ≡ changed = record_of_lem f ∙ get_or-set_same (records_of im Functions) f changed no_record l in
+      let r : Rec = record_of im Functions f in
+      let d : record_of im' Functions f ≡ changed = record_of_lem f ∙ get_or-set_same (records_of im Functions) f changed no_record l in
       let p : get_or (slice_set r.fields 4 to.functions.0) 2 no_field ≡ get_or r.fields 2 no_field =
       get_or-set_other r.fields 4 2 to.functions.0 no_field (λ e. omega arith) in
       rw (d, p) refl
@@ -99,13 +99,13 @@ module _ (im im' : Image) (to : Keeps im im') (c c' : Counts) (here : size_of im
   value_same (Ok p) h = ap run.ok (plain_same p h)
   value_same (Err p) h = ap run.err (plain_same p h)
 
-  pub values_same : (vs : List Argument) → all_have_lem c vs ≡ true →
+  pub values_same : (vs : List Argument) → all_have c vs ≡ true →
       map (map_value (text_of im')) (values_of vs) ≡ map (map_value (text_of im)) (values_of vs)
-  unfolding all_have_lem
+  unfolding all_have
   values_same [] h = refl
   values_same (a ∷ vs) h =
       let has : Bool = value_has c a.value in
-      let have : Bool = all_have_lem c vs in
+      let have : Bool = all_have c vs in
       ap₂ (λ x l. x ∷ l) (value_same a.value (and_left has have h)) (values_same vs (and_right has have h))
 
   -- and they are there
@@ -124,10 +124,10 @@ module _ (im im' : Image) (to : Keeps im im') (c c' : Counts) (here : size_of im
   value_has_lem (Ok p) h = plain_has_lem p h
   value_has_lem (Err p) h = plain_has_lem p h
 
-  pub values_have : (vs : List Argument) → all_have_lem c vs ≡ true → all_have_lem c' vs ≡ true
-  unfolding all_have_lem
+  pub values_have : (vs : List Argument) → all_have c vs ≡ true → all_have c' vs ≡ true
+  unfolding all_have
   values_have [] h = refl
   values_have (a ∷ vs) h =
       let has : Bool = value_has c a.value in
-      let have : Bool = all_have_lem c vs in
+      let have : Bool = all_have c vs in
       ap₂ ◌&&◌ (value_has_lem a.value (and_left has have h)) (values_have vs (and_right has have h))

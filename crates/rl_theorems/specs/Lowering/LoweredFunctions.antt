@@ -6,7 +6,7 @@ use Rattle.std.proofs.Common.{ap₂, ◌∙◌, true≢false, arith, get_or-set_
 use Rattle.std.proofs.lemmas.Simd.{map-map}
 use Rattle.std.proofs.Math.Option.{Option, none, some, some-injective, none-ne-some}
 use Rattle.rl_spec.specs.declared.Section.TheVariants.{Functions}
-use Rattle.rl_spec.specs.Image.{Field, no_field, Rec, Image, records_of, size_of, no_record, record_of_lem, field_of, first, text_of, encode, WellFormed}
+use Rattle.rl_spec.specs.Image.{Field, no_field, Rec, Image, records_of, size_of, no_record, record_of, field_of, first, text_of, encode, WellFormed}
 use Rattle.rl_spec.specs.Tree.{ascii}
 use Rattle.rl_spec.specs.Statement.{Body, body_tree}
 use Rattle.rl_spec.specs.Ranges.{interval, numbers_in}
@@ -80,7 +80,7 @@ module _ (im : Image) (wf : WellFormed im) (f : ℕ) (inside : f < size_of im Fu
   made_body : Ensured source.ensures source.body → GrowsTo (start im f) Made (new_body im f (start im f))
   unfolding new_body contract_function contracts_of function_at
   made_body o =
-      let x : FunctionFits im f (record_of_lem im Functions f) = function_fits im wf f inside in
+      let x : FunctionFits im f (record_of im Functions f) = function_fits im wf f inside in
       desugared_ok (numbers_in (function_at im f).params) (body_in im f) (requires_in im f) (ensures_in im f) (start im f) _ _ _
       (clauses_check im wf (ascii "requires violated") _ _ x.required) (clauses_check im wf (ascii "ensures violated") _ _ x.ensured)
       (body_stands im wf f inside) o ▷ λ ms c₁ k₁ h₁. list_ok ms c₁ ▹ λ list c₂ k₂ h₂. (h₁.0, ms, h₂, keep_lines k₂.image h₁.1, h₁.2)
@@ -90,9 +90,9 @@ module _ (im : Image) (wf : WellFormed im) (f : ℕ) (inside : f < size_of im Fu
     end = finished.end im wf f c later list
 
     abbrev own : Rec
-    own = record_of_lem im Functions f
+    own = record_of im Functions f
 
-    own_record : record_of_lem end Functions f ≡ bodied own list
+    own_record : record_of end Functions f ≡ bodied own list
     own_record =
         ap (λ l. get_or l f no_record) (records_own c.image Functions _ (later.image.sections ∙ eight_sections im wf))
         ∙ get_or-set_same (records_of c.image Functions) f _ no_record (rw later.image.functions inside)

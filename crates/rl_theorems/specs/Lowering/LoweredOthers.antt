@@ -8,7 +8,7 @@ use Rattle.std.proofs.Math.Option.{some}
 use Rattle.rl_spec.specs.declared.Optional.{Optional}
 use Rattle.rl_spec.specs.declared.Function as declared
 use Rattle.rl_spec.specs.declared.Section.TheVariants.{Expressions, Clauses, Functions}
-use Rattle.rl_spec.specs.Image.{Field, Image, records_of, size_of, no_record, record_of_lem, field_of, text_of, WellFormed}
+use Rattle.rl_spec.specs.Image.{Field, Image, records_of, size_of, no_record, record_of, field_of, text_of, WellFormed}
 use Rattle.rl_spec.specs.Tree.{expr_tree, optional_tree}
 use Rattle.rl_spec.specs.Statement.{body_tree}
 use Rattle.rl_spec.specs.Records.{clause_by, function_by, clause_at, function_at}
@@ -65,12 +65,12 @@ module _ (im : Image) (wf : WellFormed im) (f : ℕ) (c : Context) (later : Late
   same_clause_of : (i : ℕ) → i < size_of im Clauses → map_clause (text_of end) (clause_of end i) ≡ map_clause (text_of im) (clause_of im i)
   unfolding clause_of clause_at
   same_clause_of i h =
-      let x : ClauseFits im (record_of_lem im Clauses i) = clause_fits im wf i h in
+      let x : ClauseFits im (record_of im Clauses i) = clause_fits im wf i h in
       (λ j. record {
         condition = map_expr (text_of end) (expr_tree end (same_clause i j).condition);
         message = Option.map (map_expr (text_of end)) (optional_tree end (same_clause i j).message);
       })
-      ∙ (λ j. record { condition = same_expr _ x.0 j; message = same_message (optional_says (field_of (record_of_lem im Clauses i) 1) x.1) j })
+      ∙ (λ j. record { condition = same_expr _ x.0 j; message = same_message (optional_says (field_of (record_of im Clauses i) 1) x.1) j })
 
   same_clauses : (a n : ℕ) → a + n ≤ size_of im Clauses →
       map (map_clause (text_of end)) (map (clause_of end) (up_from a n)) ≡ map (map_clause (text_of im)) (map (clause_of im) (up_from a n))
@@ -91,7 +91,7 @@ module _ (im : Image) (wf : WellFormed im) (f : ℕ) (c : Context) (later : Late
     same_body : map_body (text_of end) (body_tree end (function_at im g).body) ≡ map_body (text_of im) (body_tree im (function_at im g).body)
     unfolding function_at
     same_body =
-        let l : Field = field_of (record_of_lem im Functions g) 4 in
+        let l : Field = field_of (record_of im Functions g) 4 in
         let x = function_fits im wf g inside in
         body_same c.image _ (interval l)
         ∙ body_of c.image l (keep_holds later.image (record { inside = x.inside; is = refl })) (keep_lines later.image (body_stands im wf g inside))

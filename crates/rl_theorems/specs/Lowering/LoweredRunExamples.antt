@@ -6,7 +6,7 @@ use Rattle.std.proofs.Common.{ap, true≢false}
 use Rattle.std.proofs.Math.Option.{Option, none, some}
 use Rattle.rl_spec.specs.Values as value
 use Rattle.rl_spec.specs.Values.{same_text, compare_values, arith_values, bang}
-use Rattle.rl_spec.specs.Tree.{Expr, literal, identifier, unary, binary, assign, ok_literal, err_literal, is_err_lem, result_unwrap_lem, ascii}
+use Rattle.rl_spec.specs.Tree.{Expr, literal, identifier, unary, binary, assign, ok_literal, err_literal, is_err, result_unwrap, ascii}
 use Rattle.rl_spec.specs.Fold.{unary_value, binary_value}
 use Rattle.rl_spec.specs.Statement.{Stmt, declaration, expression, return, conditional, while, Body, nil, ◌▸◌, Branch, branch, no_else, else_conditional}
 use Rattle.rl_spec.specs.Message.{decimal_by, decimal}
@@ -52,7 +52,7 @@ if e b = branch (some e) b
 
 -- what a guard of a function that is no result function is
 abbrev refused : Expr Text → Stmt Text
-refused e = conditional (if (unary 5 e) (one (expression (result_unwrap_lem (err_literal no))))) no_else
+refused e = conditional (if (unary 5 e) (one (expression (result_unwrap (err_literal no))))) no_else
 
 -- ---- two functions that meet the premises
 
@@ -110,8 +110,8 @@ plain_lowered = refl
 
 pub result_lowered : (lowered result_one).body ≡
     declaration first (ok_literal x)
-    ▸ conditional (if (is_err_lem (identifier first)) (one (return (identifier first)))) no_else
-    ▸ declaration (ascii "ret") (result_unwrap_lem (identifier first))
+    ▸ conditional (if (is_err (identifier first)) (one (return (identifier first)))) no_else
+    ▸ declaration (ascii "ret") (result_unwrap (identifier first))
     ▸ conditional (if (unary 5 (binary ret 8 (number 7))) (one (return (err_literal no)))) no_else
     ▸ one (return (identifier first))
 unfolding lowered guards transform_stmt trailing without_last ◌⧺◌ decimal decimal_by ascii

@@ -38,7 +38,7 @@ module _ (r : Bool) (cs : List (Check Text)) where
       cons_to : {s : Stmt Text} {a b b' c : Body Text} → StmtTo s a → BodyTo b b' → c ≡ a ⧺ b' → BodyTo (s ▸ b) c
 
     pub data BranchTo : Branch Text → Branch Text → Type 0 where
-      branch_to_lem : {c : Option (Expr Text)} {b b' : Body Text} → BodyTo b b' → BranchTo (branch c b) (branch c b')
+      branch_to : {c : Option (Expr Text)} {b b' : Body Text} → BodyTo b b' → BranchTo (branch c b) (branch c b')
 
     -- a conditional that is an else branch is left alone
     pub data ElseTo : Else Text → Else Text → Type 0 where
@@ -68,7 +68,7 @@ module _ (r : Bool) (cs : List (Check Text)) where
     body_to (s ▸ b) n = cons_to (stmt_to s n) (body_to b (transform_stmt r cs n s).1) refl
 
     branch_to_lem : (b : Branch Text) (n : ℕ) → BranchTo b (transform_branch r cs n b).0
-    branch_to_lem (branch c b) n = branch_to_lem (body_to b n)
+    branch_to_lem (branch c b) n = branch_to (body_to b n)
 
     else_to : (e : Else Text) (n : ℕ) → ElseTo e (transform_else r cs n e).0
     else_to no_else n = no_else_to
@@ -126,7 +126,7 @@ module _ (r : Bool) (cs : List (Check Text)) where
           ap (run plainly) e ∙ run_append plainly a b' ∙ (λ i. stmt_runs p i >>= λ f. followed f (body_runs q i))
 
       branch_runs : {b b' : Branch Text} → BranchTo b b' → branch_or own plainly b' ≡ branch_or own (checked ret_name r cs) b
-      branch_runs (branch_to_lem {c = c} p) = λ i other. taken own c >>= λ t. when t (scoped (body_runs p i)) other
+      branch_runs (branch_to {c = c} p) = λ i other. taken own c >>= λ t. when t (scoped (body_runs p i)) other
 
       else_runs : {e e' : Else Text} → ElseTo e e' → or_else own plainly e' ≡ or_else own (checked ret_name r cs) e
       else_runs no_else_to = refl

@@ -5,7 +5,7 @@ use Rattle.std.proofs.Common.{ap, ap₂, sym, ◌∙◌, append_assoc, arith, le
 use Rattle.std.proofs.lemmas.List.{length-map}
 use Rattle.std.proofs.Math.Seq.{take-length, get_or-append_seam, drop-append_seam}
 use Rattle.rl_spec.specs.declared.Section.TheVariants.{Texts, Lists, Expressions, Statements}
-use Rattle.rl_spec.specs.Image.{Field, num, pair, Rec, Image, records_of, size_of, no_record, record_of_lem, field_of, first}
+use Rattle.rl_spec.specs.Image.{Field, num, pair, Rec, Image, records_of, size_of, no_record, record_of, field_of, first}
 use Rattle.rl_spec.specs.Tree.{Expr}
 use Rattle.rl_spec.specs.Ranges.{up_from}
 use Rattle.rl_spec.specs.Mapped.{Text}
@@ -52,7 +52,7 @@ text_says im s e = record {
     own : records_of (with_text im s) Texts ≡ records_of im Texts ++ text_records im s
     own = records_own (with_bytes im (im.bytes ++ s)) Texts (records_of im Texts ++ text_records im s) e
 
-    record_is : record_of_lem (with_text im s) Texts (size_of im Texts) ≡ made 2 (pair (length im.bytes) (length s) ∷ [])
+    record_is : record_of (with_text im s) Texts (size_of im Texts) ≡ made 2 (pair (length im.bytes) (length s) ∷ [])
     record_is = ap (λ l. get_or l (size_of im Texts) no_record) own ∙ get_or-append_seam (records_of im Texts) _ [] no_record
 
 pub text_ok : (s : List ℕ) (ctx : Context) → GrowsTo ctx (λ t c. Says c.image t s) (new_text s ctx)

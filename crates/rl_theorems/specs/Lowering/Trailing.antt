@@ -1,12 +1,12 @@
 -- The body under ensures that is made stands for what the body's tree is lowered to.
 -- Assumes nothing.
 use Rattle.std.specs.Prelude.{◌≡◌, ℕ, suc, ◌-◌, Bool, true, false, not, ◌&&◌, ◌⊎◌, List, [], ◌∷◌, ◌++◌, length, take, ◌==◌, ◌≢◌, nat_eq, slice_index, refl}
-use Rattle.std.proofs.Common.{ap, sym, ◌∙◌, subst, inl, inr, true≢false, append_nil, eq-eqb, ne_eqb}
+use Rattle.std.proofs.Common.{ap, sym, ◌∙◌, subst, inl, inr, true≢false, append-nil, eq-eqb, ne_eqb}
 use Rattle.std.proofs.Math.Option.{none, some, some-injective, none-ne-some}
 use native.Mathlib.Omega.{arith}
 use Rattle.rl_spec.specs.declared.Section.TheVariants.{Statements}
 use Rattle.rl_spec.specs.declared.Clause.{Clause}
-use Rattle.rl_spec.specs.Image.{Field, Image, record_of_lem}
+use Rattle.rl_spec.specs.Image.{Field, Image, record_of}
 use Rattle.rl_spec.specs.Tree.{Expr, ascii, number}
 use Rattle.rl_spec.specs.Statement.{Stmt, declaration, expression, return, return_alone, conditional, while, loop, break, continue, other_statement, Body, nil, ◌▸◌, statement_by, Item, as_statement}
 use Rattle.rl_spec.specs.FnContracts.{is_empty}
@@ -17,7 +17,7 @@ use Rattle.rl_spec.specs.Lower.{transform_statement, last_of, wrap_trailing, ens
 use Rattle.rl_theorems.specs.Lowering.LowerTrees as tree
 use Rattle.rl_theorems.specs.Lowering.LowerTrees.{◌⧺◌}
 use Rattle.rl_theorems.specs.Lowering.LowerFrame.{begins}
-use Rattle.rl_theorems.specs.Lowering.LowerBodies.{NoBare, Some, NoBareLast, OnlyBare, append_nil as body-nil}
+use Rattle.rl_theorems.specs.Lowering.LowerBodies.{NoBare, Some, NoBareLast, OnlyBare, append-nil as body-nil}
 use Rattle.rl_theorems.specs.Lowering.LoweredTo.{expression_to, BodyTo, nil_to, cons_to, no_bare_to, something_to, EnsuredTo, wrapped, only_wrapped}
 use Rattle.rl_images.specs.Lowering.GrowsTo.{GrowsTo, ◌▷◌, ◌▹◌, given, test}
 use Rattle.rl_theorems.specs.Trees.Denotes.{IsExpr, stands_line, ReadsLine, a_declaration, an_expression, a_return, a_return_alone, a_conditional, an_arm, a_while, a_loop, a_break, a_continue, an_other_line, Rows, no_rows, a_row}
@@ -86,7 +86,7 @@ module _ (im : Image) where
   ends_bare ns = not (is_empty ns) && (last_of im ns).kind == 65
 
   later_last : (m n : ℕ) (ns : List ℕ) → last_of im (m ∷ n ∷ ns) ≡ last_of im (n ∷ ns)
-  later_last m n ns = ap (record_of_lem im Statements) (ap (λ k. slice_index (m ∷ n ∷ ns) k) a ∙ ap (λ k. slice_index (n ∷ ns) k) b)
+  later_last m n ns = ap (record_of im Statements) (ap (λ k. slice_index (m ∷ n ∷ ns) k) a ∙ ap (λ k. slice_index (n ∷ ns) k) b)
     where
       a : length (m ∷ n ∷ ns) - 1 ≡ suc (length ns)
       a = omega arith
@@ -97,7 +97,7 @@ module _ (im : Image) where
   not_bare : {i : ℕ} {ns : List ℕ} {b : Body Text} → Rows im i ns b → NoBareLast b → ends_bare ns ≡ false
   not_bare no_rows h = refl
   not_bare (a_row {n = n} l (stands_line k fs at d) q no_rows) h =
-      ne_eqb (record_of_lem im Statements n).kind 65 (λ e. bare_kind d (sym (ap bare q) ∙ h) (sym (ap (λ r. r.kind) at.is) ∙ e))
+      ne_eqb (record_of im Statements n).kind 65 (λ e. bare_kind d (sym (ap bare q) ∙ h) (sym (ap (λ r. r.kind) at.is) ∙ e))
   not_bare (a_row {n = m} l x q (a_row {n = n} {ns = ns} l' x' q' rs)) h =
       ap (λ r. nat_eq r.kind 65) (later_last m n ns) ∙ not_bare (a_row l' x' q' rs) h
 
@@ -112,7 +112,7 @@ module _ (im : Image) where
       let p = bare_reads d (sym (ap bare q)) in
       record {
         only = refl;
-        ends = eq-eqb (record_of_lem im Statements n).kind 65 (ap (λ r. r.kind) at.is ∙ p.0);
+        ends = eq-eqb (record_of im Statements n).kind 65 (ap (λ r. r.kind) at.is ∙ p.0);
         value = subst (λ r. IsExpr im (number r 1) e) (sym at.is) p.1;
       }
 
@@ -136,7 +136,7 @@ trailing_ok ensures ns ctx =
             w.0,
             w.1,
             subst (λ ms. Lines c.image ms (tree.wrap_as ctx.is_result ks w.0 e))
-                (sym (ap (λ l. seq ++ l) o.only ∙ append_nil seq)) (w.2 e ks o.value d),
+                (sym (ap (λ l. seq ++ l) o.only ∙ append-nil seq)) (w.2 e ks o.value d),
           );
     }))
     (λ q. given (record { left = λ b x h. x; turned = λ e ks d x. absurd (true≢false (sym (one_bare ctx.image x).ends ∙ q)) }))

@@ -8,7 +8,7 @@ use Rattle.rl_spec.specs.declared.Section.TheVariants.{Statements}
 use Rattle.rl_spec.specs.declared.Optional.{Optional}
 use Rattle.rl_spec.specs.declared.Optional.TheVariants.{None, Some}
 use Rattle.rl_spec.specs.declared.Clause.{Clause}
-use Rattle.rl_spec.specs.Image.{Field, num, Rec, Image, size_of, record_of_lem, field_of, first}
+use Rattle.rl_spec.specs.Image.{Field, num, Rec, Image, size_of, record_of, field_of, first}
 use Rattle.rl_spec.specs.Tree.{Expr, null, ascii, number, below}
 use Rattle.rl_spec.specs.Statement.{Stmt, conditional, while, loop as loopTree, other_statement, Body, nil, ◌▸◌, Branch, branch, Else, statement_by, Item, a_statement, a_branch, as_statement}
 use Rattle.rl_spec.specs.Ranges.{optional, optional_field}
@@ -18,7 +18,7 @@ use Rattle.rl_spec.specs.Make.{Context, Make, and_then, ◌>>=◌, give, image_s
 use Rattle.rl_spec.specs.Lower.{transform_returns, transform_list, transform_branch, transform_else, transform_arm, conditional as makeConditional, match, loop, only, transform_statement_by, transform_statement}
 use Rattle.rl_laws.specs.Descend.{descend_is}
 use Rattle.rl_theorems.specs.Lowering.LowerTrees.{◌⧺◌}
-use Rattle.rl_theorems.specs.Lowering.LoweredTo.{StmtTo, declaration_to, expression_to, return_to, return_alone_to, conditional_to, while_to, loop_to, break_to, continue_to, other_to, BodyTo, nil_to, cons_to, BranchTo, branch_to_lem, ElseTo, no_else_to, else_branch_to, else_conditional_to}
+use Rattle.rl_theorems.specs.Lowering.LoweredTo.{StmtTo, declaration_to, expression_to, return_to, return_alone_to, conditional_to, while_to, loop_to, break_to, continue_to, other_to, BodyTo, nil_to, cons_to, BranchTo, branch_to, ElseTo, no_else_to, else_branch_to, else_conditional_to}
 use Rattle.rl_images.specs.Lowering.Grows.{Grows}
 use Rattle.rl_images.specs.Lowering.GrowsTo.{GrowsTo, ◌▷◌, ◌▹◌, given, test, Anything, only_grows, under}
 use Rattle.rl_laws.specs.Optionals.{IfSome, no_index, an_index, optional_is}
@@ -112,7 +112,7 @@ module _ (ensures : List Clause) where
 
     arm_grows : (s : ℕ) (ctx : Context) → GrowsTo ctx Anything (transform_arm walk s ctx)
     unfolding transform_arm
-    arm_grows s ctx = let r = record_of_lem ctx.image Statements s in
+    arm_grows s ctx = let r = record_of ctx.image Statements s in
         only_grows (rebuilt (field_of r 2) 76 (number r 0) (λ body. field_of r 1 ∷ body ∷ []) ctx)
 
     arms_grow : (ss : List ℕ) (ctx : Context) → GrowsTo ctx Anything (each (transform_arm walk) ss ctx)
@@ -128,7 +128,7 @@ module _ (ensures : List Clause) where
 
     branch_grows : (s : ℕ) (ctx : Context) → GrowsTo ctx Anything (transform_branch walk s ctx)
     unfolding transform_branch
-    branch_grows s ctx = let r = record_of_lem ctx.image Statements s in
+    branch_grows s ctx = let r = record_of ctx.image Statements s in
         test (r.kind == 69) _ (give s) ctx
         (λ q. only_grows (rebuilt (field_of r 2) 69 (number r 0) (λ body. field_of r 1 ∷ body ∷ num 0 ∷ []) ctx)) (λ q. given tt)
 
@@ -180,7 +180,7 @@ module _ (ensures : List Clause) where
       branch_known {s} met (stands_line k fs h (an_arm {o = o} {list = list} {ns = ns} {b = b} q c l rs)) =
           rw (h.is, q) (rows_list list ctx ▷ λ g c₁ k₁ h₁. stmt_ok 69 _ (o ∷ g ∷ num 0 ∷ []) c₁ ▹ λ m c₂ k₂ f.
           let t = h₁ ks s ns b met d l rs in
-          (_, f _ (an_arm refl (keep_condition k₁.image c) t.2 t.3), branch_to_lem t.4))
+          (_, f _ (an_arm refl (keep_condition k₁.image c) t.2 t.3), branch_to t.4))
 
       -- a conditional that is an else branch is left alone
       chain_known : {s : ℕ} {b : Branch Text} {e : Else Text} → IsLine ctx.image s (a_statement (conditional b e)) →
@@ -267,18 +267,18 @@ module _ (ensures : List Clause) where
       reads_known {s} {k} {fs} met is (an_other_line o) = other_known k fs s o is
 
       statement_known : {s : ℕ} {x : Item Text} → Among Met s → IsLine ctx.image s x →
-          GrowsTo ctx (Result (as_statement x)) (transform_statement_by walk ensures s (record_of_lem ctx.image Statements s) ctx)
+          GrowsTo ctx (Result (as_statement x)) (transform_statement_by walk ensures s (record_of ctx.image Statements s) ctx)
       statement_known met (stands_line k fs h t) = rw h.is (reads_known met (stands_line k fs h t) t)
 
     step_ok : (s : ℕ) → Among Met s → (ctx : Context) →
         GrowsTo ctx (λ ns c. LineTo ctx.is_result ctx.image s ns c.image)
-        (transform_statement_by walk ensures s (record_of_lem ctx.image Statements s) ctx)
+        (transform_statement_by walk ensures s (record_of ctx.image Statements s) ctx)
     step_ok s met ctx =
-        under (statement_grows s (record_of_lem ctx.image Statements s) ctx) known ▹ λ ns c k h ks x d l. h (ks, x, d, l)
+        under (statement_grows s (record_of ctx.image Statements s) ctx) known ▹ λ ns c k h ks x d l. h (ks, x, d, l)
       where
         known : (p : (ks : List (Check Text)) × (x : Item Text) × Ensures ctx.image ks × IsLine ctx.image s x) →
             GrowsTo ctx (λ ns c. (a : Body Text) × Lines c.image ns a × StmtTo ctx.is_result p.0 (as_statement p.1) a)
-            (transform_statement_by walk ensures s (record_of_lem ctx.image Statements s) ctx)
+            (transform_statement_by walk ensures s (record_of ctx.image Statements s) ctx)
         known p = statement_known ctx p.0 p.2 met p.3
 
   -- ---- all statements
@@ -302,7 +302,7 @@ module _ (ensures : List Clause) where
       (λ n m. m) ctx)
     where
       step : ℕ → (ℕ → Make (List ℕ)) → Make (List ℕ)
-      step = λ s walk. image_so_far >>= λ im. transform_statement_by walk ensures s (record_of_lem im Statements s)
+      step = λ s walk. image_so_far >>= λ im. transform_statement_by walk ensures s (record_of im Statements s)
 
   -- THEOREM: the transform of any statement; where it stands for a tree the new ones stand for what the tree is lowered to
   pub transform_ok : Walks (λ n. Unit {0}) (transform_statement ensures)

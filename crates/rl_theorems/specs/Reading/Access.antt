@@ -16,10 +16,10 @@ use Rattle.rl_spec.specs.declared.Check.TheVariants.{Holds, Fails}
 use Rattle.rl_spec.specs.declared.Step.{Step}
 use Rattle.rl_spec.specs.declared.Step.TheVariants.{Next, Stop}
 use Rattle.rl_spec.specs.Bytes.{u16_at, u32_at, past}
-use Rattle.rl_spec.specs.Schema.{text_bytes_at, sections, in_section, tallest, part, span, sort_of, schema, fields_in_lem, fields_of}
+use Rattle.rl_spec.specs.Schema.{text_bytes_at, sections, in_section, tallest, part, span, sort_of, schema, fields_in, fields_of}
 use Rattle.rl_spec.specs.Fields.{lists_at, entry_at, part_of, value_of, field_at, checked, fields_from, height_step, record_at}
 use Rattle.rl_spec.specs.Read.{Out, good, bad, after, and_then, counts_of, header_of, records_from, sections_from, end_of, body_of, read_of, answer_by, answer_of, starts_of}
-use Rattle.rl_spec.specs.Image.{no_field, first, second, record_of_lem, field_of, entry_of, text_of, fields_at, record_in, image_of}
+use Rattle.rl_spec.specs.Image.{no_field, first, second, record_of, field_of, entry_of, text_of, fields_at, record_in, image_of}
 use Rattle.rl_laws.specs.Tests.{by_ltb}
 use Rattle.rl_images.specs.Reading.ReadOutcome.{accepted_reads, accepted_header}
 use Rattle.rl_images.specs.Reading.Starts.{starts_expression, starts_statement, stands_text, stands_entry}
@@ -59,13 +59,13 @@ module _ (s : List ℕ) (at : ℕ) where
 
   -- THEOREMS: the span of an expression or a statement is the u32 after its kind
   pub expression_span : in_section Expressions (slice_index s at) ≡ true → u32_at s (at + 1) ≡ first (field_of (record_in s at) 0)
-  unfolding fields_of fields_in_lem schema
+  unfolding fields_of fields_in schema
   expression_span e =
       let r = kind_range Expressions (slice_index s at) e in
       span_by (spans_at 42 16 (slice_index s at) refl r.0 (omega arith))
 
   pub statement_span : in_section Statements (slice_index s at) ≡ true → u32_at s (at + 1) ≡ first (field_of (record_in s at) 0)
-  unfolding fields_of fields_in_lem schema
+  unfolding fields_of fields_in schema
   statement_span e =
       let r = kind_range Statements (slice_index s at) e in
       span_by (spans_at 16 64 (slice_index s at) refl r.0 (omega arith))
@@ -74,7 +74,7 @@ module _ (s : List ℕ) (at : ℕ) where
 
 module _ (s : List ℕ) (at : ℕ) where
   entry_value : in_section Lists (slice_index s at) ≡ true → u16_at s (at + 1) ≡ first (field_of (record_in s at) 0)
-  unfolding record_in fields_at fields_of fields_in_lem schema sort_of
+  unfolding record_in fields_at fields_of fields_in schema sort_of
   entry_value e =
       let r = kind_range Lists (slice_index s at) e in
       let k : get_or s at 0 ≡ 3 = omega arith in
@@ -87,11 +87,11 @@ module _ (s : List ℕ) (at : ℕ) where
         omega arith
 
     text_first : u16_at s (at + 1) ≡ first (field_of (record_in s at) 0)
-    unfolding record_in fields_at fields_of fields_in_lem schema sort_of
+    unfolding record_in fields_at fields_of fields_in schema sort_of
     text_first = rw text_kind refl
 
     text_second : u16_at s (at + 1 + 2) ≡ second (field_of (record_in s at) 0)
-    unfolding record_in fields_at fields_of fields_in_lem schema sort_of
+    unfolding record_in fields_at fields_of fields_in schema sort_of
     text_second = rw text_kind refl
 
 -- ---- the texts of accepted bytes lie within the text bytes: what a reading that goes on says
@@ -162,7 +162,7 @@ module _ (s : List ℕ) (c : Counts) where
       (λ f. holds_any _ (ltb-false c.bytes (u16_at s (at + 1) + u16_at s (at + 1 + 2)) f))
 
   record_within : (w p : List ℕ) (at : ℕ) → IfNext (λ a. (a ≡ at + 1 + 4) × Within s c at) (record_at s w p c Texts at)
-  unfolding record_at fields_from fields_of fields_in_lem schema sort_of
+  unfolding record_at fields_from fields_of fields_in schema sort_of
   record_within w p at =
       next_cond (past s at 1) _ _ (λ e. stops)
       (next_cond (in_section Texts (slice_index s at)) _ _
@@ -226,19 +226,19 @@ part_part s m a n h l =
 
 module _ (s : List ℕ) (k : ℕ) (a : ArenaNo) (c : Counts) (e : answer_of s k ≡ Accepted a c) where
   -- THEOREMS: the record that stands at a start
-  pub expression_record : (i : ℕ) → i < c.expressions → record_in s (slice_index (starts_of s k) i) ≡ record_of_lem (image_of s) Expressions i
+  pub expression_record : (i : ℕ) → i < c.expressions → record_in s (slice_index (starts_of s k) i) ≡ record_of (image_of s) Expressions i
   expression_record i h = (starts_expression s k a c e i h).found
 
-  pub statement_record : (i : ℕ) → i < c.statements → record_in s (slice_index (starts_of s k) (c.expressions + i)) ≡ record_of_lem (image_of s) Statements i
+  pub statement_record : (i : ℕ) → i < c.statements → record_in s (slice_index (starts_of s k) (c.expressions + i)) ≡ record_of (image_of s) Statements i
   statement_record i h = (starts_statement s k a c e i h).found
 
   -- THEOREMS: its span
-  pub expression_span_of : (i : ℕ) → i < c.expressions → u32_at s (slice_index (starts_of s k) i + 1) ≡ first (field_of (record_of_lem (image_of s) Expressions i) 0)
+  pub expression_span_of : (i : ℕ) → i < c.expressions → u32_at s (slice_index (starts_of s k) i + 1) ≡ first (field_of (record_of (image_of s) Expressions i) 0)
   expression_span_of i h =
       let r = starts_expression s k a c e i h in
       rw (← r.found) (expression_span s (slice_index (starts_of s k) i) r.kind)
 
-  pub statement_span_of : (i : ℕ) → i < c.statements → u32_at s (slice_index (starts_of s k) (c.expressions + i) + 1) ≡ first (field_of (record_of_lem (image_of s) Statements i) 0)
+  pub statement_span_of : (i : ℕ) → i < c.statements → u32_at s (slice_index (starts_of s k) (c.expressions + i) + 1) ≡ first (field_of (record_of (image_of s) Statements i) 0)
   statement_span_of i h =
       let r = starts_statement s k a c e i h in
       rw (← r.found) (statement_span s (slice_index (starts_of s k) (c.expressions + i)) r.kind)

@@ -24,7 +24,7 @@ use Rattle.rl_spec.specs.Prove.{call_entries, all_entries, fitting, slice_by, pr
 use Rattle.rl_spec.specs.Lower.{lowered}
 use Rattle.rl_spec.specs.Lowerer.{too_tall, or_limit, lower_of}
 use Rattle.rl_spec.specs.Records.{function_at}
-use Rattle.rl_spec.specs.Runner.{all_have_lem, given, is_for, ran_in, run_of}
+use Rattle.rl_spec.specs.Runner.{all_have, given, is_for, ran_in, run_of}
 use Rattle.rl_images.specs.Reading.Decode.{accepted_encodes}
 use Rattle.rl_images.specs.Encoding.ReaderKnows.{counts}
 use Rattle.rl_images.specs.Encoding.Header.{counts_are}
@@ -71,7 +71,7 @@ module _ (im : Image) (wf : WellFormed im) (k : ℕ) (long : 8192 ≤ k) where
       rw (encoded_accepted im k wf long, lt-ltb f (size_of im Functions) l, encoded_image im wf, low, le-ltb room 65535 long')
 
   -- running a function, on as many values as it has parameters, whose texts the image has, with a budget that is taken
-  pub ran_encoded : (f : ℕ) (args : Arguments) (budget : ℕ) → f < size_of im Functions → is_for args.count (function_at im f).params.count ≡ true → all_have_lem (counts im) (given args) ≡ true → budget ≤ 1000000 → run_of (encode im) k f args budget ≡ ran_in im f (given args) budget
+  pub ran_encoded : (f : ℕ) (args : Arguments) (budget : ℕ) → f < size_of im Functions → is_for args.count (function_at im f).params.count ≡ true → all_have (counts im) (given args) ≡ true → budget ≤ 1000000 → run_of (encode im) k f args budget ≡ ran_in im f (given args) budget
   unfolding run_of
   ran_encoded f args budget l fits have taken =
       rw (

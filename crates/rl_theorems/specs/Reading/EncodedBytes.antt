@@ -6,7 +6,7 @@ use Rattle.rl_spec.specs.declared.Section.{Section}
 use Rattle.rl_spec.specs.declared.Section.TheVariants.{Texts, Lists, Expressions, Statements, Parameters, Clauses, Functions, Calls}
 use Rattle.rl_spec.specs.declared.Sort.{Sort}
 use Rattle.rl_spec.specs.Schema.{sections, highest, sort_of, width_of, fields_of}
-use Rattle.rl_spec.specs.Image.{Field, num, pair, Rec, Image, records_of, no_record, record_of_lem, bytes_of, encode_field, encode_fields, encode_record, encode_records, encode_sections, encode_counts, encode, AllBytes, WellFormed}
+use Rattle.rl_spec.specs.Image.{Field, num, pair, Rec, Image, records_of, no_record, record_of, bytes_of, encode_field, encode_fields, encode_record, encode_records, encode_sections, encode_counts, encode, AllBytes, WellFormed}
 use Rattle.rl_images.specs.Images.SchemaSorts.{kind_range}
 use Rattle.rl_images.specs.Encoding.Header.{records_are}
 
@@ -56,7 +56,7 @@ unfolding encode_sections
 sections_bytes im wf [] = tt
 sections_bytes im wf (o ∷ os) =
     append_bytes_lem (encode_records (records_of im o)) (encode_sections (map (records_of im) os))
-    (records_bytes (records_of im o) (λ n l. omega (arith, kind_small o, kind_range o (record_of_lem im o n).kind (wf.fits o n l).kind)))
+    (records_bytes (records_of im o) (λ n l. omega (arith, kind_small o, kind_range o (record_of im o n).kind (wf.fits o n l).kind)))
     (sections_bytes im wf os)
 
 pub encoded_bytes : (im : Image) → WellFormed im → AllBytes (encode im)

@@ -7,7 +7,7 @@ use Rattle.std.proofs.Common.{◌∙◌}
 use Rattle.std.proofs.Math.Option.{Option, none, some}
 use Rattle.rl_spec.specs.Values.{ConstVal, same_text}
 use Rattle.rl_spec.specs.Fold.{Binding, unary_folded, binary_folded, lookup, const_eval}
-use Rattle.rl_spec.specs.Tree.{Expr, null, literal, identifier, unary, binary, grouping, assign, ok_literal, err_literal, is_err_lem, result_unwrap_lem, other}
+use Rattle.rl_spec.specs.Tree.{Expr, null, literal, identifier, unary, binary, grouping, assign, ok_literal, err_literal, is_err, result_unwrap, other}
 use Rattle.rl_spec.specs.Mapped.{map_const, map_expr}
 use Rattle.rl_theorems.specs.Runs.Texts.{cond_at, map_maybe, unary_same, binaries}
 
@@ -49,6 +49,6 @@ module _ {A B : Type 0} (f : A → B) (bytesA : A → List ℕ) (bytesB : B → 
   const_same names (assign x e) = refl
   const_same names (ok_literal e) = refl
   const_same names (err_literal e) = refl
-  const_same names (is_err_lem e) = refl
-  const_same names (result_unwrap_lem e) = refl
+  const_same names (is_err e) = refl
+  const_same names (result_unwrap e) = refl
   const_same names other = refl

@@ -8,7 +8,7 @@ use Rattle.rl_spec.specs.declared.Violation.TheVariants.{Refinement, Requires}
 use Rattle.rl_spec.specs.Image.{Image, text_of}
 use Rattle.rl_spec.specs.Values as value
 use Rattle.rl_spec.specs.Values.{ConstVal}
-use Rattle.rl_spec.specs.Tree.{Expr, null, literal, identifier, unary, binary, grouping, assign, ok_literal, err_literal, is_err_lem, result_unwrap_lem, other, ascii}
+use Rattle.rl_spec.specs.Tree.{Expr, null, literal, identifier, unary, binary, grouping, assign, ok_literal, err_literal, is_err, result_unwrap, other, ascii}
 use Rattle.rl_spec.specs.Records.{function_at}
 use Rattle.rl_spec.specs.FnContracts.{ContractClause, param_of, clause_of}
 use Rattle.rl_spec.specs.Mapped.{Text, map_const, map_expr, map_param, map_clause}
@@ -33,8 +33,8 @@ module _ {A B : Type 0} (f : A → B) where
   string_in_lem (assign x e) = refl
   string_in_lem (ok_literal e) = refl
   string_in_lem (err_literal e) = refl
-  string_in_lem (is_err_lem e) = refl
-  string_in_lem (result_unwrap_lem e) = refl
+  string_in_lem (is_err e) = refl
+  string_in_lem (result_unwrap e) = refl
   string_in_lem other = refl
 
   pub own_mapped : (m : Option (Expr A)) → own_string (map (map_expr f) m) ≡ map f (own_string m)

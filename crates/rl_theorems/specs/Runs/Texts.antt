@@ -13,7 +13,7 @@ use Rattle.std.proofs.lemmas.List.{length-map}
 use Rattle.rl_spec.specs.Values as value
 use Rattle.rl_spec.specs.Values.{ConstVal, RefineOp, gt, ge, lt, le, eq, ne, ArithOp, plus, minus, star, slash, compare_by, same_text, less_text, compare_values, arith_ints, rounded_once, arith_floats, arith_values, bang, negate}
 use Rattle.rl_spec.specs.Fold.{boolean, unary_value, binary_value}
-use Rattle.rl_spec.specs.Tree.{Expr, null, literal, identifier, unary, binary, grouping, assign, ok_literal, err_literal, is_err_lem, result_unwrap_lem, other}
+use Rattle.rl_spec.specs.Tree.{Expr, null, literal, identifier, unary, binary, grouping, assign, ok_literal, err_literal, is_err, result_unwrap, other}
 use Rattle.rl_spec.specs.Mapped.{map_const, map_plain, map_value, map_outcome, map_expr}
 use Rattle.rl_spec.specs.Run.{nothing, folded, Value, plain, ok, err, Bound, named, hidden, Env, Outcome, stopped, fault, Result, got, ended, Run, and_then, ◌>>=◌, give, halt, or_fault, tick, charge, bind, leaving, scoped, truth, plain_of, err_of, unwrapped, operand, find, behind, update, look, store, unary_on, binary_on, eval}
 
@@ -328,6 +328,6 @@ module _ {A B : Type 0} (f : A → B) (bytesA : A → List ℕ) (bytesB : B → 
   evals (assign x e) = then f _ (ticks f) (λ _. then f _ (evals e) (λ v. then f _ (stores x v) (λ _. gives f (map_value f) v)))
   evals (ok_literal e) = then f _ (ticks f) (λ _. then f _ (evals e) (λ v. then f _ (plain_ofs f v) (λ p. gives f (map_value f) (ok p))))
   evals (err_literal e) = then f _ (ticks f) (λ _. then f _ (evals e) (λ v. then f _ (plain_ofs f v) (λ p. gives f (map_value f) (err p))))
-  evals (is_err_lem e) = then f _ (ticks f) (λ _. then f _ (evals e) (λ v. then f _ (err_ofs f v) (λ b. gives f (map_value f) (plain (folded (value.bool b))))))
-  evals (result_unwrap_lem e) = then f _ (ticks f) (λ _. then f _ (evals e) (unwrappeds f))
+  evals (is_err e) = then f _ (ticks f) (λ _. then f _ (evals e) (λ v. then f _ (err_ofs f v) (λ b. gives f (map_value f) (plain (folded (value.bool b))))))
+  evals (result_unwrap e) = then f _ (ticks f) (λ _. then f _ (evals e) (unwrappeds f))
   evals other = then f _ (ticks f) (λ _. halts f (map_value f) (fault 1))

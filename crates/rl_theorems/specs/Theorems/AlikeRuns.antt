@@ -20,7 +20,7 @@ use Rattle.rl_spec.specs.Lowerer.{made, lower_of, lower_answer, lower_out}
 use Rattle.rl_spec.specs.Run.{Value, Env, spent, got, used}
 use Rattle.rl_spec.specs.Reading.{Function, run_function, entering, reading}
 use Rattle.rl_spec.specs.Functions.{plain_function, contract_function}
-use Rattle.rl_spec.specs.Runner.{all_have_lem, given, run_of}
+use Rattle.rl_spec.specs.Runner.{all_have, given, run_of}
 use Rattle.rl_laws.specs.Steps as Steps
 use Rattle.rl_images.specs.Encoding.ReaderKnows.{counts}
 use Rattle.rl_images.specs.Lowering.Followed as Followed
@@ -53,7 +53,7 @@ use Rattle.rl_theorems.specs.Runs.TextRuns as TextRuns
 -- ---- THE TWO HALVES, as Demand has them beside what their premises say and closed instances (FirstHalfExamples and SecondHalfExamples show
 -- that each premise is needed; below, both of images and of trees, under weaker premises)
 
-pub first_half : (s : List ℕ) (k f room n : ℕ) → AllBytes s → lower_answer (lower_of s k f room) ≡ Lowered n → Demand.NoReservedText (image_of s) → Demand.NoBareLast (image_of s) f → (k' : ℕ) (args : Arguments) (budget : ℕ) → all_have_lem (counts_of s) (given args) ≡ true → Demand.RunsAsRead s (take n (lower_out room (lower_of s k f room))) k' f args budget
+pub first_half : (s : List ℕ) (k f room n : ℕ) → AllBytes s → lower_answer (lower_of s k f room) ≡ Lowered n → Demand.NoReservedText (image_of s) → Demand.NoBareLast (image_of s) f → (k' : ℕ) (args : Arguments) (budget : ℕ) → all_have (counts_of s) (given args) ≡ true → Demand.RunsAsRead s (take n (lower_out room (lower_of s k f room))) k' f args budget
 first_half = Demand.first_half
 
 pub reported_callee : (s : List ℕ) (call : ℕ) → Demand.Reported s call → (f : ℕ) × (callee_of (image_of s) call ≡ some f)
@@ -64,7 +64,7 @@ second_half = Demand.second_half
 
 -- functions lowered one after another, each in the bytes that came of the one before (OneAfterAnother, which has the premises;
 -- OneAfterAnotherExample). `Among f fs`: f is one of fs; `NoneTwice fs`: none of them is there twice
-module _ (s last : List ℕ) (fs : List ℕ) (bytes : AllBytes s) (in_turn : OneAfterAnother.BytesInTurn s fs last) (f k : ℕ) (args : Arguments) (budget : ℕ) (texts : all_have_lem (counts_of s) (given args) ≡ true) where
+module _ (s last : List ℕ) (fs : List ℕ) (bytes : AllBytes s) (in_turn : OneAfterAnother.BytesInTurn s fs last) (f k : ℕ) (args : Arguments) (budget : ℕ) (texts : all_have (counts_of s) (given args) ≡ true) where
   pub in_turn_lowered : LoweredInTurn.NoneTwice fs → LoweredInTurn.Among f fs → OneAfterAnother.NoReservedEnsures (image_of s) f → Demand.NoBareLast (image_of s) f → Demand.RunsAsRead s last k f args budget
   in_turn_lowered = OneAfterAnother.in_turn_lowered s last fs bytes in_turn f k args budget texts
 

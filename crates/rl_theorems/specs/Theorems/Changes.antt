@@ -12,7 +12,7 @@ use Rattle.rl_spec.specs.declared.Violation.{Violation}
 use Rattle.rl_spec.specs.declared.Violation.TheVariants.{Refinement, Requires}
 use Rattle.rl_spec.specs.Utf8.{utf8, scalars_of}
 use Rattle.rl_spec.specs.Read.{counts_of}
-use Rattle.rl_spec.specs.Image.{Image, size_of, record_of_lem, text_of, encode, image_of, AllBytes, WellFormed}
+use Rattle.rl_spec.specs.Image.{Image, size_of, record_of, text_of, encode, image_of, AllBytes, WellFormed}
 use Rattle.rl_spec.specs.Values.{ConstVal, int}
 use Rattle.rl_spec.specs.Fold.{Binding, const_eval}
 use Rattle.rl_spec.specs.Tree.{ascii, other, form_of, below, tree_by, expr_tree}
@@ -62,7 +62,7 @@ pub kinds_so : map is_small (up_from 16 42) ≡ replicate 4 false ++ replicate 5
 kinds_so = Examples.kinds_so
 
 -- the trees before were the same trees with small constants as `other`
-pub tree_before : (im : Image) (i : ℕ) → expr_tree (before im) i ≡ tree_by (before im) (cond (is_small (record_of_lem im Expressions i).kind) Other (form_of im i)) (below i (λ _. other) (expr_tree (before im)))
+pub tree_before : (im : Image) (i : ℕ) → expr_tree (before im) i ≡ tree_by (before im) (cond (is_small (record_of im Expressions i).kind) Other (form_of im i)) (below i (λ _. other) (expr_tree (before im)))
 tree_before = SmallConstants.tree_before
 
 -- literals of 17 to 24, and a Character, of the payload 5: what they folded to before, and what they fold to

@@ -27,7 +27,7 @@ use Rattle.rl_spec.specs.Statement.{Stmt, Body}
 use Rattle.rl_spec.specs.Run.{Value, Env, tick, ◌>>◌, eval}
 use Rattle.rl_spec.specs.Reading.{Function, run_function, reading, Check, Mode, repeat, loop_turn, while_turn, checks, stmt, body, top}
 use Rattle.rl_spec.specs.Mapped.{map_value, map_expr, map_stmt, map_body, map_contracts}
-use Rattle.rl_spec.specs.Runner.{all_have_lem, given, is_for, ran_in, run_of}
+use Rattle.rl_spec.specs.Runner.{all_have, given, is_for, ran_in, run_of}
 use Rattle.rl_laws.specs.Steps as Steps
 use Rattle.rl_images.specs.Encoding.ReaderKnows.{counts}
 use Rattle.rl_images.specs.Reading.Found as Found
@@ -63,7 +63,7 @@ module _ (im : Image) (wf : WellFormed im) (k : ℕ) (long : 8192 ≤ k) where
   lowered_encoded = EncodedAnswers.lowered_encoded im wf k long
 
   -- running a function, on as many values as it has parameters, whose texts the image has, with a budget that is taken
-  pub ran_encoded : (f : ℕ) (args : Arguments) (budget : ℕ) → f < size_of im Functions → is_for args.count (function_at im f).params.count ≡ true → all_have_lem (counts im) (given args) ≡ true → budget ≤ 1000000 → run_of (encode im) k f args budget ≡ ran_in im f (given args) budget
+  pub ran_encoded : (f : ℕ) (args : Arguments) (budget : ℕ) → f < size_of im Functions → is_for args.count (function_at im f).params.count ≡ true → all_have (counts im) (given args) ≡ true → budget ≤ 1000000 → run_of (encode im) k f args budget ≡ ran_in im f (given args) budget
   ran_encoded = EncodedAnswers.ran_encoded im wf k long
 
 module _ (s : List ℕ) (k : ℕ) (a : ArenaNo) (c : Counts) (e : answer_of s k ≡ Accepted a c) where

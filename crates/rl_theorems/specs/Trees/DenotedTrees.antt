@@ -13,8 +13,8 @@ use Rattle.rl_spec.specs.declared.Form.TheVariants.{IsErr, ResultUnwrap, Other}
 use Rattle.rl_spec.specs.Image.{Field, num, Image, first, second, entry_of, text_of}
 use Rattle.rl_spec.specs.Values.{ConstVal, int, str}
 use Rattle.rl_spec.specs.Folded.{folded_of}
-use Rattle.rl_spec.specs.Tree.{Expr, literal, identifier, unary, binary, grouping, assign, ok_literal, err_literal, is_err_lem, result_unwrap_lem, other, ascii, below, is_res_path, call_form, form_by, tree_by, expr_tree, optional_tree}
-use Rattle.rl_spec.specs.Statement.{declaration, expression, return, conditional, while, loop, other_statement, Body, ◌▸◌, branch, Else, Item, a_statement, a_branch, as_statement, as_branch, as_else, body_from, body_by, else_by, statement_by, item_by_lem, item_tree, body_tree}
+use Rattle.rl_spec.specs.Tree.{Expr, literal, identifier, unary, binary, grouping, assign, ok_literal, err_literal, is_err, result_unwrap, other, ascii, below, is_res_path, call_form, form_by, tree_by, expr_tree, optional_tree}
+use Rattle.rl_spec.specs.Statement.{declaration, expression, return, conditional, while, loop, other_statement, Body, ◌▸◌, branch, Else, Item, a_statement, a_branch, as_statement, as_branch, as_else, body_from, body_by, else_by, statement_by, item_by, item_tree, body_tree}
 use Rattle.rl_spec.specs.Ranges.{interval, up_from}
 use Rattle.rl_spec.specs.Mapped.{Text, map_const, map_expr, map_stmt, map_body, map_else, map_item}
 use Rattle.rl_spec.specs.Make.{made}
@@ -87,7 +87,7 @@ module _ (im : Image) where
 
   call_by : (b c : Bool) (n : ℕ) (tree : ℕ → Expr ℕ) →
       map_expr texts (tree_by im (cond b (IsErr n) (cond c (ResultUnwrap n) Other)) tree)
-      ≡ cond b (is_err_lem (map_expr texts (tree n))) (cond c (result_unwrap_lem (map_expr texts (tree n))) other)
+      ≡ cond b (is_err (map_expr texts (tree n))) (cond c (result_unwrap (map_expr texts (tree n))) other)
   unfolding map_expr
   call_by true c n tree = refl
   call_by false true n tree = refl
@@ -148,9 +148,9 @@ module _ (im : Image) where
 
     pub line_of : {i : ℕ} {x : Item Text} → IsLine im i x → map_item texts (item_tree im i) ≡ x
     line_of (stands_line {i = i} k fs h d) =
-        ap (map_item texts) (item_is im i ∙ ap (λ r. item_by_lem im (statement_by r) (items i)) h.is) ∙ line_reads d
+        ap (map_item texts) (item_is im i ∙ ap (λ r. item_by im (statement_by r) (items i)) h.is) ∙ line_reads d
 
-    line_reads : {i k : ℕ} {fs : List Field} {x : Item Text} → ReadsLine im i k fs x → map_item texts (item_by_lem im (statement_by (made k fs)) (items i)) ≡ x
+    line_reads : {i k : ℕ} {fs : List Field} {x : Item Text} → ReadsLine im i k fs x → map_item texts (item_by im (statement_by (made k fs)) (items i)) ≡ x
     line_reads (a_declaration q t h) = rw q (ap₂ (λ x e. a_statement (declaration x e)) t.is (tree_of h))
     line_reads (an_expression q h) = rw q (ap (λ e. a_statement (expression e)) (tree_of h))
     line_reads (a_return q h) = rw q (ap (λ e. a_statement (return e)) (tree_of h))
@@ -165,7 +165,7 @@ module _ (im : Image) where
         rw q (ap (λ b. a_statement (loop b)) (ap (map_body texts) (list_is (items i) list ns h) ∙ rows_read b))
     line_reads (a_break q) = rw q refl
     line_reads (a_continue q) = rw q refl
-    line_reads (an_other_line {i = i} {fs = fs} k) = ap (λ f. map_item texts (item_by_lem im f (items i))) (k fs)
+    line_reads (an_other_line {i = i} {fs = fs} k) = ap (λ f. map_item texts (item_by im f (items i))) (k fs)
 
     else_reads : {i : ℕ} {o : Optional} {e : Else Text} → IsElse im i o e → map_else texts (else_by (items i) o) ≡ e
     else_reads without_else = refl

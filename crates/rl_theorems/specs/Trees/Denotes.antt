@@ -11,9 +11,9 @@ use Rattle.rl_spec.specs.declared.Optional.{Optional}
 use Rattle.rl_spec.specs.declared.Optional.TheVariants.{None, Some}
 use Rattle.rl_spec.specs.declared.Form.TheVariants.{Other}
 use Rattle.rl_spec.specs.declared.StatementForm.TheVariants as form
-use Rattle.rl_spec.specs.Image.{Field, num, Rec, Image, size_of, record_of_lem, field_of, first, second, entry_of, text_of}
+use Rattle.rl_spec.specs.Image.{Field, num, Rec, Image, size_of, record_of, field_of, first, second, entry_of, text_of}
 use Rattle.rl_spec.specs.Values.{ConstVal, int, float, str, bool, same_text}
-use Rattle.rl_spec.specs.Tree.{Expr, null, literal, identifier, unary, binary, grouping, assign, ok_literal, err_literal, is_err_lem, result_unwrap_lem, other, ascii, signed, form_by}
+use Rattle.rl_spec.specs.Tree.{Expr, null, literal, identifier, unary, binary, grouping, assign, ok_literal, err_literal, is_err, result_unwrap, other, ascii, signed, form_by}
 use Rattle.rl_spec.specs.Statement.{Stmt, declaration, expression, return, return_alone, conditional, while, loop, break, continue, other_statement, Body, nil, ◌▸◌, Branch, branch, Else, no_else, else_branch, else_conditional, Item, a_statement, a_branch, as_statement, statement_by}
 use Rattle.rl_spec.specs.Ranges.{up_from, optional}
 use Rattle.rl_spec.specs.Mapped.{Text}
@@ -25,7 +25,7 @@ use Rattle.rl_images.specs.Lowering.NewRecords.{At}
 
 pub record Says (im : Image) (t : ℕ) (x : Text) : Type 0 where
   pub inside : t < size_of im Texts
-  pub part : first (field_of (record_of_lem im Texts t) 0) + second (field_of (record_of_lem im Texts t) 0) ≤ length im.bytes
+  pub part : first (field_of (record_of im Texts t) 0) + second (field_of (record_of im Texts t) 0) ≤ length im.bytes
   pub is : text_of im t ≡ x
 
 -- the texts of a list
@@ -63,7 +63,7 @@ is_res (a ∷ b ∷ c ∷ d ∷ xs) name = false
 
 abbrev pub call_tree : List Text → List (Expr Text) → Expr Text
 call_tree path [] = other
-call_tree path (e ∷ []) = cond (is_res path (ascii "is_err_lem")) (is_err_lem e) (cond (is_res path (ascii "result_unwrap_lem")) (result_unwrap_lem e) other)
+call_tree path (e ∷ []) = cond (is_res path (ascii "is_err_lem")) (is_err e) (cond (is_res path (ascii "result_unwrap_lem")) (result_unwrap e) other)
 call_tree path (e ∷ d ∷ es) = other
 
 -- a kind that is not taken

@@ -8,8 +8,8 @@ use Rattle.rl_spec.specs.declared.Section.{Section}
 use Rattle.rl_spec.specs.declared.Section.TheVariants.{Texts, Lists, Expressions, Statements, Parameters, Clauses, Functions, Calls}
 use Rattle.rl_spec.specs.declared.Target.TheVariants.{Text as a_text, Expression}
 use Rattle.rl_spec.specs.declared.Sort.TheVariants.{Raw}
-use Rattle.rl_spec.specs.Schema.{limits, schema, sort_of, fields_in_lem, fields_of}
-use Rattle.rl_spec.specs.Image.{Field, Image, size_of, record_of_lem, field_of, first, second, entry_of, text_of, Entries, a_raw, a_byte, a_part, a_reference, a_list, FieldsFit, no_fields, ◌&◌, RecordFits, WellFormed}
+use Rattle.rl_spec.specs.Schema.{limits, schema, sort_of, fields_in, fields_of}
+use Rattle.rl_spec.specs.Image.{Field, Image, size_of, record_of, field_of, first, second, entry_of, text_of, Entries, a_raw, a_byte, a_part, a_reference, a_list, FieldsFit, no_fields, ◌&◌, RecordFits, WellFormed}
 use Rattle.rl_spec.specs.Values.{ConstVal}
 use Rattle.rl_spec.specs.Tree.{Expr, form_by}
 use Rattle.rl_spec.specs.Ranges.{up_from}
@@ -33,20 +33,20 @@ module _ (im : Image) (wf : WellFormed im) where
   few Functions = omega (arith, size_within im wf Functions)
   few Calls = omega (arith, size_within im wf Calls)
 
-  pub at_record : (o : Section) (i : ℕ) → i < size_of im o → At im o i (record_of_lem im o i)
+  pub at_record : (o : Section) (i : ℕ) → i < size_of im o → At im o i (record_of im o i)
   at_record o i h = record { inside = h; small = omega (arith, few o); is = refl }
 
   -- ---- texts
 
   part_fits : {t : ℕ} {fs : List Field} → FieldsFit im Texts t 0 (map sort_of (fields_of 2)) fs →
       first (field_of (made 2 fs) 0) + second (field_of (made 2 fs) 0) ≤ length im.bytes
-  unfolding fields_of fields_in_lem schema sort_of
+  unfolding fields_of fields_in schema sort_of
   part_fits (a_part p u & no_fields) = p
 
   pub text_says : (t : ℕ) → t < size_of im Texts → Says im t (text_of im t)
   text_says t h =
-      let f : RecordFits im Texts t (record_of_lem im Texts t) = wf.fits Texts t h in
-      let q : (record_of_lem im Texts t).kind ≡ 2 = omega (arith, kind_range Texts (record_of_lem im Texts t).kind f.kind) in
+      let f : RecordFits im Texts t (record_of im Texts t) = wf.fits Texts t h in
+      let q : (record_of im Texts t).kind ≡ 2 = omega (arith, kind_range Texts (record_of im Texts t).kind f.kind) in
       record { inside = h; part = part_fits (rw q at f.fields); is = refl }
 
   texts_say : (i n k : ℕ) → Entries im Expressions i n k a_text a_text → (xs : List Text) × AllSay im (map (entry_of im) (up_from k n)) xs
@@ -75,7 +75,7 @@ module _ (im : Image) (wf : WellFormed im) where
         (e.0 ∷ r.0, an_arg h.0.earlier e.1 r.1)
 
     null_reads : {fs : List Field} → Fit i 16 fs → Some i 16 fs
-    unfolding fields_of fields_in_lem schema sort_of
+    unfolding fields_of fields_in schema sort_of
     null_reads (a_raw w & no_fields) = (_, a_null refl)
 
     -- a number behind the span
@@ -87,52 +87,52 @@ module _ (im : Image) (wf : WellFormed im) where
         go (a_raw s & a_raw {x = n} v & no_fields) = (_, a_literal (plain n).1)
 
     string_reads : {fs : List Field} → Fit i 25 fs → Some i 25 fs
-    unfolding fields_of fields_in_lem schema sort_of
+    unfolding fields_of fields_in schema sort_of
     string_reads (a_raw w & a_reference {x = t} r & no_fields) = (_, a_string refl (text_says t r.earlier))
 
     bool_reads : {fs : List Field} → Fit i 26 fs → Some i 26 fs
-    unfolding fields_of fields_in_lem schema sort_of
+    unfolding fields_of fields_in schema sort_of
     bool_reads (a_raw w & a_byte l h & no_fields) = (_, a_literal a_bool)
 
     identifier_reads : {fs : List Field} → Fit i 30 fs → Some i 30 fs
-    unfolding fields_of fields_in_lem schema sort_of
+    unfolding fields_of fields_in schema sort_of
     identifier_reads (a_raw w & a_reference {x = t} r & no_fields) = (_, an_identifier refl (text_says t r.earlier))
 
     binary_reads : {fs : List Field} → Fit i 32 fs → Some i 32 fs
-    unfolding fields_of fields_in_lem schema sort_of
+    unfolding fields_of fields_in schema sort_of
     binary_reads (a_raw w & a_reference {x = m} p & a_byte l h & a_reference {x = n} q & no_fields) =
         (_, a_binary refl p.earlier q.earlier (earlier m p.earlier).1 (earlier n q.earlier).1)
 
     unary_reads : {fs : List Field} → Fit i 33 fs → Some i 33 fs
-    unfolding fields_of fields_in_lem schema sort_of
+    unfolding fields_of fields_in schema sort_of
     unary_reads (a_raw w & a_byte l h & a_reference {x = n} q & no_fields) = (_, a_unary refl q.earlier (earlier n q.earlier).1)
 
     grouping_reads : {fs : List Field} → Fit i 34 fs → Some i 34 fs
-    unfolding fields_of fields_in_lem schema sort_of
+    unfolding fields_of fields_in schema sort_of
     grouping_reads (a_raw w & a_reference {x = n} q & no_fields) = (_, a_grouping refl q.earlier (earlier n q.earlier).1)
 
     assign_reads : {fs : List Field} → Fit i 39 fs → Some i 39 fs
-    unfolding fields_of fields_in_lem schema sort_of
+    unfolding fields_of fields_in schema sort_of
     assign_reads (a_raw w & a_reference {x = t} r & a_reference {x = n} q & no_fields) =
         (_, an_assign refl (text_says t r.earlier) q.earlier (earlier n q.earlier).1)
 
     call_reads : {fs : List Field} → Fit i 41 fs → Some i 41 fs
-    unfolding fields_of fields_in_lem schema sort_of
+    unfolding fields_of fields_in schema sort_of
     call_reads (a_raw w & a_list {a = a} {n = m} l y p & a_list {a = b} {n = n} h z q & no_fields) =
         let ts = texts_say i m a p in
         let es = args_stand n b q in
         (_, a_call refl (record { inside = l; is = refl }) ts.1 (record { inside = h; is = refl }) es.1 refl)
 
     ok_reads : {fs : List Field} → Fit i 49 fs → Some i 49 fs
-    unfolding fields_of fields_in_lem schema sort_of
+    unfolding fields_of fields_in schema sort_of
     ok_reads (a_raw w & a_reference {x = n} q & no_fields) = (_, an_ok refl q.earlier (earlier n q.earlier).1)
 
     err_reads : {fs : List Field} → Fit i 50 fs → Some i 50 fs
-    unfolding fields_of fields_in_lem schema sort_of
+    unfolding fields_of fields_in schema sort_of
     err_reads (a_raw w & a_reference {x = n} q & no_fields) = (_, an_err refl q.earlier (earlier n q.earlier).1)
 
     reads : (k : ℕ) (fs : List Field) → Fit i k fs → Some i k fs
-    unfolding form_by fields_of fields_in_lem schema sort_of
+    unfolding form_by fields_of fields_in schema sort_of
     reads k fs h =
         try 16 null_reads λ k16.
         try 17 (number_reads 17 8 refl λ n. (_, an_integer)) λ k17.
@@ -164,7 +164,7 @@ module _ (im : Image) (wf : WellFormed im) where
   all_below : (b i : ℕ) → i < b → i < size_of im Expressions → (e : Expr Text) × IsExpr im i e
   all_below zero i l h = absurd (omega arith)
   all_below (suc b) i l h =
-      let f : RecordFits im Expressions i (record_of_lem im Expressions i) = wf.fits Expressions i h in
+      let f : RecordFits im Expressions i (record_of im Expressions i) = wf.fits Expressions i h in
       let r = reads i (λ n m. all_below b n (omega arith) (omega arith)) _ _ f.fields in
       (r.0, stands _ _ (at_record Expressions i h) r.1)
 

@@ -11,8 +11,8 @@ use Rattle.rl_spec.specs.declared.Optional.{Optional}
 use Rattle.rl_spec.specs.declared.Optional.TheVariants.{Some}
 use Rattle.rl_spec.specs.declared.StatementForm.{StatementForm}
 use Rattle.rl_spec.specs.declared.StatementForm.TheVariants as form
-use Rattle.rl_spec.specs.Schema.{schema, sort_of, fields_in_lem, fields_of}
-use Rattle.rl_spec.specs.Image.{Field, num, pair, Image, size_of, record_of_lem, entry_of, Refers, Entries, a_raw, a_byte, a_reference, an_option, a_list, FieldsFit, no_fields, ◌&◌, RecordFits, WellFormed}
+use Rattle.rl_spec.specs.Schema.{schema, sort_of, fields_in, fields_of}
+use Rattle.rl_spec.specs.Image.{Field, num, pair, Image, size_of, record_of, entry_of, Refers, Entries, a_raw, a_byte, a_reference, an_option, a_list, FieldsFit, no_fields, ◌&◌, RecordFits, WellFormed}
 use Rattle.rl_spec.specs.Tree.{Expr}
 use Rattle.rl_spec.specs.Statement.{conditional, Body, nil, ◌▸◌, Branch, Else, statement_by, Item, a_statement, a_branch, as_statement}
 use Rattle.rl_spec.specs.Ranges.{up_from}
@@ -72,12 +72,12 @@ module _ {im : Image} where
   reads_chain (a_continue q) e = absurd (omega arith)
   reads_chain (an_other_line {k = k} {fs = fs} o) e = not_other k fs o (rw e refl)
 
-  pub is_arm : {n : ℕ} {x : Item Text} → IsLine im n x → (record_of_lem im Statements n).kind ≡ 69 → (b : Branch Text) × IsLine im n (a_branch b)
+  pub is_arm : {n : ℕ} {x : Item Text} → IsLine im n x → (record_of im Statements n).kind ≡ 69 → (b : Branch Text) × IsLine im n (a_branch b)
   is_arm {n} (stands_line k fs h d) e =
       let r = reads_arm d (sym (ap (λ r. r.kind) h.is) ∙ e) in
       (r.0, subst (IsLine im n) r.1 (stands_line k fs h d))
 
-  pub is_chain : {n : ℕ} {x : Item Text} → IsLine im n x → (record_of_lem im Statements n).kind ≡ 68 →
+  pub is_chain : {n : ℕ} {x : Item Text} → IsLine im n x → (record_of im Statements n).kind ≡ 68 →
       (b : Branch Text) × (e : Else Text) × IsLine im n (a_statement (conditional b e))
   is_chain {n} (stands_line k fs h d) e =
       let r = reads_chain d (sym (ap (λ r. r.kind) h.is) ∙ e) in
@@ -107,9 +107,9 @@ module _ (im : Image) (wf : WellFormed im) where
         (as_statement x.0 ▸ r.0, a_row h.0.earlier x.1 refl r.1)
 
     branch_stands : {n : ℕ} → Refers im Statements i ABranch n → (b : Branch Text) × IsLine im n (a_branch b)
-    branch_stands {n} r = is_arm (earlier n r.earlier).1 (eqb-true (record_of_lem im Statements n).kind 69 r.taken)
+    branch_stands {n} r = is_arm (earlier n r.earlier).1 (eqb-true (record_of im Statements n).kind 69 r.taken)
 
-    else_by_lem : (n k : ℕ) → n < i → (record_of_lem im Statements n).kind ≡ k → (t : Bool) → (k == 69) ≡ t → cond t true (k == 68) ≡ true →
+    else_by_lem : (n k : ℕ) → n < i → (record_of im Statements n).kind ≡ k → (t : Bool) → (k == 69) ≡ t → cond t true (k == 68) ≡ true →
         (e : Else Text) × IsElse im i (Some n) e
     else_by_lem n k l q true a h =
         let b = is_arm (earlier n l).1 (q ∙ eqb-true k 69 a) in
@@ -121,53 +121,53 @@ module _ (im : Image) (wf : WellFormed im) where
     else_stands : {o : Optional} → IfSome (Refers im Statements i ElseBranch) o → (e : Else Text) × IsElse im i o e
     else_stands no_index = (_, without_else)
     else_stands (an_index {n = n} r) =
-        let k : ℕ = (record_of_lem im Statements n).kind in
+        let k : ℕ = (record_of im Statements n).kind in
         else_by_lem n k r.earlier refl (k == 69) refl r.taken
 
     held : {a n : ℕ} → a + n ≤ size_of im Lists → Holds im (pair a n) (map (entry_of im) (up_from a n))
     held h = record { inside = h; is = refl }
 
     declaration_reads : {fs : List Field} → Fit i 64 fs → Stands i 64 fs
-    unfolding fields_of fields_in_lem schema sort_of
+    unfolding fields_of fields_in schema sort_of
     declaration_reads (a_raw w & a_reference {x = t} r & a_raw v & a_reference q & a_raw u & no_fields) =
         (_, a_declaration refl (text_says im wf t r.earlier) (node q).1)
 
     expression_reads : {fs : List Field} → Fit i 65 fs → Stands i 65 fs
-    unfolding fields_of fields_in_lem schema sort_of
+    unfolding fields_of fields_in schema sort_of
     expression_reads (a_raw w & a_reference q & no_fields) = (_, an_expression refl (node q).1)
 
     return_reads : {fs : List Field} → Fit i 66 fs → Stands i 66 fs
-    unfolding fields_of fields_in_lem schema sort_of
+    unfolding fields_of fields_in schema sort_of
     return_reads (a_raw w & a_reference q & no_fields) = (_, a_return refl (node q).1)
 
     alone_reads : {fs : List Field} → Fit i 67 fs → Stands i 67 fs
-    unfolding fields_of fields_in_lem schema sort_of
+    unfolding fields_of fields_in schema sort_of
     alone_reads (a_raw w & no_fields) = (_, a_return_alone refl)
 
     conditional_reads : {fs : List Field} → Fit i 68 fs → Stands i 68 fs
-    unfolding fields_of fields_in_lem schema sort_of
+    unfolding fields_of fields_in schema sort_of
     conditional_reads (a_raw w & a_reference q & an_option {x = x} o & no_fields) =
         (_, a_conditional refl q.earlier (branch_stands q).1 (else_stands (optional_says (num x) o)).1)
 
     branch_reads : {fs : List Field} → Fit i 69 fs → Stands i 69 fs
-    unfolding fields_of fields_in_lem schema sort_of
+    unfolding fields_of fields_in schema sort_of
     branch_reads (a_raw w & an_option {x = x} o & a_list {a = a} {n = n} h z q & a_byte l m & no_fields) =
         (_, an_arm refl (condition (optional_says (num x) o)).1 (held h) (rows_stand n a q).1)
 
     while_reads : {fs : List Field} → Fit i 70 fs → Stands i 70 fs
-    unfolding fields_of fields_in_lem schema sort_of
+    unfolding fields_of fields_in schema sort_of
     while_reads (a_raw w & a_reference r & a_list {a = a} {n = n} h z q & no_fields) = (_, a_while refl (node r).1 (held h) (rows_stand n a q).1)
 
     loop_reads : {fs : List Field} → Fit i 71 fs → Stands i 71 fs
-    unfolding fields_of fields_in_lem schema sort_of
+    unfolding fields_of fields_in schema sort_of
     loop_reads (a_raw w & a_list {a = a} {n = n} h z q & no_fields) = (_, a_loop refl (held h) (rows_stand n a q).1)
 
     break_reads : {fs : List Field} → Fit i 77 fs → Stands i 77 fs
-    unfolding fields_of fields_in_lem schema sort_of
+    unfolding fields_of fields_in schema sort_of
     break_reads (a_raw w & no_fields) = (_, a_break refl)
 
     continue_reads : {fs : List Field} → Fit i 78 fs → Stands i 78 fs
-    unfolding fields_of fields_in_lem schema sort_of
+    unfolding fields_of fields_in schema sort_of
     continue_reads (a_raw w & no_fields) = (_, a_continue refl)
 
     reads : (k : ℕ) (fs : List Field) → Fit i k fs → Stands i k fs
@@ -185,7 +185,7 @@ module _ (im : Image) (wf : WellFormed im) where
   all_below : (b i : ℕ) → i < b → i < size_of im Statements → (x : Item Text) × IsLine im i x
   all_below zero i l h = absurd (omega arith)
   all_below (suc b) i l h =
-      let f : RecordFits im Statements i (record_of_lem im Statements i) = wf.fits Statements i h in
+      let f : RecordFits im Statements i (record_of im Statements i) = wf.fits Statements i h in
       let r = reads i (λ n m. all_below b n (omega arith) (omega arith)) _ _ f.fields in
       (r.0, stands_line _ _ (at_record im wf Statements i h) r.1)
 

@@ -7,7 +7,7 @@ use Rattle.std.proofs.Math.Option
 use Rattle.rl_spec.specs.declared.Optional.{Optional}
 use Rattle.rl_spec.specs.declared.Section.TheVariants.{Expressions, Clauses, Functions}
 use Rattle.rl_spec.specs.declared.Target.TheVariants.{Statement}
-use Rattle.rl_spec.specs.Image.{Image, size_of, record_of_lem, field_of, first, second, entry_of, text_of, Entries, WellFormed}
+use Rattle.rl_spec.specs.Image.{Image, size_of, record_of, field_of, first, second, entry_of, text_of, Entries, WellFormed}
 use Rattle.rl_spec.specs.Tree.{expr_tree, optional_tree}
 use Rattle.rl_spec.specs.Statement.{Body, nil, ◌▸◌, body_tree, as_statement}
 use Rattle.rl_spec.specs.Ranges.{interval, up_from}
@@ -42,7 +42,7 @@ module _ (im : Image) (wf : WellFormed im) where
   clauses_check default a zero h = no_checks
   clauses_check default a (suc n) h =
       let f = clause_fits im wf a (omega arith) in
-      a_check (expression_is _ f.0) (message_is default (optional_says (field_of (record_of_lem im Clauses a) 1) f.1))
+      a_check (expression_is _ f.0) (message_is default (optional_says (field_of (record_of im Clauses a) 1) f.1))
       (clauses_check default (a + 1) n (omega arith))
 
   -- ---- its body
@@ -55,10 +55,10 @@ module _ (im : Image) (wf : WellFormed im) where
       let r = rows_stand f n (k + 1) h.1 in
       (as_statement x.0 ▸ r.0, a_row h.0.earlier x.1 refl r.1)
 
-  pub body_stands : (f : ℕ) → f < size_of im Functions → let list = field_of (record_of_lem im Functions f) 4 in
+  pub body_stands : (f : ℕ) → f < size_of im Functions → let list = field_of (record_of im Functions f) 4 in
       Lines im (map (entry_of im) (up_from (first list) (second list))) (map_body (text_of im) (body_tree im (interval list)))
   body_stands f h =
-      let list = field_of (record_of_lem im Functions f) 4 in
+      let list = field_of (record_of im Functions f) 4 in
       let x = function_fits im wf f h in
       let b = rows_stand f (second list) (first list) x.entries in
       subst (Lines im (map (entry_of im) (up_from (first list) (second list))))

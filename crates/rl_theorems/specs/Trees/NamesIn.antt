@@ -11,9 +11,9 @@ use Rattle.rl_spec.specs.declared.Section.TheVariants.{Expressions}
 use Rattle.rl_spec.specs.declared.Sort.{Sort}
 use Rattle.rl_spec.specs.declared.Sort.TheVariants.{One, Many}
 use Rattle.rl_spec.specs.declared.Target.TheVariants.{Expression}
-use Rattle.rl_spec.specs.Schema.{sort_of, fields_of, fields_in_lem, schema}
-use Rattle.rl_spec.specs.Image.{Rec, Image, record_of_lem, field_of, second, entry_of}
-use Rattle.rl_spec.specs.Tree.{Expr, null, literal, identifier, unary, binary, grouping, assign, ok_literal, err_literal, is_err_lem, result_unwrap_lem, other, ascii, number, is_res_path, below, call_form, form_by, tree_by, expr_tree}
+use Rattle.rl_spec.specs.Schema.{sort_of, fields_of, fields_in, schema}
+use Rattle.rl_spec.specs.Image.{Rec, Image, record_of, field_of, second, entry_of}
+use Rattle.rl_spec.specs.Tree.{Expr, null, literal, identifier, unary, binary, grouping, assign, ok_literal, err_literal, is_err, result_unwrap, other, ascii, number, is_res_path, below, call_form, form_by, tree_by, expr_tree}
 use Rattle.rl_spec.specs.Mapped.{map_expr}
 use Rattle.rl_laws.specs.Tests.{by_ltb}
 use Rattle.rl_laws.specs.Descend.{tree_is, below_earlier, below_later}
@@ -29,8 +29,8 @@ module _ {T : Type 0} (look store : T → Type 0) where
   NamesIn (assign x e) = store x × NamesIn e
   NamesIn (ok_literal e) = NamesIn e
   NamesIn (err_literal e) = NamesIn e
-  NamesIn (is_err_lem e) = NamesIn e
-  NamesIn (result_unwrap_lem e) = NamesIn e
+  NamesIn (is_err e) = NamesIn e
+  NamesIn (result_unwrap e) = NamesIn e
   NamesIn other = Unit {0}
 
 -- of another account of the names
@@ -46,8 +46,8 @@ names_mapped f look store (grouping e) h = names_mapped f look store e h
 names_mapped f look store (assign x e) h = (h.0, names_mapped f look store e h.1)
 names_mapped f look store (ok_literal e) h = names_mapped f look store e h
 names_mapped f look store (err_literal e) h = names_mapped f look store e h
-names_mapped f look store (is_err_lem e) h = names_mapped f look store e h
-names_mapped f look store (result_unwrap_lem e) h = names_mapped f look store e h
+names_mapped f look store (is_err e) h = names_mapped f look store e h
+names_mapped f look store (result_unwrap e) h = names_mapped f look store e h
 names_mapped f look store other h = tt
 
 -- ---- from records
@@ -59,14 +59,14 @@ sort_in x c = sort_of (slice_index (fields_of x.kind) c)
 -- what holds of an expression holds of each that a field of it names, and of the first entry of a list; and it says this of the names in
 -- an identifier and in an assignment
 module _ (im : Image) (H : ℕ → Type 0)
-    (one : (i c : ℕ) → H i → sort_in (record_of_lem im Expressions i) c ≡ One Expression → H (number (record_of_lem im Expressions i) c))
-    (entry : (i c : ℕ) → H i → sort_in (record_of_lem im Expressions i) c ≡ Many Expression Expression 1 → 0 < second (field_of (record_of_lem im Expressions i) c) →
-    H (entry_of im (number (record_of_lem im Expressions i) c + 0)))
-    (look store : ℕ → Type 0) (looks : (i : ℕ) → H i → (record_of_lem im Expressions i).kind ≡ 30 → look (number (record_of_lem im Expressions i) 1))
-    (stores : (i : ℕ) → H i → (record_of_lem im Expressions i).kind ≡ 39 → store (number (record_of_lem im Expressions i) 1)) where
+    (one : (i c : ℕ) → H i → sort_in (record_of im Expressions i) c ≡ One Expression → H (number (record_of im Expressions i) c))
+    (entry : (i c : ℕ) → H i → sort_in (record_of im Expressions i) c ≡ Many Expression Expression 1 → 0 < second (field_of (record_of im Expressions i) c) →
+    H (entry_of im (number (record_of im Expressions i) c + 0)))
+    (look store : ℕ → Type 0) (looks : (i : ℕ) → H i → (record_of im Expressions i).kind ≡ 30 → look (number (record_of im Expressions i) 1))
+    (stores : (i : ℕ) → H i → (record_of im Expressions i).kind ≡ 39 → store (number (record_of im Expressions i) 1)) where
   module _ (i : ℕ) (h : H i) (earlier : (n : ℕ) → n < i → H n → NamesIn look store (expr_tree im n)) where
     abbrev r : Rec
-    r = record_of_lem im Expressions i
+    r = record_of im Expressions i
 
     abbrev tree : ℕ → Expr ℕ
     tree = below i (λ _. other) (expr_tree im)
@@ -95,7 +95,7 @@ module _ (im : Image) (H : ℕ → Type 0)
     by_tests false b c n f = record { says = tt }
 
     argument : r.kind ≡ 41 → second (field_of r 2) ≡ 1 → NamesIn look store (tree (entry_of im (number r 2)))
-    unfolding fields_of fields_in_lem schema sort_of
+    unfolding fields_of fields_in schema sort_of
     argument e d =
         let l : 0 < second (field_of r 2) = omega (arith, d) in
         let z : number r 2 + 0 ≡ number r 2 = omega arith in
@@ -109,7 +109,7 @@ module _ (im : Image) (H : ℕ → Type 0)
         (entry_of im (number r 2)) (λ d. argument e (eqb-true (second (field_of r 2)) 1 d))
 
     form_says : Says (form_by im r)
-    unfolding form_by fields_of fields_in_lem schema sort_of
+    unfolding form_by fields_of fields_in schema sort_of
     form_says =
         by_kind 16 _ _ (λ e. record { says = tt })
         (by_kind 17 _ _ (λ e. record { says = tt })

@@ -9,14 +9,14 @@ use Rattle.rl_spec.specs.declared.Section.TheVariants.{Texts, Lists, Expressions
 use Rattle.rl_spec.specs.declared.Interval.{Interval}
 use Rattle.rl_spec.specs.declared.Optional.{Optional}
 use Rattle.rl_spec.specs.declared.Optional.TheVariants.{None, Some}
-use Rattle.rl_spec.specs.Image.{Field, Rec, Image, order_of, records_of, record_of_lem, field_of, text_of}
+use Rattle.rl_spec.specs.Image.{Field, Rec, Image, order_of, records_of, record_of, field_of, text_of}
 use Rattle.rl_spec.specs.declared.Form.{Form}
 use Rattle.rl_spec.specs.declared.Form.TheVariants.{Null, Literal, Identifier, Unary, Binary, Grouping, Assign, OkLiteral, ErrLiteral, IsErr, ResultUnwrap, Other}
 use Rattle.rl_spec.specs.declared.StatementForm.{StatementForm}
 use Rattle.rl_spec.specs.declared.StatementForm.TheVariants as line
 use Rattle.rl_spec.specs.declared.StatementForm.TheVariants.{Declaration, Expression, Return, ReturnAlone, Conditional, Branch as ABranch, While, Loop, Break, Continue}
 use Rattle.rl_spec.specs.Tree.{Expr, other, is_res_path, call_form, form_by, descend, tree_by, expr_tree, optional_tree}
-use Rattle.rl_spec.specs.Statement.{declaration, expression, return, while, other_statement, branch, Item, a_statement, a_branch, body_by, statement_of, item_by_lem, item_tree, body_tree}
+use Rattle.rl_spec.specs.Statement.{declaration, expression, return, while, other_statement, branch, Item, a_statement, a_branch, body_by, statement_of, item_by, item_tree, body_tree}
 use Rattle.rl_spec.specs.Mapped.{map_expr, map_body}
 use Rattle.rl_spec.specs.Make.{with_records}
 use Rattle.rl_images.specs.Lowering.Grows.{records_other}
@@ -53,13 +53,13 @@ module _ (im : Image) where
 
   expr_tables : expr_tree im ≡ expr_tree (tables_of im)
   unfolding expr_tree
-  expr_tables = λ j. descend (λ _. other) (λ i tree. tree_by_lem (form_tables (record_of_lem im Expressions i) j) tree j)
+  expr_tables = λ j. descend (λ _. other) (λ i tree. tree_by_lem (form_tables (record_of im Expressions i) j) tree j)
 
   optional_tables : (o : Optional) → optional_tree im o ≡ optional_tree (tables_of im) o
   optional_tables None = refl
   optional_tables (Some n) = λ i. some (expr_tables i n)
 
-  item_by_lem : (form : StatementForm) (item : ℕ → Item ℕ) → item_by_lem im form item ≡ item_by_lem (tables_of im) form item
+  item_by_lem : (form : StatementForm) (item : ℕ → Item ℕ) → item_by im form item ≡ item_by (tables_of im) form item
   item_by_lem (Declaration x n) item = λ i. a_statement (declaration x (expr_tables i n))
   item_by_lem (Expression n) item = λ i. a_statement (expression (expr_tables i n))
   item_by_lem (Return n) item = λ i. a_statement (return (expr_tables i n))

@@ -1,5 +1,5 @@
 use borrow.Author.Rules.{rules}
-use borrow.Author.Tests.{not_true, not_false}
+use borrow.Author.Tests.{not-true, not-false}
 use Rattle.rl_admission.proofs.running.admit_run.Statement.{statement}
 use Rattle.rl_admission.proofs.running.admit_run.Tie as tie
 use Rattle.rl_admission.proofs.RunningLaws.{no_function, wrong_count, over_sixteen, no_text, over_budget, admits}
@@ -29,13 +29,13 @@ all-have-requires : tie.Need-all-have-requires
 all-have-requires c κs = search rules
 
 returns-4 : tie.Need-returns-4
-returns-4 c = λ p. no_text _ _ _ c.before.before.before.before.before.before.before.before.before.before.before.before.args.arguments c.before.before.before.before.before.before.before.before.before.before.before.before.args.budget c.before.before.before.before.before.before.before.before.before.if1.false _ (c.before.before.before.before.before.before.before.before.function-at.ensures p) c.before.before.before.before.if2.false c.before.before.if3.false _ c.before.all_have.ensures (not_true _ c.if4.true)
+returns-4 c = λ p. no_text _ _ _ c.before.before.before.before.before.before.before.before.before.before.before.before.args.arguments c.before.before.before.before.before.before.before.before.before.before.before.before.args.budget c.before.before.before.before.before.before.before.before.before.if1.false _ (c.before.before.before.before.before.before.before.before.function-at.ensures p) c.before.before.before.before.if2.false c.before.before.if3.false _ c.before.all_have.ensures (not-true _ c.if4.true)
 
 returns-5 : tie.Need-returns-5
-returns-5 c = λ p. over_budget _ _ _ c.before.before.before.before.before.before.before.before.before.before.before.before.before.args.arguments c.before.before.before.before.before.before.before.before.before.before.before.before.before.args.budget c.before.before.before.before.before.before.before.before.before.before.if1.false _ (c.before.before.before.before.before.before.before.before.before.function-at.ensures p) c.before.before.before.before.before.if2.false c.before.before.before.if3.false _ c.before.before.all_have.ensures (not_false _ c.before.if4.false) c.if5.true
+returns-5 c = λ p. over_budget _ _ _ c.before.before.before.before.before.before.before.before.before.before.before.before.before.args.arguments c.before.before.before.before.before.before.before.before.before.before.before.before.before.args.budget c.before.before.before.before.before.before.before.before.before.before.if1.false _ (c.before.before.before.before.before.before.before.before.before.function-at.ensures p) c.before.before.before.before.before.if2.false c.before.before.before.if3.false _ c.before.before.all_have.ensures (not-false _ c.before.if4.false) c.if5.true
 
 returns-6 : tie.Need-returns-6
-returns-6 c = λ p. admits _ _ _ c.before.before.before.before.before.before.before.before.before.before.before.before.before.args.arguments c.before.before.before.before.before.before.before.before.before.before.before.before.before.args.budget c.before.before.before.before.before.before.before.before.before.before.if1.false _ (c.before.before.before.before.before.before.before.before.before.function-at.ensures p) c.before.before.before.before.before.if2.false c.before.before.before.if3.false _ c.before.before.all_have.ensures (not_false _ c.before.if4.false) c.if5.false
+returns-6 c = λ p. admits _ _ _ c.before.before.before.before.before.before.before.before.before.before.before.before.before.args.arguments c.before.before.before.before.before.before.before.before.before.before.before.before.before.args.budget c.before.before.before.before.before.before.before.before.before.before.if1.false _ (c.before.before.before.before.before.before.before.before.before.function-at.ensures p) c.before.before.before.before.before.if2.false c.before.before.before.if3.false _ c.before.before.all_have.ensures (not-false _ c.before.if4.false) c.if5.false
 
 pub admit-run-spec : {M : Type 1} → statement M
 admit-run-spec =

@@ -3,15 +3,15 @@ use mathlib.Core.Path.{◌≡◌, refl}
 use native.Mathlib.Omega.{arith}
 use lib.ListN.{length, drop}
 use borrow.Author.Rules.{rules}
-use borrow.Author.Tests.{not_true, not_false}
-use Rattle.rl_spec.specs.Runner.{all_have_lem, given}
+use borrow.Author.Tests.{not-true, not-false}
+use Rattle.rl_spec.specs.Runner.{all_have, given}
 use Rattle.rl_admission.proofs.running.all_have.Statement.{statement}
 use Rattle.rl_admission.proofs.running.all_have.Tie as tie
 use Rattle.rl_admission.proofs.Arrays.{unmapped}
 use Rattle.rl_admission.proofs.RunningLaws.{have_all, have_not, have_more}
 
 abbrev invariant-loop : tie.invariant-loop
-invariant-loop counts arguments i₀ i = (length arguments.values ≡ 16) × (all_have_lem counts (given arguments) ≡ all_have_lem counts (drop i (given arguments)))
+invariant-loop counts arguments i₀ i = (length arguments.values ≡ 16) × (all_have counts (given arguments) ≡ all_have counts (drop i (given arguments)))
 
 abbrev decreases-loop : tie.decreases-loop
 decreases-loop counts arguments i₀ i = 16 - i
@@ -35,7 +35,7 @@ value-has-requires : tie.Need-value-has-requires invariant-loop decreases-loop
 value-has-requires c κs = tt
 
 returns-2 : tie.Need-returns-2 invariant-loop decreases-loop
-returns-2 c = have_not _ c.before.before.before.before.before.before.args.t2 c.before.before.before.before.before.loop.i c.before.before.before.before.before.loop.invariant.0 c.before.before.before.before.before.loop.invariant.1 (omega arith) (omega arith) _ _ c.before.value_has_lem.ensures (not_true _ c.if2.true)
+returns-2 c = have_not _ c.before.before.before.before.before.before.args.t2 c.before.before.before.before.before.loop.i c.before.before.before.before.before.loop.invariant.0 c.before.before.before.before.before.loop.invariant.1 (omega arith) (omega arith) _ _ c.before.value_has_lem.ensures (not-true _ c.if2.true)
 
 add-i : tie.Need-overflow-add-i invariant-loop decreases-loop
 add-i c = search rules
@@ -44,7 +44,7 @@ loop-less : tie.Need-loop-smaller invariant-loop decreases-loop
 loop-less c = omega arith
 
 loop-again : tie.Need-loop-preserved invariant-loop decreases-loop
-loop-again c = (c.before.before.before.before.before.loop.invariant.0, have_more _ c.before.before.before.before.before.before.args.t2 c.before.before.before.before.before.loop.i c.before.before.before.before.before.loop.invariant.0 c.before.before.before.before.before.loop.invariant.1 (omega arith) (omega arith) _ _ c.before.value_has_lem.ensures (not_false _ c.if2.false))
+loop-again c = (c.before.before.before.before.before.loop.invariant.0, have_more _ c.before.before.before.before.before.before.args.t2 c.before.before.before.before.before.loop.i c.before.before.before.before.before.loop.invariant.0 c.before.before.before.before.before.loop.invariant.1 (omega arith) (omega arith) _ _ c.before.value_has_lem.ensures (not-false _ c.if2.false))
 
 returns-3 : tie.Need-returns-3 invariant-loop decreases-loop
 returns-3 c = have_all _ c.before.before.args.t2 c.before.loop.i c.before.loop.invariant.0 c.before.loop.invariant.1 (omega arith)
