@@ -19,6 +19,7 @@ ALONE = re.compile(rf"(?<![.\w]){NAME}(?![.\w])")
 DECLARED = re.compile(rf"^\s*(?:(?:unfoldable|abbrev|pub|mutual|where|ruleset) +)*({NAME})(?= :\s)", re.M)
 CASES = re.compile(rf"^\s*(?:pub )?ruleset ({NAME}) =", re.M)
 COMMENT = re.compile(r"(?:(?<=\s)|^)--[^\n]*", re.M)
+QUIET = re.compile(r'"[^"\n]*"|(?:(?<=\s)|^)--[^\n]*', re.M)
 SPAN = re.compile(r"`[^`\n]*`")
 # a file of specs/ whose name Rattle now takes for a module of its own, but for the case of a letter
 MODULES = {"Rattle.rl_spec.specs.Contracts": "Rattle.rl_spec.specs.FnContracts"}
@@ -102,17 +103,18 @@ def turn(text, names):
 
 def turn_antt(text, names):
     out, at = [], 0
-    for m in COMMENT.finditer(text):
+    for m in QUIET.finditer(text):
         out.append(turn(text[at : m.start()], names))
-        out.append(turn_prose(m[0], names))
+        out.append(m[0] if m[0].startswith('"') else turn_prose(m[0], names))
         at = m.end()
     out.append(turn(text[at:], names))
     return "".join(out)
 
 
 def turn_lemmas(text):
+    """Lemmas whose names definitions take; comments and texts in quotes stay."""
     out, at = [], 0
-    for m in COMMENT.finditer(text):
+    for m in QUIET.finditer(text):
         out += [ALONE.sub(lambda w: LEMMAS.get(w[0], w[0]), text[at : m.start()]), m[0]]
         at = m.end()
     return "".join(out) + ALONE.sub(lambda w: LEMMAS.get(w[0], w[0]), text[at:])

@@ -59,13 +59,13 @@ pub record Copies : Type 0 where
   pub copied_arguments : entries_from 4 (lowered requires_method 0) ≡ 4 ∷ 1 ∷ 6 ∷ 1 ∷ 3 ∷ 4 ∷ 5 ∷ 9 ∷ 0 ∷ 2 ∷ []
   -- each return has a temporary of its own
   pub three_temporaries : texts_from 2 (lowered three_returns 0)
-      ≡ map ascii ("__ensure_ret_0" ∷ "__ensure_ret_0" ∷ "ret" ∷ "std" ∷ "res" ∷ "result_unwrap_lem" ∷ "__ensure_ret_0"
-      ∷ "__ensure_ret_1" ∷ "__ensure_ret_1" ∷ "ret" ∷ "std" ∷ "res" ∷ "result_unwrap_lem" ∷ "__ensure_ret_1"
-      ∷ "__ensure_ret_2" ∷ "__ensure_ret_2" ∷ "ret" ∷ "std" ∷ "res" ∷ "result_unwrap_lem" ∷ "__ensure_ret_2" ∷ [])
+      ≡ map ascii ("__ensure_ret_0" ∷ "__ensure_ret_0" ∷ "ret" ∷ "std" ∷ "res" ∷ "result_unwrap" ∷ "__ensure_ret_0"
+      ∷ "__ensure_ret_1" ∷ "__ensure_ret_1" ∷ "ret" ∷ "std" ∷ "res" ∷ "result_unwrap" ∷ "__ensure_ret_1"
+      ∷ "__ensure_ret_2" ∷ "__ensure_ret_2" ∷ "ret" ∷ "std" ∷ "res" ∷ "result_unwrap" ∷ "__ensure_ret_2" ∷ [])
   -- each operand's text is new, even one that the image has
   pub operands_texts : texts_from 4 (lowered refined_by_texts 0)
-      ≡ map ascii ("t" ∷ "x" ∷ "refinement failed: x == \"t\"" ∷ "std" ∷ "res" ∷ "result_unwrap_lem"
-      ∷ "x" ∷ "y" ∷ "refinement failed: y != x" ∷ "std" ∷ "res" ∷ "result_unwrap_lem" ∷ [])
+      ≡ map ascii ("t" ∷ "x" ∷ "refinement failed: x == \"t\"" ∷ "std" ∷ "res" ∷ "result_unwrap"
+      ∷ "x" ∷ "y" ∷ "refinement failed: y != x" ∷ "std" ∷ "res" ∷ "result_unwrap" ∷ [])
 
 -- THEOREM
 pub copies_so : Copies

@@ -12,7 +12,7 @@ use Rattle.rl_examples.specs.MarkedImages.{made, integer, build}
 -- ---- the texts of each image, and their numbers; two of them stand there twice
 
 abbrev texts : List String
-texts = "f" ∷ "x" ∷ "y" ∷ "ret" ∷ "no" ∷ "x" ∷ "no" ∷ "std" ∷ "res" ∷ "is_err_lem" ∷ "result_unwrap_lem" ∷ "__ensure_ret_0" ∷ []
+texts = "f" ∷ "x" ∷ "y" ∷ "ret" ∷ "no" ∷ "x" ∷ "no" ∷ "std" ∷ "res" ∷ "is_err" ∷ "result_unwrap" ∷ "__ensure_ret_0" ∷ []
 
 abbrev pub x : ℕ
 x = 1

@@ -81,7 +81,7 @@ requires_identifier =
 abbrev pub requires_lowered : Image
 requires_lowered =
     image
-    ("f" ∷ "p" ∷ "requires violated" ∷ "std" ∷ "res" ∷ "result_unwrap_lem" ∷ [])
+    ("f" ∷ "p" ∷ "requires violated" ∷ "std" ∷ "res" ∷ "result_unwrap" ∷ [])
     (3 ∷ 4 ∷ 5 ∷ 4 ∷ 0 ∷ 2 ∷ [])
     (identifier 1 ∷ new 25 (num 2 ∷ []) ∷ identifier 1 ∷ new 33 (num 5 ∷ num 2 ∷ []) ∷ new 50 (num 1 ∷ [])
     ∷ new 41 (pair 0 3 ∷ pair 3 1 ∷ []) ∷ [])
@@ -109,8 +109,8 @@ returns_ok =
 abbrev pub returns_lowered : Image
 returns_lowered =
     image
-    ("f" ∷ "ret" ∷ "__ensure_ret_0" ∷ "__ensure_ret_0" ∷ "std" ∷ "res" ∷ "is_err_lem" ∷ "__ensure_ret_0" ∷ "__ensure_ret_0"
-    ∷ "std" ∷ "res" ∷ "result_unwrap_lem" ∷ "ret" ∷ "ensures violated" ∷ "__ensure_ret_0" ∷ [])
+    ("f" ∷ "ret" ∷ "__ensure_ret_0" ∷ "__ensure_ret_0" ∷ "std" ∷ "res" ∷ "is_err" ∷ "__ensure_ret_0" ∷ "__ensure_ret_0"
+    ∷ "std" ∷ "res" ∷ "result_unwrap" ∷ "ret" ∷ "ensures violated" ∷ "__ensure_ret_0" ∷ [])
     (0 ∷ 4 ∷ 5 ∷ 6 ∷ 3 ∷ 2 ∷ 9 ∷ 10 ∷ 11 ∷ 6 ∷ 6 ∷ 1 ∷ 4 ∷ 5 ∷ 8 ∷ 9 ∷ [])
     (bool 1 ∷ made 49 (num 2 ∷ num 0 ∷ []) ∷ identifier 1
     -- is_err(temp), the temp that is returned then, result_unwrap(temp)
@@ -145,8 +145,8 @@ loop_and_last =
 abbrev pub loop_and_last_lowered : Image
 loop_and_last_lowered =
     image
-    ("f" ∷ "ret" ∷ "__ensure_ret_0" ∷ "__ensure_ret_0" ∷ "ret" ∷ "std" ∷ "res" ∷ "result_unwrap_lem" ∷ "__ensure_ret_0"
-    ∷ "__ensure_ret_1" ∷ "__ensure_ret_1" ∷ "ret" ∷ "std" ∷ "res" ∷ "result_unwrap_lem" ∷ "__ensure_ret_1" ∷ [])
+    ("f" ∷ "ret" ∷ "__ensure_ret_0" ∷ "__ensure_ret_0" ∷ "ret" ∷ "std" ∷ "res" ∷ "result_unwrap" ∷ "__ensure_ret_0"
+    ∷ "__ensure_ret_1" ∷ "__ensure_ret_1" ∷ "ret" ∷ "std" ∷ "res" ∷ "result_unwrap" ∷ "__ensure_ret_1" ∷ [])
     (0 ∷ 1 ∷ 2 ∷ 5 ∷ 6 ∷ 7 ∷ 6 ∷ 5 ∷ 3 ∷ 4 ∷ 7 ∷ 8 ∷ 12 ∷ 13 ∷ 14 ∷ 12 ∷ 12 ∷ 10 ∷ 11 ∷ 14 ∷ 15 ∷ 9 ∷ [])
     (bool 1 ∷ identifier 1
     ∷ new 16 [] ∷ new 30 (num 3 ∷ []) ∷ identifier 1 ∷ new 33 (num 5 ∷ num 4 ∷ []) ∷ new 50 (num 0 ∷ [])
@@ -294,8 +294,8 @@ pub record Lowerings : Type 0 where
   pub two_arms_rebuilt : statements_from 17 (lowered two_arms 0)
       ≡ made 76 (num 7 ∷ num 65535 ∷ pair 18 4 ∷ []) ∷ made 75 (num 8 ∷ num 1 ∷ pair 22 2 ∷ []) ∷ []
   pub two_arms_temporaries : texts_from 2 (lowered two_arms 0)
-      ≡ map ascii ("__ensure_ret_0" ∷ "__ensure_ret_0" ∷ "ret" ∷ "std" ∷ "res" ∷ "result_unwrap_lem" ∷ "__ensure_ret_0"
-      ∷ "__ensure_ret_1" ∷ "__ensure_ret_1" ∷ "ret" ∷ "std" ∷ "res" ∷ "result_unwrap_lem" ∷ "__ensure_ret_1" ∷ [])
+      ≡ map ascii ("__ensure_ret_0" ∷ "__ensure_ret_0" ∷ "ret" ∷ "std" ∷ "res" ∷ "result_unwrap" ∷ "__ensure_ret_0"
+      ∷ "__ensure_ret_1" ∷ "__ensure_ret_1" ∷ "ret" ∷ "std" ∷ "res" ∷ "result_unwrap" ∷ "__ensure_ret_1" ∷ [])
   -- refinements, then requires: `flow >= 1` is made right operand first and copied left first
   pub flow_nodes : nodes_from 7 (lowered flow 0)
       ≡ made 17 (num 2 ∷ num 1 ∷ []) ∷ made 30 (num 2 ∷ num 3 ∷ []) ∷ made 32 (num 2 ∷ num 8 ∷ num 11 ∷ num 7 ∷ [])
@@ -305,7 +305,7 @@ pub record Lowerings : Type 0 where
       ∷ made 30 (num 3 ∷ num 1 ∷ []) ∷ made 17 (num 3 ∷ num 4096 ∷ []) ∷ made 32 (num 3 ∷ num 17 ∷ num 8 ∷ num 18 ∷ [])
       ∷ made 33 (num 2 ∷ num 5 ∷ num 19 ∷ []) ∷ made 50 (num 2 ∷ num 3 ∷ []) ∷ made 41 (num 2 ∷ pair 8 3 ∷ pair 11 1 ∷ []) ∷ []
   pub flow_texts : texts_from 3 (lowered flow 0)
-      ≡ map ascii ("flow" ∷ "refinement failed: flow >= 1" ∷ "std" ∷ "res" ∷ "result_unwrap_lem" ∷ "std" ∷ "res" ∷ "result_unwrap_lem" ∷ [])
+      ≡ map ascii ("flow" ∷ "refinement failed: flow >= 1" ∷ "std" ∷ "res" ∷ "result_unwrap" ∷ "std" ∷ "res" ∷ "result_unwrap" ∷ [])
   -- two guards, and the return as it was
   pub flow_body : entries_from 13 (lowered flow 0) ≡ 3 ∷ 6 ∷ 0 ∷ []
   -- without contracts the image is unchanged

@@ -48,8 +48,8 @@ both_clauses =
 abbrev pub both_lowered : Image
 both_lowered =
     image
-    ("f" ∷ "p" ∷ "ret" ∷ "requires violated" ∷ "std" ∷ "res" ∷ "result_unwrap_lem" ∷ "__ensure_ret_0" ∷ "__ensure_ret_0" ∷ "ret"
-    ∷ "ensures violated" ∷ "std" ∷ "res" ∷ "result_unwrap_lem" ∷ "__ensure_ret_0" ∷ [])
+    ("f" ∷ "p" ∷ "ret" ∷ "requires violated" ∷ "std" ∷ "res" ∷ "result_unwrap" ∷ "__ensure_ret_0" ∷ "__ensure_ret_0" ∷ "ret"
+    ∷ "ensures violated" ∷ "std" ∷ "res" ∷ "result_unwrap" ∷ "__ensure_ret_0" ∷ [])
     (0 ∷ 4 ∷ 5 ∷ 6 ∷ 6 ∷ 1 ∷ 11 ∷ 12 ∷ 13 ∷ 12 ∷ 6 ∷ 3 ∷ 4 ∷ 5 ∷ 8 ∷ 9 ∷ [])
     (identifier 1 ∷ identifier 2 ∷ bool 1
     -- the message, the copy, its negation, err(message), result_unwrap(err(message))
@@ -96,7 +96,7 @@ three_loops =
 -- the new texts of returns, by their temporaries
 unfoldable pub return_texts : List String → List String
 return_texts [] = []
-return_texts (temp ∷ temps) = temp ∷ temp ∷ "ret" ∷ "std" ∷ "res" ∷ "result_unwrap_lem" ∷ temp ∷ return_texts temps
+return_texts (temp ∷ temps) = temp ∷ temp ∷ "ret" ∷ "std" ∷ "res" ∷ "result_unwrap" ∷ temp ∷ return_texts temps
 
 abbrev statements_at : List ℕ → Option Image → List Rec
 statements_at ns none = []

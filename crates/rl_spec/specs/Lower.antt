@@ -49,10 +49,10 @@ res_call name x = do
   expr 41 (path ∷ args ∷ [])
 
 abbrev pub unwrap_call : ℕ → Make ℕ
-unwrap_call = res_call (ascii "result_unwrap_lem")
+unwrap_call = res_call (ascii "result_unwrap")
 
 abbrev pub is_err_call : ℕ → Make ℕ
-is_err_call = res_call (ascii "is_err_lem")
+is_err_call = res_call (ascii "is_err")
 
 -- a clause's own message is shared, not copied
 abbrev pub msg_expr_by : Optional → List ℕ → Make ℕ

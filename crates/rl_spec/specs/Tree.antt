@@ -65,8 +65,8 @@ is_res_path im path name =
 unfoldable pub call_form : Image → Field → Field → Form
 call_form im path args =
     cond (second args == 1)
-    (cond (is_res_path im path (ascii "is_err_lem")) (IsErr (entry_of im (first args)))
-    (cond (is_res_path im path (ascii "result_unwrap_lem")) (ResultUnwrap (entry_of im (first args))) Other)) Other
+    (cond (is_res_path im path (ascii "is_err")) (IsErr (entry_of im (first args)))
+    (cond (is_res_path im path (ascii "result_unwrap")) (ResultUnwrap (entry_of im (first args))) Other)) Other
 
 unfoldable pub form_by : Image → Rec → Form
 form_by im r =

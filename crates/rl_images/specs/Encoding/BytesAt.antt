@@ -69,7 +69,7 @@ unfolding num_at bytes_of
 number zero x p st = omega arith
 number {s} {at} (suc n) x p st =
     let q : x / 256 < 256 ^ n = (div-lt_iff_lt-mul (lit< tt)).1 (rw pow-suc at p) in
-    rw (head st, number n (x / 256) q (tail st)) (omega arith)
+    rw (head st, number {at = at + 1} n (x / 256) q (tail st)) (omega arith)
 
 -- the other ways to read a number
 module _ (s : List ℕ) (at : ℕ) where
@@ -91,4 +91,4 @@ module _ (s : List ℕ) (at : ℕ) where
 pub zeros_stand : {s : List ℕ} {at : ℕ} (n : ℕ) → BytesAt s at (bytes_of n 0) → zeros s at n ≡ true
 unfolding zeros bytes_of
 zeros_stand zero st = refl
-zeros_stand {s} {at} (suc n) st = rw (eq-eqb (get_or s at 0) 0 (head st)) (zeros_stand n (tail st))
+zeros_stand {s} {at} (suc n) st = rw (eq-eqb (get_or s at 0) 0 (head st)) (zeros_stand {at = at + 1} n (tail st))

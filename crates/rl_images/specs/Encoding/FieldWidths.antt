@@ -109,9 +109,9 @@ unfolding encode_fields fields_at
 fields_in_lem [] [] z st = refl
 fields_in_lem [] (f ∷ fs) z st = absurd z
 fields_in_lem (c ∷ cs) [] z st = absurd z
-fields_in_lem (c ∷ cs) (f ∷ fs) z st =
+fields_in_lem {at = at} (c ∷ cs) (f ∷ fs) z st =
     let e = field_in_lem (sort_of c) f z.0 (left (encode_field (sort_of c) f) (encode_fields cs fs) st) in
-    rw (e, fields_in_lem cs fs z.1 (next_field c cs f fs z.0 st))
+    rw (e, fields_in_lem {at = at + width_of (sort_of c)} cs fs z.1 (next_field c cs f fs z.0 st))
 
 module _ (im : Image) (bounded : Bounded im) (o : Section) (i : ℕ) (short : i ≤ 4096) where
   pub all_sized : {b : ℕ} {fs : List Field} (narrow : Bool) (cs : List ℕ) → all_suit o narrow cs ≡ true → FieldsFit im o i b (map sort_of cs) fs → AllSized cs fs
@@ -161,14 +161,14 @@ module _ {s : List ℕ} where
   records_in_lem [] z st = refl
   records_in_lem {at} (r ∷ rs) z st =
       let here = left (encode_record r) (encode_records rs) st in
-      rw (record_in_lem r here z.0, next_at_lem r here z.0, records_in_lem rs z.1 (right (encode_record r) (encode_records rs) st))
+      rw (record_in_lem r here z.0, next_at_lem r here z.0, records_in_lem {at = at + length (encode_record r)} rs z.1 (right (encode_record r) (encode_records rs) st))
 
   pub end_at_lem : {at : ℕ} (rs : List Rec) → AllSizedRecords rs → BytesAt s at (encode_records rs) → end_at s (length rs) at ≡ at + length (encode_records rs)
   unfolding end_at encode_records
   end_at_lem [] z st = omega arith
   end_at_lem {at} (r ∷ rs) z st =
       let here = left (encode_record r) (encode_records rs) st in
-      ap (end_at s (length rs)) (next_at_lem r here z.0) ∙ end_at_lem rs z.1 (right (encode_record r) (encode_records rs) st)
+      ap (end_at s (length rs)) (next_at_lem r here z.0) ∙ end_at_lem {at = at + length (encode_record r)} rs z.1 (right (encode_record r) (encode_records rs) st)
       ∙ rw length-append (omega arith)
 
 -- records that are m bytes each: their length, and the k-th of them
@@ -189,5 +189,5 @@ module _ (m : ℕ) (d : Rec) where
   nth_stands {at = at} (r ∷ rs) e st zero p = moved (left (encode_record r) (encode_records rs) st) (at + 0 * m) (rw zero-mul (omega arith))
   nth_stands {at = at} (r ∷ rs) e st (suc k) p =
       let z : length (encode_record r) ≡ m = e 0 (omega arith) in
-      let next = nth_stands rs (λ n p. e (suc n) (omega arith)) (right (encode_record r) (encode_records rs) st) k (omega arith) in
+      let next = nth_stands {at = at + length (encode_record r)} rs (λ n p. e (suc n) (omega arith)) (right (encode_record r) (encode_records rs) st) k (omega arith) in
       moved next (at + suc k * m) (rw (z, suc-mul) (omega arith))

@@ -100,7 +100,7 @@ module _ {s : List ℕ} where
       rw e (u16_stands n b (left (bytes_of 2 n) (twos ns) st))
   twos_at {at} (n ∷ ns) st (suc j) b l =
       let e : at + suc j * 2 ≡ at + 2 + j * 2 = omega arith in
-      rw e (twos_at ns (rw length_bytes at (right (bytes_of 2 n) (twos ns) st)) j b (omega arith))
+      rw e (twos_at {at = at + 2} ns (rw length_bytes at (right (bytes_of 2 n) (twos ns) st)) j b (omega arith))
 
   counts_good : {at : ℕ} (ns ms : List ℕ) → AllWithin ns ms → under 65535 ms ≡ true → BytesAt s at (twos ns) → counts_from s ms at ≡ Next (at + length ns * 2) 0
   unfolding counts_from
@@ -113,7 +113,7 @@ module _ {s : List ℕ} where
       let e : u16_at s at ≡ n = u16_stands n (omega (arith, w.0)) here in
       let z : at + 2 + length ns * 2 ≡ at + suc (length ns) * 2 = omega arith in
       rw (there here 2 (length_bytes 2 n), e, le-ltb m n w.0, ← z)
-      (counts_good ns ms w.1 (and_right (leb m 65535) (under 65535 ms) u) (rw length_bytes at (right (bytes_of 2 n) (twos ns) st)))
+      (counts_good {at = at + 2} ns ms w.1 (and_right (leb m 65535) (under 65535 ms) u) (rw length_bytes at (right (bytes_of 2 n) (twos ns) st)))
 
 -- ---- the header
 

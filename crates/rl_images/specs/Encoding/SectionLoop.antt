@@ -101,7 +101,7 @@ pub starts_kind : {s : List ℕ} {at : ℕ} (rs : List Rec) → BytesAt s at (en
 unfolding starts encode_records
 starts_kind [] st n p = absurd (omega arith)
 starts_kind (r ∷ rs) st zero p = kind_stands r (left (encode_record r) (encode_records rs) st)
-starts_kind (r ∷ rs) st (suc n) p = starts_kind rs (right (encode_record r) (encode_records rs) st) n (omega arith)
+starts_kind {s = s} {at = at} (r ∷ rs) st (suc n) p = starts_kind {at = at + length (encode_record r)} rs (right (encode_record r) (encode_records rs) st) n (omega arith)
 
 -- ---- the loop
 

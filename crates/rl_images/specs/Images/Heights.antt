@@ -126,7 +126,7 @@ module _ (im : Image) (i : ℕ) (h : List ℕ) (t : ℕ → Expr ℕ) (low : (n 
 
     call_low : r.kind ≡ 41 → Low (call_form im (field_of r 1) (field_of r 2))
     unfolding call_form
-    call_low e = by_tests (eqb (second (field_of r 2)) 1) (is_res_path im (field_of r 1) (ascii "is_err_lem")) (is_res_path im (field_of r 1) (ascii "result_unwrap_lem")) (entry_of im (number r 2)) (λ d. child_low e (argument_low (rw e at fits) (eqb-true (second (field_of r 2)) 1 d)))
+    call_low e = by_tests (eqb (second (field_of r 2)) 1) (is_res_path im (field_of r 1) (ascii "is_err")) (is_res_path im (field_of r 1) (ascii "result_unwrap")) (entry_of im (number r 2)) (λ d. child_low e (argument_low (rw e at fits) (eqb-true (second (field_of r 2)) 1 d)))
 
     form_low : Low (form_by im r)
     unfolding form_by expr_height

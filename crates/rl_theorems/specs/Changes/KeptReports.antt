@@ -76,7 +76,7 @@ module _ (f : ℕ → Text) where
   names_kept t u folds names names' [] ks d n h = h
   names_kept t u folds names names' (p ∷ ps) [] d n h = h
   names_kept t u folds names names' (p ∷ ps) (k ∷ ks) d n h =
-      names_kept t u folds _ _ ps ks d.1 (fresh_bound f p.name (const_eval f names (t k)) names ps d.0 n.1)
+      names_kept t u folds (bound p.name (const_eval f names (t k)) names) (bound p.name (const_eval f names' (u k)) names') ps ks d.1 (fresh_bound f p.name (const_eval f names (t k)) names ps d.0 n.1)
       (bound_kept names names' p.name (const_eval f names (t k)) (const_eval f names' (u k)) n.0 (folds k names names' h) h)
 
   -- ---- the second pass, and the requires

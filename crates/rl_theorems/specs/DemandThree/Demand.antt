@@ -239,10 +239,14 @@ tested {im} {x} (one c e) test h = one_passes im test x c h e
 tested {im} {x} (one_or_none c e n) test h = option_passes im test x c h e
 tested {im} {x} (entry c k {l} {r} {m} e t q) test h = entry_passes im test x c k l r m h e t q
 
+depth_in : (im : Image) (ok : Rec → Bool) (n i : ℕ) → throughout im ok i ≡ true → StandsIn im n i →
+    ok (record_of im Expressions n) ≡ true
+depth_in im ok n i h itself = ok_itself im ok i h
+depth_in im ok n i h (deeper {j = j} x d) = depth_in im ok n j (throughout_named im ok i j h (tested x)) d
+
 pub in_depth : (im : Image) (ok : Rec → Bool) (i : ℕ) → throughout im ok i ≡ true → (n : ℕ) → StandsIn im n i →
     ok (record_of im Expressions n) ≡ true
-in_depth im ok i h n itself = ok_itself im ok i h
-in_depth im ok i h n (deeper {j = j} x d) = in_depth im ok j (throughout_named im ok i j h (tested x)) n d
+in_depth im ok i h n d = depth_in im ok n i h d
 
 pub none_in : (im : Image) (kind i : ℕ) → throughout im (is_not kind) i ≡ true → NoneIn im kind i
 none_in im kind i h n d = is_not_lem kind (record_of im Expressions n) (in_depth im (is_not kind) i h n d)

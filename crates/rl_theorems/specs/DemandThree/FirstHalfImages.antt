@@ -34,7 +34,7 @@ abbrev pub echo_lowered : Image
 echo_lowered =
     build
     record {
-      texts = "f" ∷ "p" ∷ "x" ∷ "requires violated" ∷ "std" ∷ "res" ∷ "result_unwrap_lem" ∷ [];
+      texts = "f" ∷ "p" ∷ "x" ∷ "requires violated" ∷ "std" ∷ "res" ∷ "result_unwrap" ∷ [];
       lists = 0 ∷ 4 ∷ 5 ∷ 6 ∷ 5 ∷ 1 ∷ 3 ∷ 0 ∷ [];
       expressions =
           bool 1 ∷ identifier 1 ∷ a 25 (num 1 ∷ num 3 ∷ []) ∷ bool 1 ∷ a 33 (num 1 ∷ num 5 ∷ num 3 ∷ []) ∷ a 50 (num 1 ∷ num 2 ∷ [])
@@ -69,7 +69,7 @@ promising_lowered name =
     build
     record {
       texts =
-          "f" ∷ name ∷ "__ensure_ret_0" ∷ "__ensure_ret_0" ∷ "ret" ∷ "ensures violated" ∷ "std" ∷ "res" ∷ "result_unwrap_lem"
+          "f" ∷ name ∷ "__ensure_ret_0" ∷ "__ensure_ret_0" ∷ "ret" ∷ "ensures violated" ∷ "std" ∷ "res" ∷ "result_unwrap"
           ∷ "__ensure_ret_0" ∷ [];
       lists = 0 ∷ 6 ∷ 7 ∷ 8 ∷ 6 ∷ 3 ∷ 1 ∷ 2 ∷ 5 ∷ 6 ∷ [];
       expressions =

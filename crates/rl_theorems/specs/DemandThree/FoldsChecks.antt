@@ -1,6 +1,6 @@
 -- A check whose condition folds to false is not passed, nor is a list of checks with such a one: those ahead of it hold no assignment,
 -- so they keep the bindings.
-use Rattle.std.specs.Prelude.{◌≡◌, ℕ, zero, suc, Bool, true, false, List, ◌∷◌, ◌≢◌}
+use Rattle.std.specs.Prelude.{◌≡◌, ℕ, zero, suc, Bool, true, false, List, [], ◌∷◌, ◌≢◌}
 use Rattle.std.proofs.Common.{subst}
 use Rattle.std.proofs.Math.Option.{Option, none, some}
 use Rattle.rl_spec.specs.Values as value
@@ -180,6 +180,7 @@ module _ {T : Type 0} (bytes : T → List ℕ) where
   pub checks_over : (r : Bool) (cs : List (Check T)) (names : List (Binding T)) (env : Env T) → Agrees bytes names env → Fails bytes names cs →
       (n : ℕ) → Over (checks bytes r cs env n)
   unfolding checks
+  checks_over r [] names env h f n = elim f [ ]
   checks_over r (c ∷ cs) names env h (here e) n = over_then (λ _. checks bytes r cs) (check_over r c names env h e n)
   checks_over r (c ∷ cs) names env h (there s f) n = charged (checks bytes r cs) (check_still r c s env n) (checks_over r cs names env h f)
 

@@ -127,13 +127,13 @@ pub res_proper : Proper (ascii "res")
 unfolding ascii
 res_proper = ascii_proper (ascii "res") refl
 
-pub unwrap_proper : Proper (ascii "result_unwrap_lem")
+pub unwrap_proper : Proper (ascii "result_unwrap")
 unfolding ascii
-unwrap_proper = ascii_proper (ascii "result_unwrap_lem") refl
+unwrap_proper = ascii_proper (ascii "result_unwrap") refl
 
-pub is_err_proper : Proper (ascii "is_err_lem")
+pub is_err_proper : Proper (ascii "is_err")
 unfolding ascii
-is_err_proper = ascii_proper (ascii "is_err_lem") refl
+is_err_proper = ascii_proper (ascii "is_err") refl
 
 pub ret_proper : Proper (ascii "ret")
 unfolding ascii

@@ -97,7 +97,7 @@ call_sure name p x c l q =
     sure_ready λ r. node_sure 41 _ f refl l (call_held f path args r (held_on on'' y) z)
 
 pub unwrap_sure : {h : ℕ} (x : ℕ) (c : Context) → h < 68 → Node h x c → KeepsSound c (Node (h + 1)) (unwrap_call x c)
-unwrap_sure x c l q = call_sure (ascii "result_unwrap_lem") unwrap_proper x c l q
+unwrap_sure x c l q = call_sure (ascii "result_unwrap") unwrap_proper x c l q
 
 -- ---- statements over expressions, and a conditional
 
@@ -213,7 +213,7 @@ return_of_sure temp p c = ident_sure temp p c ⇝ λ n d on x. return_sure n d (
 skip_sure : (temp : List ℕ) → Proper temp → (c : Context) → KeepsSound c (Lines 3) (skip_err temp c)
 skip_sure temp p c =
     ident_sure temp p c ⇝ λ n d on x.
-    call_sure (ascii "is_err_lem") is_err_proper n d (omega arith) x ⇝ λ check e on' y.
+    call_sure (ascii "is_err") is_err_proper n d (omega arith) x ⇝ λ check e on' y.
     return_of_sure temp p e ⇝ λ s f on'' z.
     only_if_sure check s f (omega arith) (there_on on'' Expressions (ref_there y)) z ⇝ λ skip g on''' w.
     sure_given (ref w no_refs)

@@ -82,19 +82,19 @@ call_ok name x ctx =
     let h' = keep (k₁ ⊕ k₂ ⊕ k₃).image h in
     f _ (a_call refl (keep_holds k₃.image h₂) (keep_all (k₂ ⊕ k₃).image h₁) h₃ (an_arg (inside_of h') h' no_args) refl)
 
-is_err_lem : (e : Expr Text) → call_tree (ascii "std" ∷ ascii "res" ∷ ascii "is_err_lem" ∷ []) (e ∷ []) ≡ is_err e
+is_err_lem : (e : Expr Text) → call_tree (ascii "std" ∷ ascii "res" ∷ ascii "is_err" ∷ []) (e ∷ []) ≡ is_err e
 unfolding ascii same_text
 is_err_lem e = refl
 
-unwraps : (e : Expr Text) → call_tree (ascii "std" ∷ ascii "res" ∷ ascii "result_unwrap_lem" ∷ []) (e ∷ []) ≡ result_unwrap e
+unwraps : (e : Expr Text) → call_tree (ascii "std" ∷ ascii "res" ∷ ascii "result_unwrap" ∷ []) (e ∷ []) ≡ result_unwrap e
 unfolding ascii same_text
 unwraps e = refl
 
 pub is_err_ok_lem : (x : ℕ) (ctx : Context) → GrowsTo ctx (Turned is_err ctx x) (is_err_call x ctx)
-is_err_ok_lem x ctx = call_ok (ascii "is_err_lem") x ctx ▹ λ n c k f e h. subst (IsExpr c.image n) (is_err_lem e) (f e h)
+is_err_ok_lem x ctx = call_ok (ascii "is_err") x ctx ▹ λ n c k f e h. subst (IsExpr c.image n) (is_err_lem e) (f e h)
 
 pub unwrap_ok : (x : ℕ) (ctx : Context) → GrowsTo ctx (Turned result_unwrap ctx x) (unwrap_call x ctx)
-unwrap_ok x ctx = call_ok (ascii "result_unwrap_lem") x ctx ▹ λ n c k f e h. subst (IsExpr c.image n) (unwraps e) (f e h)
+unwrap_ok x ctx = call_ok (ascii "result_unwrap") x ctx ▹ λ n c k f e h. subst (IsExpr c.image n) (unwraps e) (f e h)
 
 -- ---- guards
 

@@ -86,10 +86,10 @@ each_lowered_to wf (and_then {im = im} {next = next} {last = last} {f = g} l low
     others_kept (lowered_well_formed im next g wf l low lower e) rest g (there_still im next g wf e g l) d.0 in
     let own : LoweredTo (contract_function im g) (contract_function next g) = lowered_trees im next g wf l e (rw q at h) in
     rw (q, kept) own
-each_lowered_to wf (and_then {im = im} {next = next} {last = last} {f = g} l low lower e rest) d f (inr x) h =
+each_lowered_to wf (and_then {im = im} {next = next} {last = last} {f = g} {fs = fs} l low lower e rest) d f (inr x) h =
     let wf' : WellFormed next = lowered_well_formed im next g wf l low lower e in
     let m : f < size_of im Functions = omega (arith, among_there wf' rest f x, (keeps im next g wf e).functions) in
-    let same : contract_function next f ≡ contract_function im f = others_same im next g wf e f m (λ q. d.0 (rw q at x)) in
+    let same : contract_function next f ≡ contract_function im f = others_same im next g wf e f m (λ q. d.0 (subst (λ z. Among z fs) q x)) in
     subst (λ o. LoweredTo o (contract_function last f)) same (each_lowered_to wf' rest d.1 f x (subst Last (sym same) h))
 
 -- THEOREM: each runs in the last image as it is read in the first, under its premises there

@@ -17,7 +17,7 @@ use Rattle.rl_spec.specs.Lower.{transform_statement, last_of, wrap_trailing, ens
 use Rattle.rl_theorems.specs.Lowering.LowerTrees as tree
 use Rattle.rl_theorems.specs.Lowering.LowerTrees.{◌⧺◌}
 use Rattle.rl_theorems.specs.Lowering.LowerFrame.{begins}
-use Rattle.rl_theorems.specs.Lowering.LowerBodies.{NoBare, Some, NoBareLast, OnlyBare, append-nil as body-nil}
+use Rattle.rl_theorems.specs.Lowering.LowerBodies.{NoBare, Some, NoBareLast, OnlyBare, append_nil as body_nil}
 use Rattle.rl_theorems.specs.Lowering.LoweredTo.{expression_to, BodyTo, nil_to, cons_to, no_bare_to, something_to, EnsuredTo, wrapped, only_wrapped}
 use Rattle.rl_images.specs.Lowering.GrowsTo.{GrowsTo, ◌▷◌, ◌▹◌, given, test}
 use Rattle.rl_theorems.specs.Trees.Denotes.{IsExpr, stands_line, ReadsLine, a_declaration, an_expression, a_return, a_return_alone, a_conditional, an_arm, a_while, a_loop, a_break, a_continue, an_other_line, Rows, no_rows, a_row}
@@ -45,7 +45,7 @@ some_to {r} {ks} (cons_to {b' = b'} p ps q) = subst Some (sym q) (something_to r
 
 no_last_to : {r : Bool} {ks : List (Check Text)} {b b' : Body Text} → BodyTo r ks b b' → NoBareLast b → NoBareLast b'
 no_last_to nil_to h = tt
-no_last_to {r} {ks} (cons_to {a = a} p nil_to q) h = subst NoBareLast (sym (q ∙ body-nil a)) (no_bare_last a (no_bare_to r ks p h))
+no_last_to {r} {ks} (cons_to {a = a} p nil_to q) h = subst NoBareLast (sym (q ∙ body_nil a)) (no_bare_last a (no_bare_to r ks p h))
 no_last_to {r} {ks} (cons_to {a = a} {b' = b'} p (cons_to p' ps q') q) h =
     subst NoBareLast (sym q) (last_append a b' (some_to (cons_to p' ps q')) (no_last_to (cons_to p' ps q') h))
 

@@ -122,8 +122,8 @@ module _ (im : Image) where
         Holds im args ns → Args im i ns es → map_expr texts (tree_by im (call_form im path args) (below i (λ _. other) (expr_tree im))) ≡ call_tree xs es
     tree_call p ts a no_args = rw (holds_length a) refl
     tree_call {i} {path} {args} {xs = xs} p ts a (an_arg {n = n} l h no_args) =
-        rw (holds_length a, path_is (ascii "is_err_lem") ts p, path_is (ascii "result_unwrap_lem") ts p, holds_first a)
-        (call_by (is_res xs (ascii "is_err_lem")) (is_res xs (ascii "result_unwrap_lem")) n (below i (λ _. other) (expr_tree im))
+        rw (holds_length a, path_is (ascii "is_err") ts p, path_is (ascii "result_unwrap") ts p, holds_first a)
+        (call_by (is_res xs (ascii "is_err")) (is_res xs (ascii "result_unwrap")) n (below i (λ _. other) (expr_tree im))
         ∙ ap (λ e. call_tree xs (e ∷ [])) (before l (tree_of h)))
     tree_call {args = args} p ts a (an_arg l h (an_arg m k es)) = rw (ne_eqb (second args) 1 (λ e. omega (arith, holds_length a))) refl
 

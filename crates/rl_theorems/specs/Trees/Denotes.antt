@@ -63,7 +63,7 @@ is_res (a ∷ b ∷ c ∷ d ∷ xs) name = false
 
 abbrev pub call_tree : List Text → List (Expr Text) → Expr Text
 call_tree path [] = other
-call_tree path (e ∷ []) = cond (is_res path (ascii "is_err_lem")) (is_err e) (cond (is_res path (ascii "result_unwrap_lem")) (result_unwrap e) other)
+call_tree path (e ∷ []) = cond (is_res path (ascii "is_err")) (is_err e) (cond (is_res path (ascii "result_unwrap")) (result_unwrap e) other)
 call_tree path (e ∷ d ∷ es) = other
 
 -- a kind that is not taken

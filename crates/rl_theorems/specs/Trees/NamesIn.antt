@@ -105,7 +105,7 @@ module _ (im : Image) (H : ℕ → Type 0)
     call_says : r.kind ≡ 41 → Says (call_form im (field_of r 1) (field_of r 2))
     unfolding call_form
     call_says e =
-        by_tests (second (field_of r 2) == 1) (is_res_path im (field_of r 1) (ascii "is_err_lem")) (is_res_path im (field_of r 1) (ascii "result_unwrap_lem"))
+        by_tests (second (field_of r 2) == 1) (is_res_path im (field_of r 1) (ascii "is_err")) (is_res_path im (field_of r 1) (ascii "result_unwrap"))
         (entry_of im (number r 2)) (λ d. argument e (eqb-true (second (field_of r 2)) 1 d))
 
     form_says : Says (form_by im r)
