@@ -30,7 +30,7 @@ use rl_text_out::put_text;
 
 // How many there are of each, with the new ones; the bytes of the new expressions and statements; the entries that wait; the function's
 // span and result flag; the number of the next temporary; whether a limit would be passed.
-#[derive(Drop)]
+#[derive(Clone, Copy)]
 pub struct Ctx {
     pub bytes: u32,
     pub texts: u32,

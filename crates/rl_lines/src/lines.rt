@@ -15,7 +15,7 @@ use rl_records::call_at;
 use rl_spec::{Cause, Counts, Violation};
 
 // The lines of a call: its number, its callee (0 without one), its span, and how many there are.
-#[derive(Drop)]
+#[derive(Clone, Copy)]
 pub struct Lines {
     pub call: u16,
     pub function: u16,

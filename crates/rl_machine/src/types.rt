@@ -2,7 +2,7 @@
 use rl_spec::{Outcome, Value};
 
 // How a list ends: a list whose condition is false is skipped.
-#[derive(Drop)]
+#[derive(Clone, Copy)]
 pub enum Flow {
     Onward,
     Breaks,
@@ -12,7 +12,7 @@ pub enum Flow {
 }
 
 // What waits for a value. The lowest frame is a statement's, the others are expressions'.
-#[derive(Drop)]
+#[derive(Clone, Copy)]
 pub enum Frame {
     // the list's condition
     Test,

@@ -16,7 +16,7 @@ pub struct Id {
 }
 
 // The header's counts, in its order.
-#[derive(Drop)]
+#[derive(Clone, Copy)]
 pub struct Counts {
     pub bytes: u16,
     pub texts: u16,
@@ -64,7 +64,7 @@ pub enum Answer {
 }
 
 // The sections that hold records.
-#[derive(Drop)]
+#[derive(Clone, Copy)]
 pub enum Section {
     Texts,
     Lists,
@@ -77,7 +77,7 @@ pub enum Section {
 }
 
 // What a reference has to find.
-#[derive(Drop)]
+#[derive(Clone, Copy)]
 pub enum Target {
     Text,
     Expression,
@@ -89,7 +89,7 @@ pub enum Target {
 }
 
 // The sorts of field.
-#[derive(Drop)]
+#[derive(Clone, Copy)]
 pub enum Sort {
     // bytes of any value
     Raw {
@@ -140,7 +140,7 @@ pub enum Step {
 }
 
 // A folded value; a text by its index.
-#[derive(Drop)]
+#[derive(Clone, Copy)]
 pub enum ConstVal {
     Int(i64),
     Float(f64),
@@ -167,7 +167,7 @@ pub enum ArithOp {
 }
 
 // What an operator on values gives.
-#[derive(Drop)]
+#[derive(Clone, Copy)]
 pub enum Folded {
     Value(ConstVal),
     Nothing,
@@ -215,7 +215,7 @@ pub enum ProveAnswer {
 }
 
 // A contract that a call provably violates: the refinement of a parameter or a requires clause, by its number in the callee's list.
-#[derive(Drop)]
+#[derive(Clone, Copy)]
 pub enum Violation {
     Refinement(u16),
     Requires(u16),
@@ -246,21 +246,21 @@ pub struct Param {
 }
 
 // An index, or none.
-#[derive(Drop)]
+#[derive(Clone, Copy)]
 pub enum Optional {
     None,
     Some(u16),
 }
 
 // A clause's nodes.
-#[derive(Drop)]
+#[derive(Clone, Copy)]
 pub struct Clause {
     pub condition: u16,
     pub message: Optional,
 }
 
 // Entries of the lists, or records of a section: the first and the count.
-#[derive(Drop)]
+#[derive(Clone, Copy)]
 pub struct Interval {
     pub first: u16,
     pub count: u16,
@@ -301,34 +301,34 @@ pub enum StatementForm {
 }
 
 // A folded value or Null.
-#[derive(Drop)]
+#[derive(Clone, Copy)]
 pub enum Plain {
     Null,
     Const(ConstVal),
 }
 
 // A value of the runner.
-#[derive(Drop)]
+#[derive(Clone, Copy)]
 pub enum Value {
     Plain(Plain),
     Ok(Plain),
     Err(Plain),
 }
 
-#[derive(Drop)]
+#[derive(Clone, Copy)]
 pub struct Argument {
     pub value: Value,
 }
 
 // The values of the parameters: the first `count` of these.
-#[derive(Drop)]
+#[derive(Clone, Copy)]
 pub struct Arguments {
     pub values: [Argument; 16],
     pub count: u32,
 }
 
 // How a run ends.
-#[derive(Drop)]
+#[derive(Clone, Copy)]
 pub enum Outcome {
     Returned(Value),
     Stopped(Plain),

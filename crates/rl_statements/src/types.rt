@@ -3,7 +3,7 @@ use rl_machine::{Flow, Frame};
 use rl_spec::{Interval, Optional};
 
 // A name, and its value in two words.
-#[derive(Drop)]
+#[derive(Clone, Copy)]
 pub struct Binding {
     pub name: u16,
     pub sort: u16,
@@ -25,7 +25,7 @@ pub struct Ran {
     pub left: u32,
 }
 
-#[derive(Drop)]
+#[derive(Clone, Copy)]
 pub struct Waiting {
     pub frame: Frame,
 }
