@@ -1,0 +1,12 @@
+use mathlib.Core.Path.{◌≡◌}
+use Prim.Native.Nat.{◌-◌, ◌≤◌}
+use lib.ListN.{length, drop}
+use Rattle.rl_spec.specs.Values.{less_text}
+use Rattle.rl_text_order.proofs.Laws.{less_first_end, less_first_short, less_first_apart, within, less_word_apart, less_word_more, less_rest}
+use Rattle.rl_text_order.proofs.less_text.Given as goal
+
+abbrev pub invariant-loop-i : goal.invariant-loop-i
+invariant-loop-i l = (l.i ≤ l.n) × (l.n ≤ length l.a) × (l.n ≤ length l.b) × (less_text l.a l.b ≡ less_text (drop l.i l.a) (drop l.i l.b))
+
+abbrev pub decreases-loop-i : goal.decreases-loop-i
+decreases-loop-i l = l.n - l.i

@@ -1,0 +1,12 @@
+use mathlib.Core.Path.{◌≡◌}
+use Prim.Native.Nat.{◌-◌, ◌≤◌}
+use lib.ListN.{length, drop}
+use Rattle.rl_spec.specs.Values.{same_text}
+use Rattle.rl_text_order.proofs.Laws.{same_lengths, within, same_word_apart, same_word_more, same_rest}
+use Rattle.rl_text_order.proofs.same_text.Given as goal
+
+abbrev pub invariant-loop-i : goal.invariant-loop-i
+invariant-loop-i l = (l.i ≤ l.n) × (l.n ≡ length l.a) × (length l.b ≡ l.n) × (same_text l.a l.b ≡ same_text (drop l.i l.a) (drop l.i l.b))
+
+abbrev pub decreases-loop-i : goal.decreases-loop-i
+decreases-loop-i l = l.n - l.i
