@@ -1,0 +1,11 @@
+use Rattle.rl_values.proofs.Laws.{by_gt, by_ge, by_lt, by_le, by_eq, by_ne, not_above, other_text}
+use Rattle.std.proofs.Common.{rules}
+use Rattle.rl_values.proofs.compare_texts.Goals as goal
+
+ruleset laws = (by_gt, by_ge, by_lt, by_le, by_eq, by_ne, not_above, other_text)
+
+pub returns-in-Ge : goal.returns-in-Ge
+returns-in-Ge c = search (laws, rules)
+
+pub returns-in-Le : goal.returns-in-Le
+returns-in-Le c = search (laws, rules)

@@ -1,0 +1,6 @@
+use Rattle.rl_values.proofs.Halves.{upper_in, lower_in, halves_joined}
+use Rattle.std.proofs.Common.{rules}
+use Rattle.rl_values.proofs.nearest_f64.Goals as goal
+
+pub returns : goal.returns
+returns c = halves_joined c.args.x c.ranges.x
