@@ -1,4 +1,4 @@
-// The functions that C and Rust call. include/rl_contracts.h declares them for C.
+// The functions that C and Rust call. `rl_abi_c` exports them.
 #![tactic(auto)]
 
 ghost use Rattle.std.specs.Prelude.{◌≡◌, length};
@@ -18,8 +18,7 @@ use rl_boundary::{
 use rl_spec::{ArenaNo, FoldAnswer, Folded, Id, NodeNo, RunAnswer};
 
 // Reads an image. The high 32 bits are the refusal's number, 0 where the image is accepted, and the low 32 bits its place.
-#[unsafe(no_mangle)]
-pub extern "C" fn rl_read(image: &[u8], work: &mut [u16]) -> u64
+pub fn rl_read(image: &[u8], work: &mut [u16]) -> u64
     ensures value { result ≡ packed (answer_of image.now (length work.old)) }
     ensures work_after { work.new ≡ work_of image.now (length work.old) }
 {
@@ -28,14 +27,7 @@ pub extern "C" fn rl_read(image: &[u8], work: &mut [u16]) -> u64
 
 // Reads an image and folds a node without names. value[0]: 0 none, 1 Int, 2 Float, 3 Str, 4 Bool; value[1]: the i64's or f64's
 // bits, the text's index, 0 or 1.
-#[unsafe(no_mangle)]
-pub extern "C" fn rl_fold(
-    image: &[u8],
-    work: &mut [u16],
-    arena: u32,
-    node: u32,
-    value: &mut [u64; 2],
-) -> u64
+pub fn rl_fold(image: &[u8], work: &mut [u16], arena: u32, node: u32, value: &mut [u64; 2]) -> u64
     ensures value { result ≡ fold_packed (fold_of image.now (length work.old) (id_of arena node)) }
     ensures value_after { value.new ≡ fold_words (fold_of image.now (length work.old) (id_of arena node)) }
     ensures work_after { work.new ≡ work_unless (fold_number (fold_of image.now (length work.old) (id_of arena node))) image.now (length work.old) }
@@ -59,8 +51,7 @@ pub extern "C" fn rl_fold(
 
 // Reads an image and proves a call. The low 32 bits are the number of reports, each four u32: call, span, 0 refinement or 1
 // requires, the parameter's or clause's number in the callee's list.
-#[unsafe(no_mangle)]
-pub extern "C" fn rl_prove(image: &[u8], work: &mut [u16], call: u32, reports: &mut [u32]) -> u64
+pub fn rl_prove(image: &[u8], work: &mut [u16], call: u32, reports: &mut [u32]) -> u64
     ensures value { result ≡ prove_packed (prove_of image.now (length work.old) call (length reports.old)) }
     ensures reports_after { reports.new ≡ reports_of image.now (length work.old) call (length reports.old) }
     ensures work_after { work.new ≡ work_unless (prove_number (prove_of image.now (length work.old) call (length reports.old))) image.now (length work.old) }
@@ -69,8 +60,7 @@ pub extern "C" fn rl_prove(image: &[u8], work: &mut [u16], call: u32, reports: &
 }
 
 // The same for all calls in order; the image is read once.
-#[unsafe(no_mangle)]
-pub extern "C" fn rl_prove_all(image: &[u8], work: &mut [u16], reports: &mut [u32]) -> u64
+pub fn rl_prove_all(image: &[u8], work: &mut [u16], reports: &mut [u32]) -> u64
     ensures value { result ≡ prove_packed (prove_all_of image.now (length work.old) (length reports.old)) }
     ensures reports_after { reports.new ≡ all_reports_of image.now (length work.old) (length reports.old) }
     ensures work_after { work.new ≡ work_unless (prove_number (prove_all_of image.now (length work.old) (length reports.old))) image.now (length work.old) }
@@ -80,8 +70,7 @@ pub extern "C" fn rl_prove_all(image: &[u8], work: &mut [u16], reports: &mut [u3
 
 // Reads an image and runs a function on values, two words each, within a budget. outcome[0]: 1 Returned, 2 Stopped, 3 Fault, 4 Spent;
 // outcome[1]: the steps; outcome[2] and [3]: the value's words, or the fault's number and 0. Words that are no values are 19.
-#[unsafe(no_mangle)]
-pub extern "C" fn rl_run(
+pub fn rl_run(
     image: &[u8],
     work: &mut [u16],
     function: u32,
@@ -107,8 +96,7 @@ pub extern "C" fn rl_run(
 }
 
 // Reads an image and lowers the contracts of a function into plain guards. The low 32 bits are the length of the image written.
-#[unsafe(no_mangle)]
-pub extern "C" fn rl_lower(image: &[u8], work: &mut [u16], function: u32, out: &mut [u8]) -> u64
+pub fn rl_lower(image: &[u8], work: &mut [u16], function: u32, out: &mut [u8]) -> u64
     ensures value { result ≡ lower_packed (lower_answer (lower_of image.now (length work.old) function (length out.old))) }
     ensures out_after { out.new ≡ lower_out (length out.old) (lower_of image.now (length work.old) function (length out.old)) }
     ensures work_after { work.new ≡ work_unless (lower_number (lower_of image.now (length work.old) function (length out.old))) image.now (length work.old) }
@@ -117,8 +105,7 @@ pub extern "C" fn rl_lower(image: &[u8], work: &mut [u16], function: u32, out: &
 }
 
 // Reads an image and finds a text. The low 32 bits: where its bytes start in the image, and above 16 of them how many they are.
-#[unsafe(no_mangle)]
-pub extern "C" fn rl_text(image: &[u8], work: &mut [u16], text: u32) -> u64
+pub fn rl_text(image: &[u8], work: &mut [u16], text: u32) -> u64
     ensures value { result ≡ text_packed (text_for image.now (length work.old) text) }
     ensures work_after { work.new ≡ work_unless (text_number (text_for image.now (length work.old) text)) image.now (length work.old) }
 {
@@ -127,8 +114,7 @@ pub extern "C" fn rl_text(image: &[u8], work: &mut [u16], text: u32) -> u64
 
 // Reads an image and puts the message of a call's report of a number, from 0. The low 32 bits are its length, 0 where the call has no
 // such report.
-#[unsafe(no_mangle)]
-pub extern "C" fn rl_message(
+pub fn rl_message(
     image: &[u8],
     work: &mut [u16],
     call: u32,
@@ -144,8 +130,7 @@ pub extern "C" fn rl_message(
 
 // Reads an image and puts the reports of all its calls on pages, in order and one a line: 60 lines of 72 columns and a newline each. The
 // low 32 bits are how many bytes are written, 0 without reports; 22 where the slice is shorter than the pages.
-#[unsafe(no_mangle)]
-pub extern "C" fn rl_pages(image: &[u8], work: &mut [u16], pages: &mut [u8]) -> u64
+pub fn rl_pages(image: &[u8], work: &mut [u16], pages: &mut [u8]) -> u64
     ensures value { result ≡ pages_packed (pages_answer image.now (length work.old) (length pages.old)) }
     ensures pages_after { pages.new ≡ pages_out image.now (length work.old) (length pages.old) }
     ensures work_after { work.new ≡ work_unless (pages_number (pages_answer image.now (length work.old) (length pages.old))) image.now (length work.old) }

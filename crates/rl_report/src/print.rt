@@ -7,13 +7,14 @@ ghost use Rattle.rl_names.specs.Names.{Classes};
 ghost use Rattle.rl_lines.specs.Opened.{Known};
 ghost use Rattle.rl_lines.specs.Lines.{lines_for, entries_for};
 
-use libc::STDOUT_FILENO;
 use rl_bytes::part;
 use rl_lines::{Lines, lines_of, open, put_line, put_refused};
 use rl_spec::{Answer, Cause, Counts};
+use rl_streams::write_all;
 
 // The lines of a call. Answers whether all were taken.
 fn print_lines(
+    rt: &impl Print,
     image: &[u8],
     starts: &[u16; 6144],
     counts: Counts,
@@ -28,7 +29,7 @@ fn print_lines(
     let mut number: u32 = 0;
     while number < lines.count {
         let n = put_line(image, starts, counts, lines, reports, number, out);
-        if !io::write_all(STDOUT_FILENO, part(out, 0, n)) {
+        if !write_all(rt, part(out, 0, n)) {
             return false;
         }
         number += 1;
@@ -37,6 +38,7 @@ fn print_lines(
 }
 
 fn print_call(
+    rt: &impl Print,
     image: &[u8],
     starts: &[u16; 6144],
     counts: Counts,
@@ -49,10 +51,11 @@ fn print_call(
 {
     let mut reports = [0u32; 2048];
     let lines = lines_of(image, starts, counts, classes, call, &mut reports);
-    print_lines(image, starts, counts, lines, &reports, out)
+    print_lines(rt, image, starts, counts, lines, &reports, out)
 }
 
 fn print_calls(
+    rt: &impl Print,
     image: &[u8],
     starts: &[u16; 6144],
     counts: Counts,
@@ -64,20 +67,20 @@ fn print_calls(
 {
     let mut call: u16 = 0;
     while call < counts.calls {
-        if !print_call(image, starts, counts, classes, call, out) {
+        if !print_call(rt, image, starts, counts, classes, call, out) {
             return;
         }
         call += 1;
     }
 }
 
-fn print_refused(cause: Cause, place: usize, out: &mut [u8; 65536]) {
+fn print_refused(rt: &impl Print, cause: Cause, place: usize, out: &mut [u8; 65536]) {
     let n = put_refused(cause, place, out);
-    io::write_all(STDOUT_FILENO, part(out, 0, n));
+    write_all(rt, part(out, 0, n));
 }
 
 // Writes a line for each report of the image's calls, or one for its refusal.
-pub fn print_reports(image: &[u8], work: &mut [u16])
+pub fn print_reports(rt: &impl Print, image: &[u8], work: &mut [u16])
     ensures { work.new ≡ work_of image.now (length work.old) }
 {
     let mut starts = [0u16; 6144];
@@ -86,8 +89,8 @@ pub fn print_reports(image: &[u8], work: &mut [u16])
     let answer = open(image, work, &mut starts, &mut classes);
     match answer {
         Answer::Accepted { arena: _, counts } => {
-            print_calls(image, &starts, counts, &classes, &mut out)
+            print_calls(rt, image, &starts, counts, &classes, &mut out)
         }
-        Answer::Refused { cause, place } => print_refused(cause, place, &mut out),
+        Answer::Refused { cause, place } => print_refused(rt, cause, place, &mut out),
     }
 }

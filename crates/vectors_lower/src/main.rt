@@ -2,64 +2,65 @@
 // the function, u32 each, then the image; for each the answer is written as a line, a lowered image in hexadecimal digits.
 #![tactic(auto)]
 
-use libc::{STDIN_FILENO, STDOUT_FILENO};
 use rl_abi::rl_lower;
 use rl_bytes::{byte_at, is_past, part, u32_at};
+use rl_streams::{read_full, write_all};
 use rl_text_out::{put_number, put_text};
 
-fn write_front(line: &[u8; 64], n: usize) {
-    io::write_all(STDOUT_FILENO, part(line, 0, n));
+fn write_front(rt: &impl Print, line: &[u8; 64], n: usize) {
+    write_all(rt, part(line, 0, n));
 }
 
 fn digit(n: u8) -> u8 {
     byte_at(b"0123456789abcdef", n as usize)
 }
 
-fn write_byte(byte: u8) {
+fn write_byte(rt: &impl Print, byte: u8) {
     let pair = [digit(byte / 16), digit(byte % 16)];
-    io::write_all(STDOUT_FILENO, &pair);
+    write_all(rt, &pair);
 }
 
-fn write_bytes(bytes: &[u8]) {
+fn write_bytes(rt: &impl Print, bytes: &[u8]) {
     let mut i = 0;
     while i < bytes.len() {
-        write_byte(bytes[i]);
+        write_byte(rt, bytes[i]);
         i += 1;
     }
 }
 
-fn write_refused(number: u64, place: u64) {
+fn write_refused(rt: &impl Print, number: u64, place: u64) {
     let mut line = [0u8; 64];
     let mut at = put_text(&mut line, 0, b"refused ");
     at = put_number(&mut line, at, number);
     at = put_text(&mut line, at, b" at ");
     at = put_number(&mut line, at, place);
-    write_front(&line, at);
+    write_front(rt, &line, at);
 }
 
-fn write_lowered(image: &[u8]) {
+fn write_lowered(rt: &impl Print, image: &[u8]) {
     let mut line = [0u8; 64];
     let mut at = put_text(&mut line, 0, b"lowered ");
     at = put_number(&mut line, at, image.len() as u64);
     at = put_text(&mut line, at, b" ");
-    write_front(&line, at);
-    write_bytes(image);
+    write_front(rt, &line, at);
+    write_bytes(rt, image);
 }
 
-fn replay(image: &[u8], work: &mut [u16], function: u32, out: &mut [u8]) {
+fn replay(rt: &impl Print, image: &[u8], work: &mut [u16], function: u32, out: &mut [u8]) {
     let answer = rl_lower(image, work, function, out);
     let number = answer / 4294967296;
     let low = answer % 4294967296;
     if number == 0 {
-        write_lowered(part(out, 0, low as usize));
+        write_lowered(rt, part(out, 0, low as usize));
     } else {
-        write_refused(number, low);
+        write_refused(rt, number, low);
     }
-    io::write_all(STDOUT_FILENO, b"\n");
+    write_all(rt, b"\n");
 }
 
 // With so many entries of the work slice and so many bytes of the output slice.
 fn replay_with(
+    rt: &impl Print,
     image: &[u8],
     work: &mut [u16],
     size: usize,
@@ -69,34 +70,42 @@ fn replay_with(
 ) {
     if size <= work.len() {
         if room <= out.len() {
-            replay(image, &mut work[..size], function, &mut out[..room]);
+            replay(rt, image, &mut work[..size], function, &mut out[..room]);
             return;
         }
     }
-    io::write_all(STDOUT_FILENO, b"too long\n");
+    write_all(rt, b"too long\n");
 }
 
 // Replays the first case, and answers how many bytes it takes; 0 where it is not whole.
-fn replay_first(cases: &[u8]) -> usize {
+fn replay_first(rt: &impl Print, cases: &[u8]) -> usize {
     let image_size = u32_at(cases, 0) as usize;
     let size = u32_at(cases, 4) as usize;
     let room = u32_at(cases, 8) as usize;
     if is_past(cases, 16, image_size) {
-        io::write_all(STDOUT_FILENO, b"input ends in a case\n");
+        write_all(rt, b"input ends in a case\n");
         return 0;
     }
     let image = part(cases, 16, image_size);
     let mut work = [0u16; 16384];
     let mut out = [0u8; 131072];
-    replay_with(image, &mut work, size, u32_at(cases, 12), &mut out, room);
+    replay_with(
+        rt,
+        image,
+        &mut work,
+        size,
+        u32_at(cases, 12),
+        &mut out,
+        room,
+    );
     16 + image_size
 }
 
-fn replay_all(cases: &[u8]) {
+fn replay_all(rt: &impl Print, cases: &[u8]) {
     let mut at = 0;
     while at < cases.len() {
         let left = cases.len() - at;
-        let size = replay_first(part(cases, at, left));
+        let size = replay_first(rt, part(cases, at, left));
         if size == 0 {
             return;
         }
@@ -107,8 +116,8 @@ fn replay_all(cases: &[u8]) {
     }
 }
 
-fn main() {
+fn main(rt: HostRuntime) {
     let mut input = [0u8; 262144];
-    let n = io::read_full(STDIN_FILENO, &mut input);
-    replay_all(part(&input, 0, n));
+    let n = read_full(&mut rt.stdin(), &mut input);
+    replay_all(&rt, part(&input, 0, n));
 }

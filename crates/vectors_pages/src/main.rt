@@ -2,77 +2,84 @@
 // each, then the image; for each the answer is written as a line, and behind it the pages.
 #![tactic(auto)]
 
-use libc::{STDIN_FILENO, STDOUT_FILENO};
 use rl_abi::rl_pages;
 use rl_bytes::{is_past, part, u32_at};
+use rl_streams::{read_full, write_all};
 use rl_text_out::{put_number, put_text};
 
-fn write_line(line: &[u8; 64], n: usize) {
-    io::write_all(STDOUT_FILENO, part(line, 0, n));
+fn write_line(rt: &impl Print, line: &[u8; 64], n: usize) {
+    write_all(rt, part(line, 0, n));
 }
 
-fn write_refused(number: u64, place: u64) {
+fn write_refused(rt: &impl Print, number: u64, place: u64) {
     let mut line = [0u8; 64];
     let mut at = put_text(&mut line, 0, b"refused ");
     at = put_number(&mut line, at, number);
     at = put_text(&mut line, at, b" at ");
     at = put_number(&mut line, at, place);
     at = put_text(&mut line, at, b"\n");
-    write_line(&line, at);
+    write_line(rt, &line, at);
 }
 
-fn write_pages(pages: &[u8]) {
+fn write_pages(rt: &impl Print, pages: &[u8]) {
     let mut line = [0u8; 64];
     let mut at = put_text(&mut line, 0, b"bytes ");
     at = put_number(&mut line, at, pages.len() as u64);
     at = put_text(&mut line, at, b"\n");
-    write_line(&line, at);
-    io::write_all(STDOUT_FILENO, pages);
+    write_line(rt, &line, at);
+    write_all(rt, pages);
 }
 
-fn replay(image: &[u8], work: &mut [u16], pages: &mut [u8]) {
+fn replay(rt: &impl Print, image: &[u8], work: &mut [u16], pages: &mut [u8]) {
     let answer = rl_pages(image, work, pages);
     let number = answer / 4294967296;
     let low = answer % 4294967296;
     if number == 0 {
-        write_pages(part(pages, 0, low as usize));
+        write_pages(rt, part(pages, 0, low as usize));
     } else {
-        write_refused(number, low);
+        write_refused(rt, number, low);
     }
 }
 
 // With so many entries of the work slice and so many bytes of the page slice.
-fn replay_with(image: &[u8], work: &mut [u16], size: usize, pages: &mut [u8], room: usize) {
+fn replay_with(
+    rt: &impl Print,
+    image: &[u8],
+    work: &mut [u16],
+    size: usize,
+    pages: &mut [u8],
+    room: usize,
+) {
     if size <= work.len() {
         if room <= pages.len() {
-            replay(image, &mut work[..size], &mut pages[..room]);
+            replay(rt, image, &mut work[..size], &mut pages[..room]);
             return;
         }
     }
-    io::write_all(STDOUT_FILENO, b"too long\n");
+    write_all(rt, b"too long\n");
 }
 
 // Replays the first case, and answers how many bytes it takes; 0 where it is not whole.
-fn replay_first(cases: &[u8]) -> usize {
+fn replay_first(rt: &impl Print, cases: &[u8]) -> usize {
     let image_size = u32_at(cases, 0) as usize;
     let size = u32_at(cases, 4) as usize;
     let room = u32_at(cases, 8) as usize;
     if is_past(cases, 12, image_size) {
-        io::write_all(STDOUT_FILENO, b"input ends in a case\n");
+        write_all(rt, b"input ends in a case\n");
         return 0;
     }
     let image = part(cases, 12, image_size);
     let mut work = [0u16; 16384];
     let mut pages = [0u8; 16384];
-    replay_with(image, &mut work, size, &mut pages, room);
+    replay_with(rt, image, &mut work, size, &mut pages, room);
     12 + image_size
 }
 
-fn replay_all(cases: &[u8]) {
+fn replay_all(rt: &impl Print, cases: &[u8]) {
     let mut at = 0;
     while at < cases.len() {
         let left = cases.len() - at;
-        let size = replay_first(part(cases, at, left));
+        let size = replay_first(rt, part(cases, at, left));
         if size == 0 {
             return;
         }
@@ -83,8 +90,8 @@ fn replay_all(cases: &[u8]) {
     }
 }
 
-fn main() {
+fn main(rt: HostRuntime) {
     let mut input = [0u8; 262144];
-    let n = io::read_full(STDIN_FILENO, &mut input);
-    replay_all(part(&input, 0, n));
+    let n = read_full(&mut rt.stdin(), &mut input);
+    replay_all(&rt, part(&input, 0, n));
 }

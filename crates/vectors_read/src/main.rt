@@ -2,10 +2,10 @@
 // image; for each a line is written: the refusal's number and place, or `0 0` and the heights.
 #![tactic(auto)]
 
-use libc::{STDIN_FILENO, STDOUT_FILENO};
 use rl_bytes::{is_past, part, u32_at, word_at};
 use rl_numbers::number_of;
 use rl_spec::{Answer, Cause, Counts};
+use rl_streams::{read_full, write_all};
 use rl_text_out::{put_number, put_text};
 
 fn is_zero_from(work: &[u16], from: usize) -> bool {
@@ -70,40 +70,40 @@ fn line_of(out: &mut [u8], answer: Answer, work: &[u16]) -> usize {
 }
 
 // A line has room: 9,000 heights of at most five digits, with a space each.
-fn replay(image: &[u8], work: &mut [u16]) {
+fn replay(rt: &impl Print, image: &[u8], work: &mut [u16]) {
     let answer = rl_ast::read(image, work);
-    let mut out = io::large_buffer();
+    let mut out = [0u8; 65536];
     let n = line_of(&mut out, answer, work);
-    io::write_all(STDOUT_FILENO, part(&out, 0, n));
+    write_all(rt, part(&out, 0, n));
 }
 
-fn replay_with(image: &[u8], space: &mut [u16], size: usize) {
+fn replay_with(rt: &impl Print, image: &[u8], space: &mut [u16], size: usize) {
     if size <= space.len() {
-        replay(image, &mut space[..size]);
+        replay(rt, image, &mut space[..size]);
     } else {
-        io::write_all(STDOUT_FILENO, b"work too long\n");
+        write_all(rt, b"work too long\n");
     }
 }
 
 // Replays the first case, and answers how many bytes it takes; 0 where it is not whole. The work slice is not zero
 // beforehand, so that a reader that does not clear it is seen.
-fn replay_first(cases: &[u8]) -> usize {
+fn replay_first(rt: &impl Print, cases: &[u8]) -> usize {
     let image_size = u32_at(cases, 0) as usize;
     let work_size = u32_at(cases, 4) as usize;
     if is_past(cases, 8, image_size) {
-        io::write_all(STDOUT_FILENO, b"input ends in a case\n");
+        write_all(rt, b"input ends in a case\n");
         return 0;
     }
     let mut space = [65535u16; 9000];
-    replay_with(part(cases, 8, image_size), &mut space, work_size);
+    replay_with(rt, part(cases, 8, image_size), &mut space, work_size);
     8 + image_size
 }
 
-fn replay_all(cases: &[u8]) {
+fn replay_all(rt: &impl Print, cases: &[u8]) {
     let mut at = 0;
     while at < cases.len() {
         let left = cases.len() - at;
-        let size = replay_first(part(cases, at, left));
+        let size = replay_first(rt, part(cases, at, left));
         if size == 0 {
             return;
         }
@@ -114,8 +114,8 @@ fn replay_all(cases: &[u8]) {
     }
 }
 
-fn main() {
+fn main(rt: HostRuntime) {
     let mut input = [0u8; 262144];
-    let n = io::read_full(STDIN_FILENO, &mut input);
-    replay_all(part(&input, 0, n));
+    let n = read_full(&mut rt.stdin(), &mut input);
+    replay_all(&rt, part(&input, 0, n));
 }

@@ -2,13 +2,13 @@
 // the number of value words, u32 each, then the image and the words, u64 each; for each the outcome is written as a line.
 #![tactic(auto)]
 
-use libc::{STDIN_FILENO, STDOUT_FILENO};
 use rl_abi::rl_run;
 use rl_bytes::{is_past, long_at, part, put_long, u32_at, u64_at};
+use rl_streams::{read_full, write_all};
 use rl_text_out::{put_number, put_text};
 
-fn write_line(line: &[u8; 128], n: usize) {
-    io::write_all(STDOUT_FILENO, part(line, 0, n));
+fn write_line(rt: &impl Print, line: &[u8; 128], n: usize) {
+    write_all(rt, part(line, 0, n));
 }
 
 // NAME SORT PAYLOAD steps N
@@ -31,7 +31,7 @@ fn put_outcome(outcome: &[u64; 4], line: &mut [u8]) -> usize {
     }
 }
 
-fn write_outcome(answer: u64, outcome: &[u64; 4]) {
+fn write_outcome(rt: &impl Print, answer: u64, outcome: &[u64; 4]) {
     let mut line = [0u8; 128];
     if answer != 0 {
         let mut at = put_text(&mut line, 0, b"refused ");
@@ -39,14 +39,14 @@ fn write_outcome(answer: u64, outcome: &[u64; 4]) {
         at = put_text(&mut line, at, b" at ");
         at = put_number(&mut line, at, answer % 4294967296);
         at = put_text(&mut line, at, b"\n");
-        write_line(&line, at);
+        write_line(rt, &line, at);
         return;
     }
     let mut at = put_outcome(outcome, &mut line);
     at = put_text(&mut line, at, b" steps ");
     at = put_number(&mut line, at, long_at(outcome, 1));
     at = put_text(&mut line, at, b"\n");
-    write_line(&line, at);
+    write_line(rt, &line, at);
 }
 
 // The words behind an image.
@@ -58,7 +58,7 @@ fn read_words(bytes: &[u8], words: &mut [u64]) {
     }
 }
 
-fn replay(image: &[u8], work: &mut [u16], head: &[u8], words: &[u64]) {
+fn replay(rt: &impl Print, image: &[u8], work: &mut [u16], head: &[u8], words: &[u64]) {
     let mut outcome = [0u64; 4];
     let answer = rl_run(
         image,
@@ -68,11 +68,12 @@ fn replay(image: &[u8], work: &mut [u16], head: &[u8], words: &[u64]) {
         u32_at(head, 12),
         &mut outcome,
     );
-    write_outcome(answer, &outcome);
+    write_outcome(rt, answer, &outcome);
 }
 
 // With so many entries of the work slice and so many words.
 fn replay_with(
+    rt: &impl Print,
     image: &[u8],
     space: &mut [u16],
     size: usize,
@@ -82,30 +83,31 @@ fn replay_with(
 ) {
     if size <= space.len() {
         if count <= words.len() {
-            replay(image, &mut space[..size], head, &words[..count]);
+            replay(rt, image, &mut space[..size], head, &words[..count]);
             return;
         }
     }
-    io::write_all(STDOUT_FILENO, b"too long\n");
+    write_all(rt, b"too long\n");
 }
 
 // Replays the first case, and answers how many bytes it takes; 0 where it is not whole or too long.
-fn replay_first(cases: &[u8]) -> usize {
+fn replay_first(rt: &impl Print, cases: &[u8]) -> usize {
     let image_size = u32_at(cases, 0) as usize;
     let work_size = u32_at(cases, 4) as usize;
     let count = u32_at(cases, 16) as usize;
     if is_past(cases, 20, image_size) {
-        io::write_all(STDOUT_FILENO, b"input ends in a case\n");
+        write_all(rt, b"input ends in a case\n");
         return 0;
     }
     if 64 < count {
-        io::write_all(STDOUT_FILENO, b"too many words\n");
+        write_all(rt, b"too many words\n");
         return 0;
     }
     let mut space = [0u16; 16384];
     let mut words = [0u64; 64];
     read_words(part(cases, 20 + image_size, count * 8), &mut words);
     replay_with(
+        rt,
         part(cases, 20, image_size),
         &mut space,
         work_size,
@@ -116,11 +118,11 @@ fn replay_first(cases: &[u8]) -> usize {
     20 + image_size + count * 8
 }
 
-fn replay_all(cases: &[u8]) {
+fn replay_all(rt: &impl Print, cases: &[u8]) {
     let mut at = 0;
     while at < cases.len() {
         let left = cases.len() - at;
-        let size = replay_first(part(cases, at, left));
+        let size = replay_first(rt, part(cases, at, left));
         if size == 0 {
             return;
         }
@@ -131,8 +133,8 @@ fn replay_all(cases: &[u8]) {
     }
 }
 
-fn main() {
+fn main(rt: HostRuntime) {
     let mut input = [0u8; 262144];
-    let n = io::read_full(STDIN_FILENO, &mut input);
-    replay_all(part(&input, 0, n));
+    let n = read_full(&mut rt.stdin(), &mut input);
+    replay_all(&rt, part(&input, 0, n));
 }
