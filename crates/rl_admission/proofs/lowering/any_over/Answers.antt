@@ -1,0 +1,16 @@
+use Prim.Native.Nat.{◌-◌}
+use native.Mathlib.Omega.{arith}
+use Rattle.rl_admission.proofs.LoweringLaws.{Looking, looking_none, looking_over, looking_on, looking_all}
+use Rattle.std.proofs.Common.{rules}
+use Rattle.rl_admission.proofs.lowering.any_over.Goals as goal
+
+ruleset laws = (looking_none, looking_over, looking_on, looking_all)
+
+pub returns-then-most-word_at : goal.returns-then-most-word_at
+returns-then-most-word_at c = search (laws, rules)
+
+pub loop-i-preserved : goal.loop-i-preserved
+loop-i-preserved c = looking_on _ _ _ _ _ c.loop-i.invariant _ c.word_at.ensures (omega arith) c.if-most-word_at.false
+
+pub returns : goal.returns
+returns c = search (laws, rules)

@@ -1,0 +1,15 @@
+use native.Mathlib.Omega.{arith}
+use Prim.Native.Nat.{◌-◌, ◌≤◌}
+use mathlib.Core.Path.{◌≡◌, refl, ◌∙◌}
+use mathlib.Core.List.{map}
+use lib.ListN.{length, take, length-set}
+use Rattle.rl_spec.specs.Ranges.{up_from}
+use Rattle.rl_spec.specs.Boundary.{argument_at}
+use Rattle.rl_boundary.proofs.ValueLaws.{none_yet, argument_next, arguments_given}
+use Rattle.rl_boundary.proofs.values.arguments_of.Given as goal
+
+abbrev pub invariant-loop-i : goal.invariant-loop-i
+invariant-loop-i l = (l.i ≤ 16) × ((length l.values ≡ 16) × (take l.i l.values ≡ map (argument_at l.words) (up_from 0 l.i)))
+
+abbrev pub decreases-loop-i : goal.decreases-loop-i
+decreases-loop-i l = 16 - l.i
