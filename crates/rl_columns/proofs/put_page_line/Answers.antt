@@ -1,0 +1,19 @@
+use Rattle.rl_columns.proofs.LineLaws.{puts_line}
+use Rattle.std.proofs.Common.{rules}
+use Rattle.rl_columns.proofs.put_page_line.Goals as goal
+
+pub returns-clause-value : goal.returns-clause-value
+returns-clause-value c = (puts_line _ _ _ _ _ _ _ _ _ _ _ _ _ _ _
+    (c.put_place-at.ensures.value, c.put_place-at.ensures.out_after)
+    (c.put_left-at.ensures.value, c.put_left-at.ensures.out_after)
+    (c.put_text-at.ensures.value, c.put_text-at.ensures.out_after)
+    (c.put_left-at-2.ensures.value, c.put_left-at-2.ensures.out_after)
+    (c.put_text.ensures.value, c.put_text.ensures.out_after)).0
+
+pub returns-clause-out_after : goal.returns-clause-out_after
+returns-clause-out_after c = (puts_line _ _ _ _ _ _ _ _ _ _ _ _ _ _ _
+    (c.put_place-at.ensures.value, c.put_place-at.ensures.out_after)
+    (c.put_left-at.ensures.value, c.put_left-at.ensures.out_after)
+    (c.put_text-at.ensures.value, c.put_text-at.ensures.out_after)
+    (c.put_left-at-2.ensures.value, c.put_left-at-2.ensures.out_after)
+    (c.put_text.ensures.value, c.put_text.ensures.out_after)).1
