@@ -1,0 +1,9 @@
+use native.Mathlib.Omega.{arith}
+use Rattle.rl_encode.proofs.Records.{Recording, recording_none, recording_all, recording_end, recording_room, recording_more}
+use Rattle.rl_encode.proofs.put_fields.Given as goal
+
+abbrev pub invariant-loop-rest : goal.invariant-loop-rest
+invariant-loop-rest l = Recording l.initial.out l.at l.row l.words l.out l.rest l.place l.j
+
+abbrev pub decreases-loop-rest : goal.decreases-loop-rest
+decreases-loop-rest l = l.rest
