@@ -13,10 +13,10 @@ pub returns-then-arguments-gt16 : goal.returns-then-arguments-gt16
 returns-then-arguments-gt16 c = λ p. over_sixteen _ _ _ c.args.arguments c.args.budget c.if-functions-function.false _ (c.function_at-f.ensures p) c.if-arguments-params.false c.if-arguments-gt16.true
 
 pub returns-then-not-all_have : goal.returns-then-not-all_have
-returns-then-not-all_have c = λ p. no_text _ _ _ c.args.arguments c.args.budget c.if-functions-function.false _ (c.function_at-f.ensures p) c.if-arguments-params.false c.if-arguments-gt16.false _ c.all_have.ensures (not-true _ c.if-not-all_have.true)
+returns-then-not-all_have c = λ p. no_text _ _ _ c.args.arguments c.args.budget c.if-functions-function.false _ (c.function_at-f.ensures p) c.if-arguments-params.false c.if-arguments-gt16.false _ c.all_have.ensures c.if-not-all_have.true
 
 pub returns-then-budget-gt1000000 : goal.returns-then-budget-gt1000000
-returns-then-budget-gt1000000 c = λ p. over_budget _ _ _ c.args.arguments c.args.budget c.if-functions-function.false _ (c.function_at-f.ensures p) c.if-arguments-params.false c.if-arguments-gt16.false _ c.all_have.ensures (not-false _ c.if-not-all_have.false) c.if-budget-gt1000000.true
+returns-then-budget-gt1000000 c = λ p. over_budget _ _ _ c.args.arguments c.args.budget c.if-functions-function.false _ (c.function_at-f.ensures p) c.if-arguments-params.false c.if-arguments-gt16.false _ c.all_have.ensures c.if-not-all_have.false c.if-budget-gt1000000.true
 
 pub returns : goal.returns
-returns c = λ p. admits _ _ _ c.args.arguments c.args.budget c.if-functions-function.false _ (c.function_at-f.ensures p) c.if-arguments-params.false c.if-arguments-gt16.false _ c.all_have.ensures (not-false _ c.if-not-all_have.false) c.if-budget-gt1000000.false
+returns c = λ p. admits _ _ _ c.args.arguments c.args.budget c.if-functions-function.false _ (c.function_at-f.ensures p) c.if-arguments-params.false c.if-arguments-gt16.false _ c.all_have.ensures c.if-not-all_have.false c.if-budget-gt1000000.false

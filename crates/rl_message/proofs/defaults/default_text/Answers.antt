@@ -5,31 +5,31 @@ use Rattle.std.proofs.Common.{rules}
 use Rattle.rl_message.proofs.defaults.default_text.Goals as goal
 
 pub returns-in-Unrefined-clause-by_index : goal.returns-in-Unrefined-clause-by_index
-returns-in-Unrefined-clause-by_index c = puts_unrefined _ _ _ _ _ _ _ _ c.violation-1.is c.param_of-param.ensures refl (search rules)
+returns-in-Unrefined-clause-by_index c = (puts_unrefined _ _ _ _ _ _ _ _ c.in-Refinement.is c.param_of-param.ensures refl (search rules)).0
 
 pub returns-in-Unrefined-clause-by_index_2 : goal.returns-in-Unrefined-clause-by_index_2
-returns-in-Unrefined-clause-by_index_2 c = puts_unrefined _ _ _ _ _ _ _ _ c.violation-1.is c.param_of-param.ensures refl (search rules)
+returns-in-Unrefined-clause-by_index_2 c = (puts_unrefined _ _ _ _ _ _ _ _ c.in-Refinement.is c.param_of-param.ensures refl (search rules)).1
 
 pub returns-in-Refined-clause-by_index : goal.returns-in-Refined-clause-by_index
-returns-in-Refined-clause-by_index c =     puts_refined _ _ _ _ _ _ _ _
-    c.violation-1.is
+returns-in-Refined-clause-by_index c = (puts_refined _ _ _ _ _ _ _ _
+    c.in-Refinement.is
     c.param_of-param.ensures
     refl _ _ _ _
-    c.refinement-1.is
-    c.put_refinement.ensures
+    c.in-Refined.is
+    (c.put_refinement.ensures.by_index, c.put_refinement.ensures.by_index_2)).0
 
 pub returns-in-Refined-clause-by_index_2 : goal.returns-in-Refined-clause-by_index_2
-returns-in-Refined-clause-by_index_2 c =     puts_refined _ _ _ _ _ _ _ _
-    c.violation-1.is
+returns-in-Refined-clause-by_index_2 c = (puts_refined _ _ _ _ _ _ _ _
+    c.in-Refinement.is
     c.param_of-param.ensures
     refl _ _ _ _
-    c.refinement-1.is
-    c.put_refinement.ensures
+    c.in-Refined.is
+    (c.put_refinement.ensures.by_index, c.put_refinement.ensures.by_index_2)).1
 
 pub returns-in-Requires-clause-by_index : goal.returns-in-Requires-clause-by_index
 unfolding ascii
-returns-in-Requires-clause-by_index c = puts_requires _ _ _ _ _ _ _ _ c.before.before.before.before.before.enum-told2.given.1{-?-} c.put_text.ensures
+returns-in-Requires-clause-by_index c = (puts_requires _ _ _ _ _ _ _ _ c.in-Requires.is (c.put_text.ensures.value, c.put_text.ensures.out_after)).0
 
 pub returns-in-Requires-clause-by_index_2 : goal.returns-in-Requires-clause-by_index_2
 unfolding ascii
-returns-in-Requires-clause-by_index_2 c = puts_requires _ _ _ _ _ _ _ _ c.before.before.before.before.before.enum-told2.given.1{-?-} c.put_text.ensures
+returns-in-Requires-clause-by_index_2 c = (puts_requires _ _ _ _ _ _ _ _ c.in-Requires.is (c.put_text.ensures.value, c.put_text.ensures.out_after)).1

@@ -8,16 +8,16 @@ ruleset laws = (after_as, with_as, text_plain)
 
 pub returns-then-x-lt0-clause-value : goal.returns-then-x-lt0-clause-value
 unfolding ascii
-returns-then-x-lt0-clause-value c =     puts_minus c.args.x (search rules) _
+returns-then-x-lt0-clause-value c = (puts_minus c.args.x (search rules) _
     c.magnitude.ensures
     (search rules) _ _ _ _ _ _
-    c.put_text-digits.ensures
-    c.put_number.ensures
+    (c.put_text-digits.ensures.value, c.put_text-digits.ensures.out_after)
+    (c.put_number.ensures.value, c.put_number.ensures.out_after)).0
 
 pub returns-then-x-lt0-clause-out_after : goal.returns-then-x-lt0-clause-out_after
 unfolding ascii
-returns-then-x-lt0-clause-out_after c =     puts_minus c.args.x (search rules) _
+returns-then-x-lt0-clause-out_after c = (puts_minus c.args.x (search rules) _
     c.magnitude.ensures
     (search rules) _ _ _ _ _ _
-    c.put_text-digits.ensures
-    c.put_number.ensures
+    (c.put_text-digits.ensures.value, c.put_text-digits.ensures.out_after)
+    (c.put_number.ensures.value, c.put_number.ensures.out_after)).1

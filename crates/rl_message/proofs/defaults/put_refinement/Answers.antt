@@ -5,36 +5,22 @@ use Rattle.rl_message.proofs.defaults.put_refinement.Goals as goal
 
 pub returns-clause-by_index : goal.returns-clause-by_index
 unfolding ascii
-returns-clause-by_index c =     let second-space = c.before.before.before.before.before.before{-?-} in
-    let op = second-space.before.before.before.before.before in
-    let space = op.before.before.before.before in
-    let named = space.before.before.before.before.before in
-    let name = named.before in
-    let heading = name.before.before.before.before in
-    let start = heading.before.before.before.before.before in
-    puts_refinement _ _ _ _ start.args.op start.args.operand _ _ _ _ _ _ _ _ _ _ _ _ _
-    name.text_at.ensures
-    heading.put-text.ensures
-    named.put-text2.ensures
-    space.put-text3.ensures
-    op.refine-op-str.ensures
-    second-space.put-text4.ensures
-    c.before.before.operand_str_lem.ensures{-?-}
+returns-clause-by_index c = (puts_refinement _ _ _ _ c.args.op c.args.operand _ _ _ _ _ _ _ _ _ _ _ _ _
+    c.text_at.ensures
+    (c.put_text-at.ensures.value, c.put_text-at.ensures.out_after)
+    (c.put_text-at-2.ensures.value, c.put_text-at-2.ensures.out_after)
+    (c.put_text-at-3.ensures.value, c.put_text-at-3.ensures.out_after)
+    (c.refine_op_str-at.ensures.value, c.refine_op_str-at.ensures.out_after)
+    (c.put_text-at-4.ensures.value, c.put_text-at-4.ensures.out_after)
+    (c.operand_str.ensures.by_index, c.operand_str.ensures.by_index_2)).0
 
 pub returns-clause-by_index_2 : goal.returns-clause-by_index_2
 unfolding ascii
-returns-clause-by_index_2 c =     let second-space = c.before.before.before.before.before.before{-?-} in
-    let op = second-space.before.before.before.before.before in
-    let space = op.before.before.before.before in
-    let named = space.before.before.before.before.before in
-    let name = named.before in
-    let heading = name.before.before.before.before in
-    let start = heading.before.before.before.before.before in
-    puts_refinement _ _ _ _ start.args.op start.args.operand _ _ _ _ _ _ _ _ _ _ _ _ _
-    name.text_at.ensures
-    heading.put-text.ensures
-    named.put-text2.ensures
-    space.put-text3.ensures
-    op.refine-op-str.ensures
-    second-space.put-text4.ensures
-    c.before.before.operand_str_lem.ensures{-?-}
+returns-clause-by_index_2 c = (puts_refinement _ _ _ _ c.args.op c.args.operand _ _ _ _ _ _ _ _ _ _ _ _ _
+    c.text_at.ensures
+    (c.put_text-at.ensures.value, c.put_text-at.ensures.out_after)
+    (c.put_text-at-2.ensures.value, c.put_text-at-2.ensures.out_after)
+    (c.put_text-at-3.ensures.value, c.put_text-at-3.ensures.out_after)
+    (c.refine_op_str-at.ensures.value, c.refine_op_str-at.ensures.out_after)
+    (c.put_text-at-4.ensures.value, c.put_text-at-4.ensures.out_after)
+    (c.operand_str.ensures.by_index, c.operand_str.ensures.by_index_2)).1
