@@ -37,8 +37,7 @@ phase definitions
 
 # the library, compared with an independent reader, folder, prover, printing of pages, runner and lowering and, where it is here, with
 # the original; both forms of comparing texts; the stack that it takes; the printer too
-rt staticlib rl_abi >"$new/library" 2>&1 || { cat "$new/library"; exit 1; }
-rt staticlib bench_texts >"$new/library" 2>&1 || { cat "$new/library"; exit 1; }
+sh tools/build.sh rl_abi bench_texts rl_printer >"$new/library" 2>&1 || { cat "$new/library"; exit 1; }
 (cd tools && cargo test --quiet -p rlimg -p oracle >"$new/tests" 2>&1) || { cat "$new/tests"; exit 1; }
 (cd tools && cargo build --quiet --release)
 tools/target/release/compare_read
