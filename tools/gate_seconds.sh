@@ -1,26 +1,26 @@
 #!/bin/sh
-# gate_seconds.sh [LOG]: where the seconds go, from what `make test` or `rt ci` printed (a file, or standard input): for each crate the
-# seconds of its check, its must-fail edits and their seconds, dearest first; the sums; and the phases of `make test`. The seconds of
-# checks and edits are those of a process, two of which run at a time.
+# gate_seconds.sh [LOG]: what the gate did, from what `make test` or `rt ci` printed (a file, or standard input): for each crate how many
+# functions were proved, or that it is kept from an earlier run, and how many of its must-fail edits are refused, those with the most
+# first; the sums; and the seconds of the phases of `make test`. `rt ci` prints no seconds of its own.
 set -eu
 [ $# -eq 0 ] || exec <"$1"
 awk '
-    { seconds = $0; sub(/ s\)$/, "", seconds); sub(/.*[ (]/, "", seconds) }
-    /^rt: [a-z_0-9]+ proved \([0-9]+ s\)$/ { check[$2] = seconds; found = 1 }
-    /^rt: must-fail [^ ]*: refused.* s\)$/ { split($3, name, "/"); edits[name[1]]++; edited[name[1]] += seconds }
-    /^seconds: / { phases = phases "| " $2 ", wall clock | " $3 " | | |\n" }
+    /^logic=proved functions=[0-9]+/ { split($2, of, "="); functions = of[2] }
+    /^rt: [a-z_0-9]+ proved$/ { proved[$2] = functions; sum += functions }
+    /^rt: [a-z_0-9]+ is kept: / { proved[$2] = "kept" }
+    /^rt: must-fail [^ ]+: refused/ { split($3, name, "/"); edits[name[1]]++; many++ }
+    /^seconds: / { phases = phases "| " $2 ", wall clock | " $3 " | |\n" }
+    function weight(c) { return edits[c] * 1000 + proved[c] }
     END {
-        if (!found) { print "gate_seconds.sh: no crate was proved in this output" >"/dev/stderr"; exit 1 }
-        print "| crate | check, s | edits | edits, s |"
-        print "|---|---|---|---|"
-        for (c in check) rows[++n] = c
+        for (c in proved) rows[++n] = c
+        if (!n) { print "gate_seconds.sh: no crate was proved in this output" >"/dev/stderr"; exit 1 }
+        print "| crate | functions | edits |"
+        print "|---|---|---|"
         for (i = 1; i <= n; i++)
             for (j = i + 1; j <= n; j++)
-                if (check[rows[j]] + edited[rows[j]] > check[rows[i]] + edited[rows[i]]) { c = rows[i]; rows[i] = rows[j]; rows[j] = c }
-        for (i = 1; i <= n; i++) {
-            c = rows[i]
-            printf "| %s | %d | %d | %d |\n", c, check[c], edits[c], edited[c]
-            checks += check[c]; many += edits[c]; all += edited[c]
-        }
-        printf "| all | %d | %d | %d |\n%s", checks, many, all, phases
+                if (weight(rows[j]) > weight(rows[i]) || (weight(rows[j]) == weight(rows[i]) && rows[j] < rows[i])) {
+                    c = rows[i]; rows[i] = rows[j]; rows[j] = c
+                }
+        for (i = 1; i <= n; i++) printf "| %s | %s | %d |\n", rows[i], proved[rows[i]], edits[rows[i]]
+        printf "| all | %d | %d |\n%s", sum, many, phases
     }'
