@@ -65,5 +65,5 @@ vectors:
 	tools/target/release/vectors_prove crates/vectors_prove
 
 fmt:
-	rt fmt
+	for crate in crates/*/; do (cd $$crate && rt fmt) || exit 1; done
 	cd tools && cargo fmt
