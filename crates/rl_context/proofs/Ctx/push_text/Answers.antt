@@ -1,0 +1,7 @@
+use Rattle.std.proofs.Common.{rules}
+use Rattle.rl_context.proofs.Composed.{does_push}
+use Rattle.std.proofs.Common.{rules}
+use Rattle.rl_context.proofs.Ctx.push_text.Goals as goal
+
+pub returns : goal.returns
+returns c im k = does_push (c.new_text-made.ensures im k _) (c.push-ctx.ensures _)
