@@ -1,0 +1,11 @@
+use native.Mathlib.Omega.{arith}
+use Prim.Native.Nat.{◌+◌}
+use mathlib.Core.Path.{refl}
+use Rattle.rl_transform.proofs.Rebuilding.{Reading, reading_none, reading_index, reading_place, reading_more, reading_all}
+use Rattle.rl_transform.proofs.rebuild.fields_of.Given as goal
+
+abbrev pub invariant-loop-rest : goal.invariant-loop-rest
+invariant-loop-rest l = Reading l.image l.row (l.start + 1) l.words l.rest l.place l.j
+
+abbrev pub decreases-loop-rest : goal.decreases-loop-rest
+decreases-loop-rest l = l.rest
