@@ -1,0 +1,24 @@
+use mathlib.Core.Path.{◌≡◌}
+use lib.ListN.{length}
+use Rattle.rl_lines.proofs.LineLaws.{number_low, no_line_length, no_line_out, line_length, line_out}
+use Rattle.std.proofs.Common.{rules}
+use Rattle.rl_lines.proofs.lines.put_line.Goals as goal
+
+ruleset laws = (number_low, no_line_length, no_line_out, line_length, line_out)
+
+pub returns-then-lines-number-clause-value : goal.returns-then-lines-number-clause-value
+returns-then-lines-number-clause-value c = search (laws, rules)
+
+pub returns-then-lines-number-clause-out_after : goal.returns-then-lines-number-clause-out_after
+returns-then-lines-number-clause-out_after c = search (laws, rules)
+
+pub violation_at-violation-requires : goal.violation_at-violation-requires
+violation_at-violation-requires c = search (laws, rules)
+
+pub returns-clause-value : goal.returns-clause-value
+returns-clause-value c =     let size : length c.args.out.now ≡ 65536 = search rules in
+    line_length _ _ _ c.requires.known _ c.requires.lines_value _ c.requires.reports_value _ c.if-lines-number.false _ c.violation_at-violation.ensures _ _ c.clear_bytes.ensures size _ c.report_line.ensures.value
+
+pub returns-clause-out_after : goal.returns-clause-out_after
+returns-clause-out_after c =     let size : length c.args.out.now ≡ 65536 = search rules in
+    line_out _ _ _ c.requires.known _ c.requires.lines_value _ c.requires.reports_value _ c.if-lines-number.false _ c.violation_at-violation.ensures _ _ c.clear_bytes.ensures size _ c.report_line.ensures.out_after

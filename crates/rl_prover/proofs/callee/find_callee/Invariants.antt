@@ -1,0 +1,8 @@
+use Rattle.rl_prover.proofs.CalleeLaws.{Seeks, seeks_start, seeks_end, seeks_found, seeks_on}
+use Rattle.rl_prover.proofs.callee.find_callee.Given as goal
+
+abbrev pub invariant-loop-n : goal.invariant-loop-n
+invariant-loop-n l = Seeks l.image l.counts l.classes l.name l.counts.functions l.n
+
+abbrev pub decreases-loop-n : goal.decreases-loop-n
+decreases-loop-n l = l.n

@@ -1,0 +1,6 @@
+use Rattle.rl_statements.proofs.ViewLaws.{compound_view}
+use Rattle.std.proofs.Common.{rules}
+use Rattle.rl_statements.proofs.views.compound_at.Goals as goal
+
+pub returns : goal.returns
+returns c = compound_view _ _ _ _ _ _ c.statement_at.ensures c.compound_of.ensures
