@@ -20,7 +20,7 @@ CARGO_RELEASE = cd tools && $(CARGO) build --release
 run:
 	@mkdir -p target
 	@[ -e target/bin/rl_printer ] || echo 'proving rl_printer first: some minutes' >&2
-	@rt check rl_printer >target/run.log 2>&1 || { cat target/run.log; rm -f target/run.log; exit 1; }
+	@sh tools/build.sh rl_printer >target/run.log 2>&1 || { cat target/run.log; rm -f target/run.log; exit 1; }
 	@rm -f target/run.log
 	@target/bin/rl_printer < $(IMAGE)
 
@@ -28,8 +28,7 @@ test:
 	@sh tools/test.sh
 
 staticlib:
-	rt staticlib rl_abi
-	rt staticlib bench_texts
+	sh tools/build.sh rl_abi bench_texts
 
 compare: staticlib
 	$(CARGO_RELEASE)

@@ -15,7 +15,7 @@ only() { # REPO FILE
     while [ -n "$more" ]; do
         wanted="$wanted $more"
         more=$(for name in $more; do
-            sed -n 's/^use Rattle·rl_examples·specs\.specs\.\([A-Za-z0-9]*\).*/\1/p' "$specs/$name.antt"
+            sed -n 's/^use Rattle\.rl_examples\.specs\.\([A-Za-z0-9]*\).*/\1/p' "$specs/$name.antt"
         done | sort -u | while read -r name; do
             case " $wanted " in *" $name "*) ;; *) printf '%s ' "$name" ;; esac
         done)
@@ -46,9 +46,9 @@ EOF
     [ "$crate" != rl_examples ] || only "$repo" "$file"
 
     began=$(date +%s) status=0
-    (cd "$repo" && rt check "$crate") >"$repo/log" 2>&1 || status=$?
+    (cd "$repo/crates/$crate" && rt check) >"$repo/log" 2>&1 || status=$?
     took=$(($(date +%s) - began))
-    if [ "$status" -eq 1 ] && grep -q '^rt: rl_spec proved' "$repo/log" && grep -q "^rt: FAILED: $crate\$" "$repo/log" &&
+    if [ "$status" -eq 1 ] && [ "$(grep -c '^logic=not-proved' "$repo/log")" -eq 1 ] && ! grep -q 'did not build' "$repo/log" &&
         grep "/$file\.antt:[0-9:]* error: \`$law\`: " "$repo/log" | grep -qv 'was not admitted'
     then
         echo "definition $1: refused by $crate, as $law of $file is false ($took s)"
@@ -65,12 +65,12 @@ if [ $# -eq 1 ]; then
     exit
 fi
 
-# two at a time, those that ask the theorems first, since they take the longest; what they say is shown in the order of their names
+# as many at a time as there are processors, those that ask the theorems first, since they take the longest; what they say is shown in the order of their names
 failed=0
 {
     grep -l '^false: rl_theorems' tools/definition_edits/*.edit || :
     grep -L '^false: rl_theorems' tools/definition_edits/*.edit
-} | sed 's|.*/||; s|\.edit$||' | xargs -P 2 -I NAME sh -c 'sh tools/definition_edits.sh NAME >"$0/NAME.out" 2>&1' "$new" || failed=1
+} | sed 's|.*/||; s|\.edit$||' | xargs -P "$(nproc)" -I NAME sh -c 'sh tools/definition_edits.sh NAME >"$0/NAME.out" 2>&1' "$new" || failed=1
 for edit in tools/definition_edits/*.edit; do
     cat "$new/$(basename "$edit" .edit).out"
 done

@@ -1,7 +1,3 @@
-use Rattle.rl_arena.specs.Find.{spot_of}
-use Rattle.rl_schema.specs.Codes.{codes}
-use Prim.Native.Nat.{◌+◌, ◌*◌, ◌^◌, ◌≤◌, ◌<◌}
-use mathlib.Core.Path.{◌≡◌}
 use Rattle.rl_arena.proofs.Laws.{spot_end, spot_here, spot_more, spot_near, spot_fits}
 use Rattle.std.proofs.Common.{rules}
 use Rattle.rl_arena.proofs.field_spot.Goals as goal

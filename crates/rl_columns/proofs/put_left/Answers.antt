@@ -1,7 +1,4 @@
-use mathlib.Core.Path.{◌≡◌}
-use Prim.Native.Nat.{◌-◌, ◌≤◌}
-use lib.ListN.{length}
-use Rattle.rl_columns.proofs.ColumnLaws.{next_within, next_fits, RestAfter, RestWith, all_after, all_with, more_after, more_with, none_after, none_with, same_room}
+use Rattle.rl_columns.proofs.ColumnLaws.{next_within, next_fits, all_after, all_with, more_after, more_with, none_after, none_with, same_room}
 use Rattle.std.proofs.Common.{rules}
 use Rattle.rl_columns.proofs.put_left.Goals as goal
 
@@ -11,13 +8,13 @@ pub overflow_add-i : goal.overflow_add-i
 overflow_add-i c = search (laws, rules)
 
 pub loop-column-preserved : goal.loop-column-preserved
-loop-column-preserved c =     (
-      search (laws, rules),
-      search (laws, rules),
-      search (laws, rules),
-      more_after _ _ _ _ _ _ _ _ _ _ _ (search rules) c.char_width-width.ensures c.put_column-place.ensures.value c.put_column-place.ensures.out_after c.loop-column.invariant.3,
-      more_with _ _ _ _ _ _ _ _ _ _ _ (search rules) c.char_width-width.ensures c.put_column-place.ensures.value c.put_column-place.ensures.out_after c.loop-column.invariant.4,
-    )
+loop-column-preserved c = (
+  search (laws, rules),
+  search (laws, rules),
+  search (laws, rules),
+  more_after _ _ _ _ _ _ _ _ _ _ _ (search rules) c.char_width-width.ensures c.put_column-place.ensures.value c.put_column-place.ensures.out_after c.loop-column.invariant.3,
+  more_with _ _ _ _ _ _ _ _ _ _ _ (search rules) c.char_width-width.ensures c.put_column-place.ensures.value c.put_column-place.ensures.out_after c.loop-column.invariant.4,
+)
 
 pub returns-clause-value : goal.returns-clause-value
 returns-clause-value c = search (laws, rules)

@@ -1,5 +1,4 @@
 use Rattle.rl_columns.proofs.LineLaws.{puts_line}
-use Rattle.std.proofs.Common.{rules}
 use Rattle.rl_columns.proofs.put_page_line.Goals as goal
 
 pub returns-clause-value : goal.returns-clause-value

@@ -1,5 +1,4 @@
 use Rattle.rl_columns.proofs.LineLaws.{puts_place}
-use Rattle.std.proofs.Common.{rules}
 use Rattle.rl_columns.proofs.put_place.Goals as goal
 
 pub returns-clause-value : goal.returns-clause-value

@@ -1,7 +1,6 @@
 use Prim.Native.Nat.{ℕ}
 use lib.ListN.{length-replicate}
 use Rattle.rl_columns.proofs.LineLaws.{puts_right}
-use Rattle.std.proofs.Common.{rules}
 use Rattle.rl_columns.proofs.put_right.Goals as goal
 
 pub returns-clause-value : goal.returns-clause-value

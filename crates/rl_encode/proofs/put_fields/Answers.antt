@@ -1,5 +1,4 @@
-use native.Mathlib.Omega.{arith}
-use Rattle.rl_encode.proofs.Records.{Recording, recording_none, recording_all, recording_end, recording_room, recording_more}
+use Rattle.rl_encode.proofs.Records.{recording_none, recording_all, recording_end, recording_room, recording_more}
 use Rattle.std.proofs.Common.{rules}
 use Rattle.rl_encode.proofs.put_fields.Goals as goal
 
@@ -12,7 +11,7 @@ pub put_number-requires : goal.put_number-requires
 put_number-requires c = recording_room _ _ _ _ _ _ _ _ c.loop-rest.invariant (search rules) _ _ c.sort_of.ensures c.width_of-width.ensures
 
 pub loop-rest-preserved : goal.loop-rest-preserved
-loop-rest-preserved c =     recording_more _ _ _ _ _ _ _ _ c.loop-rest.invariant (search rules) _ _ c.sort_of.ensures c.width_of-width.ensures _ _
+loop-rest-preserved c = recording_more _ _ _ _ _ _ _ _ c.loop-rest.invariant (search rules) _ _ c.sort_of.ensures c.width_of-width.ensures _ _
     c.long_at.ensures c.put_number.ensures
 
 pub returns-clause-value : goal.returns-clause-value

@@ -1,5 +1,4 @@
-use native.Mathlib.Omega.{arith}
-use Rattle.rl_encode.proofs.Records.{Recording, recording_none, recording_all, recording_end, recording_room, recording_more}
+use Rattle.rl_encode.proofs.Records.{Recording}
 use Rattle.rl_encode.proofs.put_fields.Given as goal
 
 abbrev pub invariant-loop-rest : goal.invariant-loop-rest

@@ -1,7 +1,4 @@
-use mathlib.Core.Path.{◌≡◌}
-use Prim.Native.Nat.{◌-◌, ◌≤◌}
-use lib.ListN.{length}
-use Rattle.rl_encode.proofs.Laws.{Putting, putting_none, putting_more, putting_length, putting_all}
+use Rattle.rl_encode.proofs.Laws.{putting_none, putting_more, putting_length, putting_all}
 use Rattle.std.proofs.Common.{rules}
 use Rattle.rl_encode.proofs.put_number.Goals as goal
 

@@ -1,7 +1,7 @@
 use mathlib.Core.Path.{◌≡◌}
 use Prim.Native.Nat.{◌-◌, ◌≤◌}
 use lib.ListN.{length}
-use Rattle.rl_encode.proofs.Laws.{Putting, putting_none, putting_more, putting_length, putting_all}
+use Rattle.rl_encode.proofs.Laws.{Putting}
 use Rattle.rl_encode.proofs.put_number.Given as goal
 
 abbrev pub invariant-loop-i : goal.invariant-loop-i

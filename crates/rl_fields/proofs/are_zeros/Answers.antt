@@ -1,6 +1,3 @@
-use Rattle.rl_spec.specs.Fields.{zeros}
-use mathlib.Core.Path.{◌≡◌}
-use Prim.Native.Nat.{◌-◌, ◌+◌, ◌≤◌}
 use Rattle.rl_fields.proofs.FieldLaws.{zeros_start, zeros_more, zeros_not, zeros_end}
 use Rattle.std.proofs.Common.{rules}
 use Rattle.rl_fields.proofs.are_zeros.Goals as goal

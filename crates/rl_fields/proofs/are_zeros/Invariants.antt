@@ -1,7 +1,6 @@
 use Rattle.rl_spec.specs.Fields.{zeros}
 use mathlib.Core.Path.{◌≡◌}
 use Prim.Native.Nat.{◌-◌, ◌+◌, ◌≤◌}
-use Rattle.rl_fields.proofs.FieldLaws.{zeros_start, zeros_more, zeros_not, zeros_end}
 use Rattle.rl_fields.proofs.are_zeros.Given as goal
 
 abbrev pub invariant-loop-i : goal.invariant-loop-i

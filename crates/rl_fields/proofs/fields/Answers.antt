@@ -1,8 +1,3 @@
-use Rattle.rl_schema.specs.Codes.{codes}
-use lib.ListN.{get_or}
-use Rattle.rl_spec.specs.Fields.{fields_from}
-use mathlib.Core.Path.{◌≡◌}
-use Prim.Native.Nat.{◌^◌, ◌<◌}
 use Rattle.rl_fields.proofs.RecordLaws.{past_fits, fields_as, span_past, span_next, fields_start, fields_end, fields_more, fields_bad, field_fits}
 use Rattle.std.proofs.Common.{rules}
 use Rattle.rl_fields.proofs.fields.Goals as goal
@@ -18,9 +13,10 @@ overflow_add-at c = search (past_fits, rules)
 
 pub loop-rest-init : goal.loop-rest-init
 loop-rest-init c = elim c.if-rest-eq3.branch [
-    then-rest-eq3+else-is_past w ↦
+  | then-rest-eq3+else-is_past w ↦
       (search rules, span_next _ _ _ _ _ _ _ _ c.row_of-rest.ensures (search rules) w.if-rest-eq3.true _ w.is_past.ensures w.if-is_past.false _ _ w.rest-is w.at-is)
-  | else-rest-eq3 w ↦ (search rules, fields_as _ _ _ _ _ _ _ _ _ _ c.row_of-rest.ensures w.rest-is w.at-is) ]
+  | else-rest-eq3 w ↦ (search rules, fields_as _ _ _ _ _ _ _ _ _ _ c.row_of-rest.ensures w.rest-is w.at-is)
+]
 
 pub returns-in-Fails : goal.returns-in-Fails
 returns-in-Fails c = search (laws, rules)

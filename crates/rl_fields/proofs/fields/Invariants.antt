@@ -1,10 +1,8 @@
-use mathlib.Core.Logic.{⊎_elim}
 use Rattle.rl_schema.specs.Codes.{codes}
 use lib.ListN.{get_or}
 use Rattle.rl_spec.specs.Fields.{fields_from}
 use mathlib.Core.Path.{◌≡◌}
 use Prim.Native.Nat.{◌^◌, ◌<◌}
-use Rattle.rl_fields.proofs.RecordLaws.{past_fits, fields_as, span_past, span_next, fields_start, fields_end, fields_more, fields_bad, field_fits}
 use Rattle.rl_fields.proofs.fields.Given as goal
 
 abbrev pub invariant-loop-rest : goal.invariant-loop-rest

@@ -1,4 +1,3 @@
-use Prim.Native.Nat.{ℕ, ◌<◌}
 use Rattle.rl_fold.proofs.FoldLaws.{falls_grouping, falls_unary, falls_left, falls_right, fold_known, fold_done, fold_grouping, fold_unary, fold_binary}
 use Rattle.std.proofs.Common.{rules}
 use Rattle.rl_fold.proofs.+const_eval.Goals as goal

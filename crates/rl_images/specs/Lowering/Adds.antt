@@ -1,15 +1,14 @@
 -- Computations that add to an image: what is made without limits is what is made under them, or is over a limit.
 -- Assumes nothing.
 use Rattle.std.specs.Prelude.{ℕ, ◌+◌, ◌<◌, ◌≡◌, refl, Bool, true, false, cond, ◌&&◌, List, [], ◌∷◌, ◌++◌, ◌⊎◌, ltb, length}
-use Rattle.std.proofs.lemmas.Bool.{false≢true}
 use Rattle.std.proofs.Math.Option.{Option, none, some}
 use Rattle.std.proofs.Common.{inl, inr, arith, length-append, ltb-true}
 use Rattle.rl_spec.specs.declared.Section.{Section}
 use Rattle.rl_spec.specs.declared.Section.TheVariants.{Texts, Lists, Statements}
 use Rattle.rl_spec.specs.Image.{Field, Rec, Image, records_of, size_of}
-use Rattle.rl_spec.specs.Make.{Context, Make, and_then, ◌>>=◌, give, image_so_far, result_flag, take_temp, each, flat_map, with_image, with_bytes, most, most_bytes, append, append_bytes, new_text, new_list, stmt}
+use Rattle.rl_spec.specs.Make.{Context, Make, and_then, ◌>>=◌, give, image_so_far, result_flag, take_temp, each, flat_map, most, most_bytes, append, append_bytes, new_text, new_list, stmt}
 use Rattle.rl_images.specs.Lowering.Gives.{Gives, stops, gives}
-use Rattle.rl_images.specs.Lowering.Grows.{Grows, size_grows, longer_length, Eight, Growing, records_own, appended, appended_grows, bytes_grow}
+use Rattle.rl_images.specs.Lowering.Grows.{size_grows, longer_length, Eight, Growing, records_own, appended_grows, bytes_grow}
 use Rattle.rl_images.specs.Lowering.GrowsTo.{Later, now, eight_later, with_later, GrowsTo, Anything, ◌⊕◌}
 
 -- ---- a section, or the text bytes, over their limit

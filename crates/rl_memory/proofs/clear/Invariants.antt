@@ -1,10 +1,7 @@
-use mathlib.Core.Path.{◌≡◌, refl, ap, ◌∙◌}
-use native.Mathlib.Omega.{arith}
-use Prim.Native.Nat.{ℕ, ◌-◌, ◌≤◌, ◌<◌}
-use lib.ListN.{length, set, replicate, drop, length-set}
-use mathlib.Core.List.{List, ◌++◌}
-use borrow.Author.Fill.{fill_more}
-use Rattle.rl_bytes.proofs.Laws.{filled}
+use mathlib.Core.Path.{◌≡◌}
+use Prim.Native.Nat.{◌-◌, ◌≤◌}
+use lib.ListN.{length, replicate, drop}
+use mathlib.Core.List.{◌++◌}
 use Rattle.rl_memory.proofs.clear.Given as goal
 
 abbrev pub invariant-loop-i : goal.invariant-loop-i

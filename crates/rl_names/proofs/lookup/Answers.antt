@@ -1,6 +1,3 @@
-use mathlib.Core.Path.{◌≡◌}
-use Prim.Native.Nat.{◌≤◌}
-use Rattle.rl_names.specs.Names.{lookup_in}
 use Rattle.rl_names.proofs.Laws.{walk_end, walk_found, walk_on}
 use Rattle.std.proofs.Common.{rules}
 use Rattle.rl_names.proofs.lookup.Goals as goal
@@ -8,7 +5,7 @@ use Rattle.rl_names.proofs.lookup.Goals as goal
 ruleset laws = (walk_end, walk_found, walk_on)
 
 pub returns-then-word_at-class : goal.returns-then-word_at-class
-returns-then-word_at-class c =     walk_found _ _ _ _ _ _ c.loop-k.invariant.1 c.word_at-class.ensures c.loop-k-test.true _ _ c.long_at-name.ensures c.word_at.ensures c.if-word_at-class.true _ _ _
+returns-then-word_at-class c = walk_found _ _ _ _ _ _ c.loop-k.invariant.1 c.word_at-class.ensures c.loop-k-test.true _ _ c.long_at-name.ensures c.word_at.ensures c.if-word_at-class.true _ _ _
     c.long_at.ensures c.long_at-then-word_at-class.ensures c.words_value.ensures
 
 pub loop-k-preserved : goal.loop-k-preserved

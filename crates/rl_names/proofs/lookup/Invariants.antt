@@ -1,7 +1,6 @@
 use mathlib.Core.Path.{◌≡◌}
 use Prim.Native.Nat.{◌≤◌}
 use Rattle.rl_names.specs.Names.{lookup_in}
-use Rattle.rl_names.proofs.Laws.{walk_end, walk_found, walk_on}
 use Rattle.rl_names.proofs.lookup.Given as goal
 
 abbrev pub invariant-loop-k : goal.invariant-loop-k

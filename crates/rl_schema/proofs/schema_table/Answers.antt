@@ -1,6 +1,5 @@
 use mathlib.Core.Path.{refl}
 use Rattle.rl_schema.specs.Codes.{table}
-use Rattle.std.proofs.Common.{rules}
 use Rattle.rl_schema.proofs.schema_table.Goals as goal
 
 pub returns-clause-value : goal.returns-clause-value

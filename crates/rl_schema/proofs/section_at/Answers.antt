@@ -1,6 +1,5 @@
 use Rattle.rl_spec.specs.Schema.{sections}
 use Rattle.rl_schema.proofs.Rows.{section_last}
-use Rattle.std.proofs.Common.{rules}
 use Rattle.rl_schema.proofs.section_at.Goals as goal
 
 pub returns-in-0 : goal.returns-in-0

@@ -1,6 +1,5 @@
 use borrow.Author.Tests.{ne_eqb}
 use Rattle.rl_spec.specs.Schema.{sort_of}
-use Rattle.std.proofs.Common.{rules}
 use Rattle.rl_schema.proofs.sort_of.Goals as goal
 
 pub returns-in-1 : goal.returns-in-1

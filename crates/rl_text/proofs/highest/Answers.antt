@@ -1,7 +1,3 @@
-use mathlib.Core.Path.{◌≡◌}
-use Prim.Native.Nat.{◌-◌, ◌≤◌}
-use lib.ListN.{length}
-use Rattle.rl_text.specs.Highest.{highest_of}
 use Rattle.rl_text.proofs.Laws.{highest_start, highest_more, highest_end}
 use Rattle.std.proofs.Common.{rules}
 use Rattle.rl_text.proofs.highest.Goals as goal

@@ -2,7 +2,6 @@ use mathlib.Core.Path.{◌≡◌}
 use Prim.Native.Nat.{◌-◌, ◌≤◌}
 use lib.ListN.{length}
 use Rattle.rl_text.specs.Highest.{highest_of}
-use Rattle.rl_text.proofs.Laws.{highest_start, highest_more, highest_end}
 use Rattle.rl_text.proofs.highest.Given as goal
 
 abbrev pub invariant-loop-i : goal.invariant-loop-i

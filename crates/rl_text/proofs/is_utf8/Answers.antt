@@ -1,7 +1,3 @@
-use mathlib.Core.Path.{◌≡◌}
-use Prim.Native.Nat.{◌-◌, ◌≤◌}
-use lib.ListN.{length, drop}
-use Rattle.rl_spec.specs.Utf8.{utf8}
 use Rattle.rl_text.proofs.Laws.{text_all_ascii, text_end, text_bad, text_more, text_ascii, text_within, text_fits}
 use Rattle.std.proofs.Common.{rules}
 use Rattle.rl_text.proofs.is_utf8.Goals as goal

@@ -2,7 +2,6 @@ use mathlib.Core.Path.{◌≡◌}
 use Prim.Native.Nat.{◌-◌, ◌≤◌}
 use lib.ListN.{length, drop}
 use Rattle.rl_spec.specs.Utf8.{utf8}
-use Rattle.rl_text.proofs.Laws.{text_all_ascii, text_end, text_bad, text_more, text_ascii, text_within, text_fits}
 use Rattle.rl_text.proofs.is_utf8.Given as goal
 
 abbrev pub invariant-loop-i : goal.invariant-loop-i

@@ -1,7 +1,3 @@
-use Rattle.rl_spec.specs.Values.{less_text}
-use lib.ListN.{length, drop}
-use mathlib.Core.Path.{◌≡◌}
-use Prim.Native.Nat.{◌-◌, ◌≤◌}
 use Rattle.rl_text_order.proofs.Laws.{less_short, less_end, less_apart, less_more}
 use Rattle.std.proofs.Common.{rules}
 use Rattle.rl_text_order.proofs.less_bytes.Goals as goal

@@ -1,12 +1,9 @@
-use mathlib.Core.Path.{◌≡◌}
-use Prim.Native.Nat.{◌-◌, ◌≤◌}
-use lib.ListN.{length, drop}
-use Rattle.rl_spec.specs.Values.{less_text}
 use Rattle.rl_text_order.proofs.Laws.{less_first_end, less_first_short, less_first_apart, within, less_word_apart, less_word_more, less_rest}
 use Rattle.std.proofs.Common.{rules}
 use Rattle.rl_text_order.proofs.less_text.Goals as goal
 
 ruleset laws = (less_first_end, less_first_short, less_first_apart, within, less_word_apart, less_word_more, less_rest)
+
 ruleset words = (within, less_word_more)
 
 pub returns-then-a-eq0 : goal.returns-then-a-eq0

@@ -2,7 +2,6 @@ use mathlib.Core.Path.{◌≡◌}
 use Prim.Native.Nat.{◌-◌, ◌≤◌}
 use lib.ListN.{length, drop}
 use Rattle.rl_spec.specs.Values.{less_text}
-use Rattle.rl_text_order.proofs.Laws.{less_first_end, less_first_short, less_first_apart, within, less_word_apart, less_word_more, less_rest}
 use Rattle.rl_text_order.proofs.less_text.Given as goal
 
 abbrev pub invariant-loop-i : goal.invariant-loop-i

@@ -1,7 +1,3 @@
-use Rattle.rl_spec.specs.Values.{same_text}
-use lib.ListN.{length, drop}
-use mathlib.Core.Path.{◌≡◌}
-use Prim.Native.Nat.{◌-◌, ◌≤◌}
 use Rattle.rl_text_order.proofs.Laws.{same_short, same_end, same_apart, same_more}
 use Rattle.std.proofs.Common.{rules}
 use Rattle.rl_text_order.proofs.same_bytes.Goals as goal

@@ -1,7 +1,3 @@
-use mathlib.Core.Path.{◌≡◌}
-use Prim.Native.Nat.{◌-◌, ◌≤◌}
-use lib.ListN.{length, drop}
-use Rattle.rl_spec.specs.Values.{same_text}
 use Rattle.rl_text_order.proofs.Laws.{same_lengths, within, same_word_apart, same_word_more, same_rest}
 use Rattle.std.proofs.Common.{rules}
 use Rattle.rl_text_order.proofs.same_text.Goals as goal

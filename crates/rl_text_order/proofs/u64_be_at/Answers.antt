@@ -1,10 +1,9 @@
 use native.Mathlib.Omega.{arith}
 use Rattle.rl_text_order.proofs.Laws.{word_is}
-use Rattle.std.proofs.Common.{rules}
 use Rattle.rl_text_order.proofs.u64_be_at.Goals as goal
 
 pub returns : goal.returns
-returns c =     let start = c.args in
+returns c = let start = c.args in
     word_is
     start.s.now
     start.at

@@ -1,7 +1,4 @@
-use mathlib.Core.Path.{◌≡◌}
-use Prim.Native.Nat.{◌-◌, ◌≤◌}
-use lib.ListN.{length}
-use lib.Seq.{paste, paste-zero}
+use lib.Seq.{paste-zero}
 use Rattle.rl_text_out.proofs.Laws.{copied_more, copied_all}
 use Rattle.std.proofs.Common.{rules}
 use Rattle.rl_text_out.proofs.copy.Goals as goal

@@ -1,8 +1,7 @@
 use mathlib.Core.Path.{◌≡◌}
 use Prim.Native.Nat.{◌-◌, ◌≤◌}
 use lib.ListN.{length}
-use lib.Seq.{paste, paste-zero}
-use Rattle.rl_text_out.proofs.Laws.{copied_more, copied_all}
+use lib.Seq.{paste}
 use Rattle.rl_text_out.proofs.copy.Given as goal
 
 abbrev pub invariant-loop-i : goal.invariant-loop-i

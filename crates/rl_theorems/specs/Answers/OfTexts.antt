@@ -1,7 +1,7 @@
 -- What is answered for a text by its number, and for the message of a call's report: by the reader's table, then 20, and 17; and that a text
 -- that is found stands in the image's bytes.
 -- Assumes nothing.
-use Rattle.std.specs.Prelude.{◌≡◌, ℕ, ◌+◌, ◌<◌, ◌≤◌, ◌↔◌, List, [], ◌++◌, length, take, drop, ◌≢◌, nat_lt, refl}
+use Rattle.std.specs.Prelude.{◌≡◌, ℕ, ◌+◌, ◌<◌, ◌≤◌, ◌↔◌, List, ◌++◌, length, take, drop, ◌≢◌, nat_lt, refl}
 use Rattle.std.proofs.Common.{sym, ap, arith}
 use Rattle.std.proofs.Math.ListN.{length-append}
 use borrow.Author.Tests.{ltb-true, ltb-false}

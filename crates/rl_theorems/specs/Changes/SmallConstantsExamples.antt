@@ -1,7 +1,7 @@
 -- Small constants: the whole number that each holds; which kinds had no value before; and, by computation, calls whose reports changed. A
 -- report comes, of a requires and of a refinement; where two parameters have the same name, a report goes.
 -- Assumes nothing.
-use Rattle.std.specs.Prelude.{◌≡◌, ℕ, ◌+◌, ◌-◌, ◌<◌, true, false, List, [], ◌∷◌, ◌++◌, map, replicate, ℤ, pos, negsuc, ◌-ℤ◌, refl}
+use Rattle.std.specs.Prelude.{◌≡◌, ℕ, ◌+◌, ◌<◌, true, false, List, [], ◌∷◌, ◌++◌, map, replicate, ℤ, pos, negsuc, ◌-ℤ◌, refl}
 use Rattle.std.proofs.Common.{ap, arith, lt-ltb, le-ltb}
 use Rattle.std.proofs.Math.Option.{Option, none, some}
 use Rattle.rl_spec.specs.declared.ConstVal.TheVariants.{Int}

@@ -7,7 +7,7 @@ use Rattle.rl_spec.specs.Values as value
 use Rattle.rl_spec.specs.Values.{ConstVal}
 use Rattle.rl_spec.specs.Fold.{Binding, unary_value, binary_value, const_eval}
 use Rattle.rl_spec.specs.Tree.{Expr, null, literal, identifier, unary, binary, grouping, assign, ok_literal, err_literal, is_err, result_unwrap, other}
-use Rattle.rl_spec.specs.Run.{nothing, folded, Value, plain, ok, err, Env, Outcome, stopped, returned, Result, got, ended, Run, and_then, ◌>>=◌, ◌>>◌, give, halt, or_fault, tick, charge, truth, plain_of, err_of, unwrapped, operand, find, look, unary_on, binary_on, eval}
+use Rattle.rl_spec.specs.Run.{nothing, folded, Value, plain, ok, err, Env, Outcome, stopped, returned, Result, got, ended, Run, and_then, ◌>>=◌, give, halt, or_fault, tick, charge, truth, plain_of, err_of, unwrapped, operand, find, look, unary_on, binary_on, eval}
 use Rattle.rl_spec.specs.Reading.{Check, unless, violated, check, checks}
 use Rattle.rl_theorems.specs.Trees.NamesIn.{NamesIn}
 use Rattle.rl_theorems.specs.DemandThree.Folds.{Gives, given, dry, Agrees, folds_run}

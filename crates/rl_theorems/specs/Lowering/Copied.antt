@@ -19,7 +19,7 @@ use Rattle.rl_spec.specs.Lower.{is_node, clone_entries, clone_field, clone_field
 use Rattle.rl_laws.specs.Descend.{descend_is}
 use Rattle.rl_images.specs.Images.SchemaSorts.{and_left, and_right}
 use Rattle.rl_images.specs.Lowering.Grows.{Grows, grows_same, size_grows}
-use Rattle.rl_images.specs.Lowering.GrowsTo.{GrowsTo, ◌▷◌, ◌▹◌, given, stopped, test}
+use Rattle.rl_images.specs.Lowering.GrowsTo.{GrowsTo, ◌▷◌, ◌▹◌, given, test}
 use Rattle.rl_images.specs.Lowering.NewRecords.{At, record_ok}
 use Rattle.rl_theorems.specs.Trees.Denotes.{Says, AllSay, Holds, Plain, an_integer, anSInt, aUInt, anSUInt, a_byte, anSByte, aBByte, aBSByte, a_bool, a_float, anSFloat, call_tree, IsExpr, stands, Reads, a_null, a_literal, a_string, an_identifier, a_binary, a_unary, a_grouping, an_assign, a_call, an_ok, an_err, an_other, Args, no_args, an_arg, keep, keep_says, keep_all, keep_holds, keep_args, keep_reads}
 use Rattle.rl_theorems.specs.Lowering.MadeTrees.{Turned, list_ok}

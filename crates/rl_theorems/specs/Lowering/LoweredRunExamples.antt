@@ -12,7 +12,7 @@ use Rattle.rl_spec.specs.Statement.{Stmt, declaration, expression, return, condi
 use Rattle.rl_spec.specs.Message.{decimal_by, decimal}
 use Rattle.rl_spec.specs.Mapped.{Text}
 use Rattle.rl_spec.specs.Run.{Plain, folded, Value, plain, ok, err, folds, Outcome, returned, stopped, fault, spent, used, find, update, eval}
-use Rattle.rl_spec.specs.Reading.{Check, Function, checks, turns, stmt, body, top, run_function, reading}
+use Rattle.rl_spec.specs.Reading.{Check, Function, checks, turns, stmt, top, run_function, reading}
 use Rattle.rl_theorems.specs.Lowering.LowerTrees.{◌⧺◌, guards, transform_stmt, trailing, without_last, lowered}
 use Rattle.rl_theorems.specs.Lowering.LowerFrame.{begins, CleanChecks}
 use Rattle.rl_theorems.specs.Lowering.LowerBodies.{Ensured}

@@ -9,7 +9,7 @@ use Rattle.rl_spec.specs.Tree.{Expr, null, ascii}
 use Rattle.rl_spec.specs.Statement.{Stmt, declaration, expression, return, return_alone, conditional, while, loop, break, continue, other_statement, Body, nil, ◌▸◌, Branch, branch, Else, no_else, else_branch, else_conditional}
 use Rattle.rl_spec.specs.Mapped.{Text}
 use Rattle.rl_spec.specs.Run.{Value, Result, got, ended, ending, Run, and_then, ◌>>=◌, ◌>>◌, give, tick, scoped}
-use Rattle.rl_spec.specs.Reading.{Check, Function, plainly, checked, mode_of, bare, only_returned, with_return, body_under, onward, followed, followed_top, repeat, loop_turn, when, bind_all, checks, taken, while_turn, stmt, body, branch_or, or_else, top, run_function, reading}
+use Rattle.rl_spec.specs.Reading.{Check, Function, plainly, checked, mode_of, bare, only_returned, with_return, body_under, onward, followed, followed_top, repeat, loop_turn, when, bind_all, checks, taken, while_turn, stmt, branch_or, or_else, top, run_function, reading}
 use Rattle.rl_theorems.specs.Lowering.LowerTrees.{◌⧺◌, guards, reserved, ret_name, wrap_as, temporary, transform_stmt, transform_body, transform_branch, transform_else}
 use Rattle.rl_theorems.specs.Lowering.LowerGuard.{own, top_cons, guards_top}
 use Rattle.rl_theorems.specs.Lowering.LowerFrame.{begins, CleanChecks}

@@ -10,7 +10,7 @@ use Rattle.rl_spec.specs.declared.Optional.TheVariants.{None, Some}
 use Rattle.rl_spec.specs.declared.Clause.{Clause}
 use Rattle.rl_spec.specs.Image.{Field, num, Rec, Image, size_of, record_of, field_of, first}
 use Rattle.rl_spec.specs.Tree.{Expr, null, ascii, number, below}
-use Rattle.rl_spec.specs.Statement.{Stmt, conditional, while, loop as loopTree, other_statement, Body, nil, ◌▸◌, Branch, branch, Else, statement_by, Item, a_statement, a_branch, as_statement}
+use Rattle.rl_spec.specs.Statement.{Stmt, conditional, while, loop as loopTree, other_statement, Body, nil, ◌▸◌, Branch, Else, statement_by, Item, a_statement, a_branch, as_statement}
 use Rattle.rl_spec.specs.Ranges.{optional, optional_field}
 use Rattle.rl_spec.specs.Mapped.{Text}
 use Rattle.rl_spec.specs.Reading.{Check}

@@ -1,5 +1,4 @@
-use Rattle.rl_values.proofs.Halves.{upper_in, lower_in, halves_joined}
-use Rattle.std.proofs.Common.{rules}
+use Rattle.rl_values.proofs.Halves.{halves_joined}
 use Rattle.rl_values.proofs.nearest_f64.Goals as goal
 
 pub returns : goal.returns

@@ -1,6 +1,3 @@
-use Rattle.rl_spec.specs.Fields.{entries_from}
-use mathlib.Core.Path.{◌≡◌}
-use Prim.Native.Nat.{◌-◌, ◌+◌, ◌≤◌}
 use Rattle.rl_fields.proofs.FieldLaws.{entries_start, entries_more, entries_bad, entries_end}
 use Rattle.std.proofs.Common.{rules}
 use Rattle.rl_fields.proofs.lists.entries.Goals as goal

@@ -1,7 +1,6 @@
 use Rattle.rl_spec.specs.Fields.{entries_from}
 use mathlib.Core.Path.{◌≡◌}
 use Prim.Native.Nat.{◌-◌, ◌+◌, ◌≤◌}
-use Rattle.rl_fields.proofs.FieldLaws.{entries_start, entries_more, entries_bad, entries_end}
 use Rattle.rl_fields.proofs.lists.entries.Given as goal
 
 abbrev pub invariant-loop-i : goal.invariant-loop-i

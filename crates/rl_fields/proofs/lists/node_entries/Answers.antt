@@ -1,8 +1,3 @@
-use Rattle.rl_spec.specs.declared.Target.TheVariants.{Expression}
-use Rattle.rl_spec.specs.declared.Section.TheVariants.{Expressions}
-use Rattle.rl_spec.specs.Fields.{entries_from}
-use mathlib.Core.Path.{◌≡◌}
-use Prim.Native.Nat.{◌-◌, ◌+◌, ◌*◌, ◌≤◌}
 use Rattle.rl_fields.proofs.FieldLaws.{entries_start, entries_end, nodes_more, nodes_bad}
 use Rattle.std.proofs.Common.{rules}
 use Rattle.rl_fields.proofs.lists.node_entries.Goals as goal

@@ -3,7 +3,6 @@ use Rattle.rl_spec.specs.declared.Section.TheVariants.{Expressions}
 use Rattle.rl_spec.specs.Fields.{entries_from}
 use mathlib.Core.Path.{◌≡◌}
 use Prim.Native.Nat.{◌-◌, ◌+◌, ◌*◌, ◌≤◌}
-use Rattle.rl_fields.proofs.FieldLaws.{entries_start, entries_end, nodes_more, nodes_bad}
 use Rattle.rl_fields.proofs.lists.node_entries.Given as goal
 
 abbrev pub invariant-loop-i : goal.invariant-loop-i
