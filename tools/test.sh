@@ -1,5 +1,5 @@
 #!/bin/sh
-# The whole test: the gate, and what is compared beside it on the libraries that the gate has proved. The last line is
+# The whole test: the gate, and what is compared beside it on the libraries, built of what the gate has proved. The last line is
 # the gate's own, the line before it says whether the original was compared.
 set -eu
 cd "$(dirname "$0")/.."
