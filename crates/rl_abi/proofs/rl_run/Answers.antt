@@ -1,4 +1,4 @@
-use Rattle.rl_abi.proofs.RunLaws.{run_work, run_refused_place, run_refused, run_refused_outcome, run_ran, run_ran_outcome}
+use Rattle.rl_abi.proofs.RunLaws.{run_refused_place}
 use Rattle.std.proofs.Common.{rules}
 use Rattle.rl_abi.proofs.rl_run.Goals as goal
 
