@@ -4,12 +4,12 @@ use Rattle.std.proofs.Common.{rules}
 use Rattle.rl_resolver.proofs.lowering.lower.Goals as goal
 
 pub overflow_cast-function : goal.overflow_cast-function
-overflow_cast-function c =     search (
-      (
-          admitted_there _ _ _ (length c.args.out.now) _ c.clear_bytes.ensures _ c.read_starts-answer.ensures.value _ _ c.in-Accepted.is c.shared_slice_known-1.given _ c.read_starts-answer.ensures.work_after _ c.admit_lowering-check.ensures c.in-Admitted.is _ c.read_starts-answer.ensures.starts_after
-          ).1.0,
-      rules,
-    )
+overflow_cast-function c = search (
+  (
+      admitted_there _ _ _ (length c.args.out.now) _ c.clear_bytes.ensures _ c.read_starts-answer.ensures.value _ _ c.in-Accepted.is c.shared_slice_known-1.given _ c.read_starts-answer.ensures.work_after _ c.admit_lowering-check.ensures c.in-Admitted.is _ c.read_starts-answer.ensures.starts_after
+      ).1.0,
+  rules,
+)
 
 pub put_lowered-put-requires : goal.put_lowered-put-requires
 put_lowered-put-requires c = let whole = admitted_there _ _ _ (length c.args.out.now) _ c.clear_bytes.ensures _ c.read_starts-answer.ensures.value _ _ c.in-Accepted.is c.shared_slice_known-1.given _ c.read_starts-answer.ensures.work_after _ c.admit_lowering-check.ensures c.in-Admitted.is _ c.read_starts-answer.ensures.starts_after in record { source = whole.0; function_lt_functions = whole.1.0; in_bounds = whole.1.1 }
