@@ -1,5 +1,4 @@
 use Rattle.rl_assemble.proofs.Laws.{image_long, bytes_long, all_put}
-use Rattle.std.proofs.Common.{rules}
 use Rattle.rl_assemble.proofs.assemble.Goals as goal
 
 ruleset laws = (image_long, bytes_long, all_put)

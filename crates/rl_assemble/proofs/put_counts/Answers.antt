@@ -1,9 +1,8 @@
 use Rattle.rl_assemble.proofs.Puts.{counts_put}
-use Rattle.std.proofs.Common.{rules}
 use Rattle.rl_assemble.proofs.put_counts.Goals as goal
 
 pub returns : goal.returns
-returns c =     counts_put _
+returns c = counts_put _
     c.put_two-a.ensures
     c.put_two-b.ensures
     c.put_two-c.ensures

@@ -1,9 +1,8 @@
 use Rattle.rl_assemble.proofs.Puts.{image_put}
-use Rattle.std.proofs.Common.{rules}
 use Rattle.rl_assemble.proofs.put_image.Goals as goal
 
 pub returns : goal.returns
-returns c =     image_put _ _ _ _ _ _ _ _ _ _ _
+returns c = image_put _ _ _ _ _ _ _ _ _ _ _
     c.expressions_at-expressions.ensures
     c.statements_at-statements.ensures
     c.parameters_at-parameters.ensures

@@ -1,5 +1,4 @@
 use Rattle.rl_assemble.proofs.Puts.{trees_put}
-use Rattle.std.proofs.Common.{rules}
 use Rattle.rl_assemble.proofs.put_trees.Goals as goal
 
 ruleset laws = (trees_put)

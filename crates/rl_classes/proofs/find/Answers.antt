@@ -1,5 +1,5 @@
 use Prim.Native.Nat.{◌-◌}
-use Rattle.rl_classes.proofs.Laws.{Searched, find_empty, find_start, find_past, find_same, find_more, find_end}
+use Rattle.rl_classes.proofs.Laws.{find_empty, find_start, find_past, find_same, find_more, find_end}
 use Rattle.std.proofs.Common.{rules}
 use Rattle.rl_classes.proofs.find.Goals as goal
 
@@ -12,13 +12,13 @@ pub loop-u-init : goal.loop-u-init
 loop-u-init c = find_start _ _ _ _ _ c.text_at-text.ensures c.if-text-eq0.false
 
 pub loop-u-preserved-then-long_at-link : goal.loop-u-preserved-then-long_at-link
-loop-u-preserved-then-long_at-link c =     find_past _ _ _ _ _ _ c.loop-u.invariant c.loop-u-test.true _ c.long_at.ensures c.if-long_at-link.true
+loop-u-preserved-then-long_at-link c = find_past _ _ _ _ _ _ c.loop-u.invariant c.loop-u-test.true _ c.long_at.ensures c.if-long_at-link.true
 
 pub returns-then-is_same : goal.returns-then-is_same
 returns-then-is_same c = search (laws, rules)
 
 pub loop-u-preserved : goal.loop-u-preserved
-loop-u-preserved c =     find_more _ _ _ _ _ _ c.loop-u.invariant c.loop-u-test.true _ _ c.text_at-text.ensures c.text_at-other.ensures _ c.is_same.ensures c.if-is_same.false _ c.long_at.ensures c.if-long_at-link.false _ c.next_link-link.ensures
+loop-u-preserved c = find_more _ _ _ _ _ _ c.loop-u.invariant c.loop-u-test.true _ _ c.text_at-text.ensures c.text_at-other.ensures _ c.is_same.ensures c.if-is_same.false _ c.long_at.ensures c.if-long_at-link.false _ c.next_link-link.ensures
 
 pub returns : goal.returns
 returns c = search (laws, rules)

@@ -1,5 +1,5 @@
 use Prim.Native.Nat.{◌-◌}
-use Rattle.rl_classes.proofs.Laws.{Searched, find_empty, find_start, find_past, find_same, find_more, find_end}
+use Rattle.rl_classes.proofs.Laws.{Searched}
 use Rattle.rl_classes.proofs.find.Given as goal
 
 abbrev pub invariant-loop-u : goal.invariant-loop-u

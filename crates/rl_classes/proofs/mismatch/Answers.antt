@@ -1,7 +1,4 @@
-use mathlib.Core.Path.{◌≡◌}
-use Prim.Native.Nat.{◌-◌, min}
-use lib.ListN.{length}
-use Rattle.rl_classes.specs.Links.{mismatch}
+use Prim.Native.Nat.{◌-◌}
 use Rattle.rl_classes.proofs.Links.{mismatch_word, mismatch_past, mismatch_rest}
 use Rattle.std.proofs.Common.{rules}
 use Rattle.rl_classes.proofs.mismatch.Goals as goal

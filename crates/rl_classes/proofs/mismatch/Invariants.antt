@@ -2,7 +2,6 @@ use mathlib.Core.Path.{◌≡◌}
 use Prim.Native.Nat.{◌-◌, min}
 use lib.ListN.{length}
 use Rattle.rl_classes.specs.Links.{mismatch}
-use Rattle.rl_classes.proofs.Links.{mismatch_word, mismatch_past, mismatch_rest}
 use Rattle.rl_classes.proofs.mismatch.Given as goal
 
 abbrev pub invariant-loop-i : goal.invariant-loop-i

@@ -1,7 +1,4 @@
-use mathlib.Core.Path.{◌≡◌}
 use Prim.Native.Nat.{◌-◌}
-use lib.ListN.{length}
-use Rattle.rl_classes.specs.Links.{mismatch}
 use Rattle.rl_classes.proofs.Links.{mismatch_end, mismatch_short, mismatch_apart, mismatch_more}
 use Rattle.std.proofs.Common.{rules}
 use Rattle.rl_classes.proofs.mismatch_bytes.Goals as goal

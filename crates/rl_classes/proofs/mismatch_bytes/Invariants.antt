@@ -2,7 +2,6 @@ use mathlib.Core.Path.{◌≡◌}
 use Prim.Native.Nat.{◌-◌}
 use lib.ListN.{length}
 use Rattle.rl_classes.specs.Links.{mismatch}
-use Rattle.rl_classes.proofs.Links.{mismatch_end, mismatch_short, mismatch_apart, mismatch_more}
 use Rattle.rl_classes.proofs.mismatch_bytes.Given as goal
 
 abbrev pub invariant-loop-i : goal.invariant-loop-i

@@ -1,5 +1,5 @@
 use Prim.Native.Nat.{◌-◌}
-use Rattle.rl_classes.proofs.Laws.{Classed, classed_start, classed_more, classed_end, classed_tell}
+use Rattle.rl_classes.proofs.Laws.{Classed}
 use Rattle.rl_classes.proofs.text_classes.Given as goal
 
 abbrev pub invariant-loop-t : goal.invariant-loop-t

@@ -1,5 +1,5 @@
-use Rattle.std.proofs.Common.{◌-◌, rules}
-use Rattle.rl_context.proofs.Waits.{Entering, entering_none, entering_room, entering_more, entering_all}
+use Rattle.std.proofs.Common.{◌-◌}
+use Rattle.rl_context.proofs.Waits.{Entering}
 use Rattle.rl_context.proofs.put_entries.Given as goal
 
 abbrev pub invariant-loop-i : goal.invariant-loop-i

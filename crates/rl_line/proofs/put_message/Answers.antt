@@ -1,7 +1,6 @@
 use Rattle.rl_spec.specs.Tree.{ascii}
 use Rattle.rl_spec.specs.Message.{opening}
 use Rattle.rl_line.proofs.LineLaws.{puts_message}
-use Rattle.std.proofs.Common.{rules}
 use Rattle.rl_line.proofs.put_message.Goals as goal
 
 pub returns-clause-value : goal.returns-clause-value

@@ -1,6 +1,5 @@
 use Rattle.rl_spec.specs.Tree.{ascii}
 use Rattle.rl_line.proofs.LineLaws.{puts_refused}
-use Rattle.std.proofs.Common.{rules}
 use Rattle.rl_line.proofs.refused_line.Goals as goal
 
 pub returns-clause-value : goal.returns-clause-value

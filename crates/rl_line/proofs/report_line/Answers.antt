@@ -1,5 +1,4 @@
 use Rattle.rl_line.proofs.LineLaws.{puts_report}
-use Rattle.std.proofs.Common.{rules}
 use Rattle.rl_line.proofs.report_line.Goals as goal
 
 pub returns-clause-value : goal.returns-clause-value

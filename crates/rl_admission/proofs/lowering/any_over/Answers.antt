@@ -1,6 +1,6 @@
 use Prim.Native.Nat.{◌-◌}
 use native.Mathlib.Omega.{arith}
-use Rattle.rl_admission.proofs.LoweringLaws.{Looking, looking_none, looking_over, looking_on, looking_all}
+use Rattle.rl_admission.proofs.LoweringLaws.{looking_none, looking_over, looking_on, looking_all}
 use Rattle.std.proofs.Common.{rules}
 use Rattle.rl_admission.proofs.lowering.any_over.Goals as goal
 

@@ -1,6 +1,4 @@
-use borrow.Author.Tests.{not-true, not-false}
 use Rattle.rl_admission.proofs.RunningLaws.{no_function, wrong_count, over_sixteen, no_text, over_budget, admits}
-use Rattle.std.proofs.Common.{rules}
 use Rattle.rl_admission.proofs.running.admit_run.Goals as goal
 
 pub returns-then-functions-function : goal.returns-then-functions-function

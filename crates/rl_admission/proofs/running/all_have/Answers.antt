@@ -1,12 +1,6 @@
 use Prim.Native.Nat.{◌-◌}
-use mathlib.Core.Path.{◌≡◌, refl}
 use native.Mathlib.Omega.{arith}
-use lib.ListN.{length, drop}
-use borrow.Author.Tests.{not-true, not-false}
-use Rattle.rl_spec.specs.Runner.{all_have, given}
-use Rattle.rl_admission.proofs.Arrays.{unmapped}
 use Rattle.rl_admission.proofs.RunningLaws.{have_all, have_not, have_more}
-use Rattle.std.proofs.Common.{rules}
 use Rattle.rl_admission.proofs.running.all_have.Goals as goal
 
 pub returns-then-arguments-i : goal.returns-then-arguments-i

@@ -1,11 +1,7 @@
 use Prim.Native.Nat.{◌-◌}
-use mathlib.Core.Path.{◌≡◌, refl}
-use native.Mathlib.Omega.{arith}
+use mathlib.Core.Path.{◌≡◌}
 use lib.ListN.{length, drop}
-use borrow.Author.Tests.{not-true, not-false}
 use Rattle.rl_spec.specs.Runner.{all_have, given}
-use Rattle.rl_admission.proofs.Arrays.{unmapped}
-use Rattle.rl_admission.proofs.RunningLaws.{have_all, have_not, have_more}
 use Rattle.rl_admission.proofs.running.all_have.Given as goal
 
 abbrev pub invariant-loop-i : goal.invariant-loop-i

@@ -1,8 +1,4 @@
-use Rattle.rl_spec.specs.Schema.{sections}
-use Rattle.rl_spec.specs.Read.{sections_from}
-use lib.ListN.{length, drop}
-use mathlib.Core.Path.{◌≡◌, ◌∙◌}
-use Prim.Native.Nat.{◌-◌, ◌≤◌}
+use mathlib.Core.Path.{◌∙◌}
 use Rattle.rl_ast.proofs.ReaderLaws.{sections_end_lem, sections_more, sections_stop, at_most}
 use Rattle.std.proofs.Common.{rules}
 use Rattle.rl_ast.proofs.reader.all_sections.Goals as goal

@@ -1,9 +1,8 @@
 use Rattle.rl_spec.specs.Schema.{sections}
 use Rattle.rl_spec.specs.Read.{sections_from}
 use lib.ListN.{length, drop}
-use mathlib.Core.Path.{◌≡◌, ◌∙◌}
+use mathlib.Core.Path.{◌≡◌}
 use Prim.Native.Nat.{◌-◌, ◌≤◌}
-use Rattle.rl_ast.proofs.ReaderLaws.{sections_end_lem, sections_more, sections_stop, at_most}
 use Rattle.rl_ast.proofs.reader.all_sections.Given as goal
 
 abbrev pub invariant-loop-j : goal.invariant-loop-j

@@ -1,8 +1,3 @@
-use Rattle.rl_spec.specs.Schema.{limits}
-use Rattle.rl_spec.specs.Read.{counts_from}
-use lib.ListN.{drop}
-use mathlib.Core.Path.{◌≡◌}
-use Prim.Native.Nat.{◌-◌, ◌+◌, ◌*◌, ◌≤◌}
 use Rattle.rl_ast.proofs.ReaderLaws.{count_end, count_past, count_over, count_more}
 use Rattle.std.proofs.Common.{rules}
 use Rattle.rl_ast.proofs.reader.count_step.Goals as goal

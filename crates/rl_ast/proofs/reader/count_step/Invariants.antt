@@ -3,7 +3,6 @@ use Rattle.rl_spec.specs.Read.{counts_from}
 use lib.ListN.{drop}
 use mathlib.Core.Path.{◌≡◌}
 use Prim.Native.Nat.{◌-◌, ◌+◌, ◌*◌, ◌≤◌}
-use Rattle.rl_ast.proofs.ReaderLaws.{count_end, count_past, count_over, count_more}
 use Rattle.rl_ast.proofs.reader.count_step.Given as goal
 
 abbrev pub invariant-loop-j : goal.invariant-loop-j

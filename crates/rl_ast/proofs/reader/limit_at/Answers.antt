@@ -1,6 +1,5 @@
 use Rattle.rl_spec.specs.Schema.{limits}
 use Rattle.rl_ast.proofs.ReaderLaws.{limit_rest}
-use Rattle.std.proofs.Common.{rules}
 use Rattle.rl_ast.proofs.reader.limit_at.Goals as goal
 
 pub returns-in-0 : goal.returns-in-0

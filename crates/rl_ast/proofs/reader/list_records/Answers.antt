@@ -1,6 +1,3 @@
-use Rattle.rl_ast.specs.Lists.{lists_from}
-use mathlib.Core.Path.{◌≡◌}
-use Prim.Native.Nat.{◌-◌, ◌≤◌}
 use Rattle.rl_ast.proofs.ListLaws.{lists_start, lists_end, lists_past, lists_kind, lists_short, lists_more, three_fit}
 use Rattle.rl_fields.proofs.RecordLaws.{byte_there, past_fits}
 use Rattle.std.proofs.Common.{rules}

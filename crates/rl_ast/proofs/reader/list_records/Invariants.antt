@@ -1,8 +1,6 @@
 use Rattle.rl_ast.specs.Lists.{lists_from}
 use mathlib.Core.Path.{◌≡◌}
 use Prim.Native.Nat.{◌-◌, ◌≤◌}
-use Rattle.rl_ast.proofs.ListLaws.{lists_start, lists_end, lists_past, lists_kind, lists_short, lists_more, three_fit}
-use Rattle.rl_fields.proofs.RecordLaws.{byte_there, past_fits}
 use Rattle.rl_ast.proofs.reader.list_records.Given as goal
 
 abbrev pub invariant-loop-i : goal.invariant-loop-i

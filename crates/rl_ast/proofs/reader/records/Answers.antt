@@ -1,7 +1,4 @@
-use Rattle.rl_spec.specs.Read.{records_from}
-use lib.ListN.{length}
-use mathlib.Core.Path.{◌≡◌, ◌∙◌}
-use Prim.Native.Nat.{◌-◌, ◌≤◌}
+use mathlib.Core.Path.{◌∙◌}
 use Rattle.rl_ast.proofs.ReaderLaws.{records_start, records_end, records_more, records_stop, start_fits, length_keep, next_fits, at_most}
 use Rattle.std.proofs.Common.{rules}
 use Rattle.rl_ast.proofs.reader.records.Goals as goal

@@ -1,8 +1,7 @@
 use Rattle.rl_spec.specs.Read.{records_from}
 use lib.ListN.{length}
-use mathlib.Core.Path.{◌≡◌, ◌∙◌}
+use mathlib.Core.Path.{◌≡◌}
 use Prim.Native.Nat.{◌-◌, ◌≤◌}
-use Rattle.rl_ast.proofs.ReaderLaws.{records_start, records_end, records_more, records_stop, start_fits, length_keep, next_fits, at_most}
 use Rattle.rl_ast.proofs.reader.records.Given as goal
 
 abbrev pub invariant-loop-i : goal.invariant-loop-i

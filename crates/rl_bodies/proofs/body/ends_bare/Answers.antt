@@ -1,6 +1,5 @@
 use Rattle.rl_spec.specs.Found.{image_found}
 use Rattle.rl_bodies.proofs.Lasts.{none_bare, some_bare}
-use Rattle.std.proofs.Common.{rules}
 use Rattle.rl_bodies.proofs.body.ends_bare.Goals as goal
 
 pub returns-then-body-eq0 : goal.returns-then-body-eq0

@@ -1,6 +1,5 @@
 use Rattle.rl_spec.specs.Found.{image_found}
 use Rattle.rl_bodies.proofs.Lasts.{bare_none, value_is}
-use Rattle.std.proofs.Common.{rules}
 use Rattle.rl_bodies.proofs.body.last_value.Goals as goal
 
 pub returns-then-body-eq0 : goal.returns-then-body-eq0

@@ -1,11 +1,7 @@
-use Prim.Native.Nat.{ℕ, ◌-◌, ◌≤◌}
-use mathlib.Core.Path.{◌≡◌, refl}
-use mathlib.Core.List.{List}
+use Prim.Native.Nat.{◌-◌}
+use mathlib.Core.Path.{refl}
 use native.Mathlib.Omega.{arith}
-use lib.ListN.{length}
-use Rattle.rl_spec.specs.Image.{Image}
-use Rattle.rl_context.specs.Does.{at}
-use Rattle.rl_bodies.proofs.Pushing.{Entered, entered_none, entered_more, entered_all}
+use Rattle.rl_bodies.proofs.Pushing.{entered_none, entered_more, entered_all}
 use Rattle.std.proofs.Common.{rules}
 use Rattle.rl_bodies.proofs.body.push_entries.Goals as goal
 

@@ -1,12 +1,7 @@
-use Prim.Native.Nat.{ℕ, ◌-◌, ◌≤◌}
-use mathlib.Core.Path.{◌≡◌, refl, ap}
-use mathlib.Core.List.{List}
+use Prim.Native.Nat.{◌-◌}
+use mathlib.Core.Path.{ap}
 use native.Mathlib.Omega.{arith}
-use lib.ListN.{length}
-use Rattle.rl_spec.specs.Image.{Image}
-use Rattle.rl_spec.specs.Found.{image_found}
-use Rattle.rl_context.specs.Does.{at}
-use Rattle.rl_bodies.proofs.Pushing.{Guarded, guards_none, guards_more, guards_all}
+use Rattle.rl_bodies.proofs.Pushing.{guards_more, guards_all}
 use Rattle.std.proofs.Common.{rules}
 use Rattle.rl_bodies.proofs.body.refinement_guards.Goals as goal
 

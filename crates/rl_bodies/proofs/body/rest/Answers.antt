@@ -1,5 +1,4 @@
 use Rattle.rl_bodies.proofs.NewBody.{rest_plain, rest_ensured}
-use Rattle.std.proofs.Common.{rules}
 use Rattle.rl_bodies.proofs.body.rest.Goals as goal
 
 pub returns-then-ensured-eq0 : goal.returns-then-ensured-eq0

@@ -1,7 +1,4 @@
-use Prim.Native.Nat.{◌-◌, ◌≤◌}
-use mathlib.Core.Path.{◌≡◌}
-use lib.ListN.{length, drop}
-use Rattle.rl_spec.specs.Boundary.{are_values}
+use Prim.Native.Nat.{◌-◌}
 use Rattle.rl_boundary.proofs.ValueLaws.{values_bad, values_more, values_end}
 use Rattle.std.proofs.Common.{rules}
 use Rattle.rl_boundary.proofs.values.are_values.Goals as goal

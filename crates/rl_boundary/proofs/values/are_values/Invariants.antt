@@ -2,7 +2,6 @@ use Prim.Native.Nat.{◌-◌, ◌≤◌}
 use mathlib.Core.Path.{◌≡◌}
 use lib.ListN.{length, drop}
 use Rattle.rl_spec.specs.Boundary.{are_values}
-use Rattle.rl_boundary.proofs.ValueLaws.{values_bad, values_more, values_end}
 use Rattle.rl_boundary.proofs.values.are_values.Given as goal
 
 abbrev pub invariant-loop-i : goal.invariant-loop-i

@@ -1,11 +1,9 @@
-use native.Mathlib.Omega.{arith}
 use Prim.Native.Nat.{◌-◌, ◌≤◌}
-use mathlib.Core.Path.{◌≡◌, refl, ◌∙◌}
+use mathlib.Core.Path.{◌≡◌}
 use mathlib.Core.List.{map}
-use lib.ListN.{length, take, length-set}
+use lib.ListN.{length, take}
 use Rattle.rl_spec.specs.Ranges.{up_from}
 use Rattle.rl_spec.specs.Boundary.{argument_at}
-use Rattle.rl_boundary.proofs.ValueLaws.{none_yet, argument_next, arguments_given}
 use Rattle.rl_boundary.proofs.values.arguments_of.Given as goal
 
 abbrev pub invariant-loop-i : goal.invariant-loop-i

@@ -1,6 +1,5 @@
 use Prim.Native.Nat.{◌-◌}
-use Rattle.rl_spec.specs.Found.{image_found}
-use Rattle.rl_checker.proofs.ProveLaws.{Each, each_start, each_end, each_bound, each_next}
+use Rattle.rl_checker.proofs.ProveLaws.{each_start, each_end, each_bound, each_next}
 use Rattle.std.proofs.Common.{rules}
 use Rattle.rl_checker.proofs.proving.prove_calls.Goals as goal
 

@@ -1,4 +1,3 @@
-use Rattle.rl_prover.proofs.ShownLaws.{part_size}
 use Rattle.rl_checker.proofs.ProveLaws.{one_proves}
 use Rattle.std.proofs.Common.{rules}
 use Rattle.rl_checker.proofs.proving.prove_one.Goals as goal

@@ -1,8 +1,5 @@
 use Rattle.std.proofs.Common.{◌-◌, ◌∙◌, rules}
-use Rattle.rl_context.proofs.GuardLaws.{Guarding, guarding_none, guarding_more, guarding_all}
-use Rattle.rl_context.specs.Does.{at}
-use Rattle.rl_spec.specs.Found.{image_found}
-use Rattle.std.proofs.Common.{rules}
+use Rattle.rl_context.proofs.GuardLaws.{guarding_none, guarding_more, guarding_all}
 use Rattle.rl_context.proofs.Ctx.clause_guards.Goals as goal
 
 ruleset laws = (guarding_none, guarding_more, guarding_all)

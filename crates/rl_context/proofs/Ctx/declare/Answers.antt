@@ -1,7 +1,5 @@
-use Rattle.std.proofs.Common.{rules}
 use Rattle.rl_context.proofs.Rows.{row_declaration}
 use Rattle.rl_context.proofs.StatementsMade.{declare_does}
-use Rattle.std.proofs.Common.{rules}
 use Rattle.rl_context.proofs.Ctx.declare.Goals as goal
 
 pub returns : goal.returns

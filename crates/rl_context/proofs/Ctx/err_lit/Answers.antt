@@ -1,9 +1,7 @@
-use Rattle.std.proofs.Common.{rules}
 use Rattle.rl_encode.specs.Words.{word_fields}
 use Rattle.rl_spec.specs.Schema.{sort_of}
 use Rattle.rl_context.proofs.Rows.{row_err, fields_err}
 use Rattle.rl_context.proofs.NodesMade.{err_does}
-use Rattle.std.proofs.Common.{rules}
 use Rattle.rl_context.proofs.Ctx.err_lit.Goals as goal
 
 pub returns : goal.returns

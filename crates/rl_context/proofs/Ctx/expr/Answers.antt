@@ -1,6 +1,5 @@
 use Rattle.std.proofs.Common.{rules}
 use Rattle.rl_context.proofs.NodesMade.{expr_does}
-use Rattle.std.proofs.Common.{rules}
 use Rattle.rl_context.proofs.Ctx.expr.Goals as goal
 
 pub returns : goal.returns

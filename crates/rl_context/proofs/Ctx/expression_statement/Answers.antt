@@ -1,7 +1,5 @@
-use Rattle.std.proofs.Common.{rules}
 use Rattle.rl_context.proofs.Rows.{row_expression}
 use Rattle.rl_context.proofs.StatementsMade.{expression_does}
-use Rattle.std.proofs.Common.{rules}
 use Rattle.rl_context.proofs.Ctx.expression_statement.Goals as goal
 
 pub returns : goal.returns

@@ -1,9 +1,7 @@
-use Rattle.std.proofs.Common.{rules}
 use Rattle.rl_encode.specs.Words.{word_fields}
 use Rattle.rl_spec.specs.Schema.{sort_of}
 use Rattle.rl_context.proofs.Rows.{row_identifier, fields_identifier}
 use Rattle.rl_context.proofs.NodesMade.{ident_does}
-use Rattle.std.proofs.Common.{rules}
 use Rattle.rl_context.proofs.Ctx.ident.Goals as goal
 
 pub returns : goal.returns

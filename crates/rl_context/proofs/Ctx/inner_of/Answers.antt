@@ -1,6 +1,4 @@
-use Rattle.std.proofs.Common.{rules}
 use Rattle.rl_context.proofs.WrapLaws.{inner_unwrapped, inner_plain}
-use Rattle.std.proofs.Common.{rules}
 use Rattle.rl_context.proofs.Ctx.inner_of.Goals as goal
 
 pub returns-then-is_result : goal.returns-then-is_result

@@ -1,6 +1,4 @@
-use Rattle.std.proofs.Common.{rules}
-use Rattle.rl_context.proofs.GuardLaws.{message_default, message_own}
-use Rattle.std.proofs.Common.{rules}
+use Rattle.rl_context.proofs.GuardLaws.{message_own}
 use Rattle.rl_context.proofs.Ctx.msg_expr.Goals as goal
 
 pub returns-in-Some : goal.returns-in-Some

@@ -1,8 +1,6 @@
-use Rattle.std.proofs.Common.{rules}
 use Rattle.rl_encode.specs.Words.{word_fields}
 use Rattle.rl_spec.specs.Schema.{sort_of}
 use Rattle.rl_context.proofs.Rows.{row_unary, fields_unary}
-use Rattle.std.proofs.Common.{rules}
 use Rattle.rl_context.proofs.Ctx.negated.Goals as goal
 
 pub returns : goal.returns

@@ -1,9 +1,7 @@
 use Rattle.std.proofs.Common.{arith, rules}
-use Rattle.rl_context.proofs.Limits.{within}
 use Rattle.rl_context.proofs.Appends.{expression_full, expression_less, expression_short, expression_many}
 use Rattle.rl_context.proofs.Making.{expression_made}
 use Rattle.rl_context.proofs.Sizes.{record_room, record_ends}
-use Rattle.std.proofs.Common.{rules}
 use Rattle.rl_context.proofs.Ctx.new_expression.Goals as goal
 
 ruleset laws = (expression_full, expression_less, expression_short, expression_many, expression_made, record_room)

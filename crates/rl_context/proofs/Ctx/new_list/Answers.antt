@@ -1,7 +1,5 @@
-use Rattle.std.proofs.Common.{◌-◌, arith, rules}
-use Rattle.rl_context.proofs.Limits.{within}
+use Rattle.std.proofs.Common.{◌-◌, rules}
 use Rattle.rl_context.proofs.Listing.{list_full, list_order, list_short, list_waiting, list_many, list_made}
-use Rattle.std.proofs.Common.{rules}
 use Rattle.rl_context.proofs.Ctx.new_list.Goals as goal
 
 ruleset laws = (list_full, list_order, list_short, list_waiting, list_many, list_made)

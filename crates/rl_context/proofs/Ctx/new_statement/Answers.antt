@@ -1,9 +1,7 @@
 use Rattle.std.proofs.Common.{arith, rules}
-use Rattle.rl_context.proofs.Limits.{within}
 use Rattle.rl_context.proofs.Appends.{statement_full, statement_less, statement_short, statement_many}
 use Rattle.rl_context.proofs.Making.{statement_made}
 use Rattle.rl_context.proofs.Sizes.{record_room, record_ends}
-use Rattle.std.proofs.Common.{rules}
 use Rattle.rl_context.proofs.Ctx.new_statement.Goals as goal
 
 ruleset laws = (statement_full, statement_less, statement_short, statement_many, statement_made, record_room)

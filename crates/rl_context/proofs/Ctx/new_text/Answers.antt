@@ -1,8 +1,6 @@
-use Rattle.std.proofs.Common.{length, arith, rules}
-use Rattle.rl_context.proofs.Limits.{within}
-use Rattle.rl_context.proofs.Appends.{text_full, text_short, text_bytes_lem, text_texts}
-use Rattle.rl_context.proofs.TextMade.{text_made, text_record_room}
 use Rattle.std.proofs.Common.{rules}
+use Rattle.rl_context.proofs.Appends.{text_full, text_short, text_bytes_lem, text_texts}
+use Rattle.rl_context.proofs.TextMade.{text_made}
 use Rattle.rl_context.proofs.Ctx.new_text.Goals as goal
 
 ruleset laws = (text_full, text_short, text_bytes_lem, text_texts, text_made)

@@ -1,7 +1,5 @@
-use Rattle.std.proofs.Common.{rules}
 use Rattle.rl_encode.specs.Words.{word_fields}
 use Rattle.rl_context.proofs.Rows.{row_null, fields_null}
-use Rattle.std.proofs.Common.{rules}
 use Rattle.rl_context.proofs.Ctx.null.Goals as goal
 
 pub returns : goal.returns

@@ -1,7 +1,5 @@
-use Rattle.std.proofs.Common.{◌∙◌, rules}
 use Rattle.rl_context.proofs.Rows.{row_branch, row_conditional}
 use Rattle.rl_context.proofs.StatementsMade.{only_if_does}
-use Rattle.std.proofs.Common.{rules}
 use Rattle.rl_context.proofs.Ctx.only_if.Goals as goal
 
 pub returns : goal.returns

@@ -1,7 +1,6 @@
 use Rattle.std.proofs.Common.{rules}
 use Rattle.rl_spec.specs.Found.{image_found}
 use Rattle.rl_context.proofs.Operands.{integer_made, str_made, true_made, false_made, named_made}
-use Rattle.std.proofs.Common.{rules}
 use Rattle.rl_context.proofs.Ctx.operand_of.Goals as goal
 
 pub returns-then-b : goal.returns-then-b

@@ -1,9 +1,7 @@
-use Rattle.std.proofs.Common.{rules}
 use Rattle.rl_encode.specs.Words.{word_fields}
 use Rattle.rl_spec.specs.Schema.{sort_of}
 use Rattle.rl_context.proofs.Rows.{row_identifier, row_binary, fields_identifier, fields_binary}
 use Rattle.rl_context.proofs.Operands.{leaf_made, copy_does}
-use Rattle.std.proofs.Common.{rules}
 use Rattle.rl_context.proofs.Ctx.predicate_copy.Goals as goal
 
 pub returns : goal.returns

@@ -1,6 +1,5 @@
 use Rattle.std.proofs.Common.{rules}
 use Rattle.rl_context.proofs.Waits.{push_full, push_many, push_made}
-use Rattle.std.proofs.Common.{rules}
 use Rattle.rl_context.proofs.Ctx.push.Goals as goal
 
 ruleset laws = (push_full, push_many, push_made)

@@ -1,6 +1,4 @@
-use Rattle.std.proofs.Common.{rules}
 use Rattle.rl_context.proofs.Composed.{does_push}
-use Rattle.std.proofs.Common.{rules}
 use Rattle.rl_context.proofs.Ctx.push_text.Goals as goal
 
 pub returns : goal.returns

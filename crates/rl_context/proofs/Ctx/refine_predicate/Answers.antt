@@ -1,11 +1,8 @@
-use Rattle.std.proofs.Common.{◌∙◌, rules}
 use Rattle.rl_encode.specs.Words.{word_fields}
 use Rattle.rl_spec.specs.Schema.{sort_of}
 use Rattle.rl_context.proofs.Rows.{row_identifier, row_binary, fields_identifier, fields_binary}
 use Rattle.rl_context.proofs.Operands.{leaf_made}
 use Rattle.rl_context.proofs.RefinementLaws.{predicate_does}
-use mir.Facts.{Fits-8_64}
-use Rattle.std.proofs.Common.{rules}
 use Rattle.rl_context.proofs.Ctx.refine_predicate.Goals as goal
 
 pub returns : goal.returns

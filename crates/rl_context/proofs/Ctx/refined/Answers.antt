@@ -1,6 +1,4 @@
-use Rattle.std.proofs.Common.{◌∙◌, rules}
 use Rattle.rl_context.proofs.RefinementLaws.{refined_does}
-use Rattle.std.proofs.Common.{rules}
 use Rattle.rl_context.proofs.Ctx.refined.Goals as goal
 
 pub returns : goal.returns

@@ -1,6 +1,4 @@
-use Rattle.std.proofs.Common.{rules}
 use Rattle.rl_context.proofs.RefinementLaws.{unrefined_done, refinement_done}
-use Rattle.std.proofs.Common.{rules}
 use Rattle.rl_context.proofs.Ctx.refinement_guard.Goals as goal
 
 pub returns-in-Unrefined : goal.returns-in-Unrefined

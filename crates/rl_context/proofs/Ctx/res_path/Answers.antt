@@ -1,6 +1,4 @@
-use Rattle.std.proofs.Common.{◌∙◌, rules}
 use Rattle.rl_context.proofs.NodesMade.{path_does}
-use Rattle.std.proofs.Common.{rules}
 use Rattle.rl_context.proofs.Ctx.res_path.Goals as goal
 
 pub returns : goal.returns

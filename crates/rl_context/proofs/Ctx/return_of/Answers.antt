@@ -1,6 +1,4 @@
-use Rattle.std.proofs.Common.{rules}
 use Rattle.rl_context.proofs.StatementsMade.{return_of_does}
-use Rattle.std.proofs.Common.{rules}
 use Rattle.rl_context.proofs.Ctx.return_of.Goals as goal
 
 pub returns : goal.returns

@@ -1,7 +1,5 @@
-use Rattle.std.proofs.Common.{rules}
 use Rattle.rl_context.proofs.Rows.{row_return}
 use Rattle.rl_context.proofs.StatementsMade.{return_does}
-use Rattle.std.proofs.Common.{rules}
 use Rattle.rl_context.proofs.Ctx.return_statement.Goals as goal
 
 pub returns : goal.returns

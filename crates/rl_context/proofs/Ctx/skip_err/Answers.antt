@@ -1,6 +1,4 @@
-use Rattle.std.proofs.Common.{◌∙◌, rules}
 use Rattle.rl_context.proofs.WrapLaws.{skip_err_does}
-use Rattle.std.proofs.Common.{rules}
 use Rattle.rl_context.proofs.Ctx.skip_err.Goals as goal
 
 pub returns : goal.returns

@@ -1,6 +1,4 @@
-use Rattle.std.proofs.Common.{rules}
 use Rattle.rl_context.proofs.WrapLaws.{skip_some, skip_none}
-use Rattle.std.proofs.Common.{rules}
 use Rattle.rl_context.proofs.Ctx.skip_of.Goals as goal
 
 pub returns-then-is_result : goal.returns-then-is_result

@@ -1,6 +1,5 @@
 use Rattle.std.proofs.Common.{rules}
 use Rattle.rl_context.proofs.Temporaries.{temp_full, temp_many, temp_taken}
-use Rattle.std.proofs.Common.{rules}
 use Rattle.rl_context.proofs.Ctx.take_temp.Goals as goal
 
 ruleset laws = (temp_full, temp_many, temp_taken)

@@ -1,6 +1,4 @@
-use Rattle.std.proofs.Common.{rules}
 use Rattle.rl_context.proofs.NodesMade.{unwrap_does}
-use Rattle.std.proofs.Common.{rules}
 use Rattle.rl_context.proofs.Ctx.unwrap_call.Goals as goal
 
 pub returns : goal.returns

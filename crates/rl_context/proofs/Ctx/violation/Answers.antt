@@ -1,6 +1,4 @@
-use Rattle.std.proofs.Common.{rules}
 use Rattle.rl_context.proofs.StatementsMade.{violation_returns, violation_aborts}
-use Rattle.std.proofs.Common.{rules}
 use Rattle.rl_context.proofs.Ctx.violation.Goals as goal
 
 pub returns-then-ctx : goal.returns-then-ctx

@@ -1,7 +1,5 @@
-use Rattle.std.proofs.Common.{◌∙◌, rules}
 use Rattle.rl_context.proofs.WrapLaws.{wrap_does}
 use Rattle.rl_spec.specs.Tree.{ascii}
-use Rattle.std.proofs.Common.{rules}
 use Rattle.rl_context.proofs.Ctx.wrap_as.Goals as goal
 
 pub returns : goal.returns

@@ -1,7 +1,6 @@
-use Rattle.std.proofs.Common.{refl, rules}
+use Rattle.std.proofs.Common.{refl}
 use Rattle.rl_context.proofs.TempName.{temp_name}
 use Rattle.rl_context.proofs.WrapLaws.{wrap_return_does}
-use Rattle.std.proofs.Common.{rules}
 use Rattle.rl_context.proofs.Ctx.wrap_return.Goals as goal
 
 pub returns : goal.returns

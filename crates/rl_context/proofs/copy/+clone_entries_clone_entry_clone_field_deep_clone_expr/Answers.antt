@@ -1,13 +1,10 @@
-use Rattle.std.proofs.Common.{◌≡◌, ℕ, ◌+◌, ◌-◌, ◌*◌, ◌^◌, ◌<◌, ◌≤◌, length, sym, refl, ap, ◌∙◌, arith, rules}
+use Rattle.std.proofs.Common.{◌-◌, refl, ap, ◌∙◌, arith, rules}
 use Rattle.rl_spec.specs.Schema.{width_of}
 use Rattle.rl_spec.specs.Lower.{is_lambda}
-use Rattle.rl_schema.specs.Codes.{codes, table}
 use Rattle.rl_schema.proofs.Rows.{row_codes}
 use Rattle.rl_arena.proofs.Laws.{width_small}
-use Rattle.rl_context.specs.Does.{at}
-use Rattle.rl_context.proofs.Copying.{Copying, kind_in, codes_few, small_left, as_made, few_left, place_left, place_fits, j_fits, still_eight, copies_full, copies_lambda, copies_record, not_lambda, copying_none, copying_field, copying_more, copying_all, copying_whole}
-use Rattle.rl_context.proofs.CopiedEntries.{CopyingEntries, entries_none, entries_more, entries_all, entry_before, entry_copied, entry_kept, field_shared, field_kept, field_copied, field_listed, list_fits}
-use Rattle.std.proofs.Common.{rules}
+use Rattle.rl_context.proofs.Copying.{kind_in, codes_few, small_left, as_made, few_left, place_left, still_eight, copies_full, copies_lambda, copies_record, not_lambda, copying_none, copying_field, copying_more, copying_all, copying_whole}
+use Rattle.rl_context.proofs.CopiedEntries.{entries_more, entries_all, entry_before, entry_copied, entry_kept, field_shared, field_kept, field_copied, field_listed, list_fits}
 use Rattle.rl_context.proofs.copy.+clone_entries_clone_entry_clone_field_deep_clone_expr.Goals as goal
 
 pub clone_entries-loop-i-preserved : goal.clone_entries-loop-i-preserved

@@ -1,12 +1,8 @@
-use Rattle.std.proofs.Common.{◌≡◌, ℕ, ◌+◌, ◌-◌, ◌*◌, ◌^◌, ◌<◌, ◌≤◌, length, sym, refl, ap, ◌∙◌, arith, rules}
-use Rattle.rl_spec.specs.Schema.{width_of}
-use Rattle.rl_spec.specs.Lower.{is_lambda}
+use Rattle.std.proofs.Common.{◌≡◌, ◌+◌, ◌-◌, ◌*◌, ◌^◌, ◌<◌, ◌≤◌, length}
 use Rattle.rl_schema.specs.Codes.{codes, table}
-use Rattle.rl_schema.proofs.Rows.{row_codes}
-use Rattle.rl_arena.proofs.Laws.{width_small}
 use Rattle.rl_context.specs.Does.{at}
-use Rattle.rl_context.proofs.Copying.{Copying, kind_in, codes_few, small_left, as_made, few_left, place_left, place_fits, j_fits, still_eight, copies_full, copies_lambda, copies_record, not_lambda, copying_none, copying_field, copying_more, copying_all, copying_whole}
-use Rattle.rl_context.proofs.CopiedEntries.{CopyingEntries, entries_none, entries_more, entries_all, entry_before, entry_copied, entry_kept, field_shared, field_kept, field_copied, field_listed, list_fits}
+use Rattle.rl_context.proofs.Copying.{Copying}
+use Rattle.rl_context.proofs.CopiedEntries.{CopyingEntries}
 use Rattle.rl_context.proofs.copy.+clone_entries_clone_entry_clone_field_deep_clone_expr.Given as goal
 
 abbrev pub decreases-clone_entries : goal.decreases-clone_entries
@@ -22,15 +18,15 @@ abbrev pub decreases-deep_clone_expr : goal.decreases-deep_clone_expr
 decreases-deep_clone_expr l = l.id * 4 + 3
 
 abbrev pub invariant-clone_entries-loop-i : goal.invariant-clone_entries-loop-i
-invariant-clone_entries-loop-i l =     (l.i ≤ l.count) × ((length l.scratch ≡ length l.initial.scratch) × ((length l.waiting ≡ length l.initial.waiting) ×
+invariant-clone_entries-loop-i l = (l.i ≤ l.count) × ((length l.scratch ≡ length l.initial.scratch) × ((length l.waiting ≡ length l.initial.waiting) ×
     (l.rows ≡ table → l.id < l.counts.expressions → CopyingEntries l.image l.starts l.counts l.id l.first l.count l.initial.here l.initial.other (at l.initial.now l.initial.scratch l.initial.waiting) (at l.now l.scratch l.waiting) l.i l.here l.other)))
 
 abbrev pub decreases-clone_entries-loop-i : goal.decreases-clone_entries-loop-i
-decreases-clone_entries-loop-i l =     l.count - l.i
+decreases-clone_entries-loop-i l = l.count - l.i
 
 abbrev pub invariant-deep_clone_expr-loop-rest : goal.invariant-deep_clone_expr-loop-rest
-invariant-deep_clone_expr-loop-rest l =     (length l.scratch ≡ length l.initial.scratch) × ((length l.waiting ≡ length l.initial.waiting) × ((l.rest < 2 ^ 64) × ((l.j + length (codes l.rest) ≤ 8) × ((l.place ≤ 66000 + 8 * l.j) × ((length l.words ≡ 8) ×
+invariant-deep_clone_expr-loop-rest l = (length l.scratch ≡ length l.initial.scratch) × ((length l.waiting ≡ length l.initial.waiting) × ((l.rest < 2 ^ 64) × ((l.j + length (codes l.rest) ≤ 8) × ((l.place ≤ 66000 + 8 * l.j) × ((length l.words ≡ 8) ×
     (l.rows ≡ table → l.id < l.counts.expressions → Copying l.image l.starts l.counts l.id l.row (l.start + 1) (at l.initial.now l.initial.scratch l.initial.waiting) (at l.now l.scratch l.waiting) l.words l.rest l.place l.j))))))
 
 abbrev pub decreases-deep_clone_expr-loop-rest : goal.decreases-deep_clone_expr-loop-rest
-decreases-deep_clone_expr-loop-rest l =     l.rest
+decreases-deep_clone_expr-loop-rest l = l.rest

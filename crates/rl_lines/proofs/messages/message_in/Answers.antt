@@ -1,15 +1,14 @@
 use Rattle.rl_lines.proofs.CallLaws.{own_lines, own_entries, own_length, own_message}
-use Rattle.std.proofs.Common.{rules}
 use Rattle.rl_lines.proofs.messages.message_in.Goals as goal
 
 pub put_message-requires-clause-lines_value : goal.put_message-requires-clause-lines_value
-put_message-requires-clause-lines_value c =     own_lines _ _ _ c.lines_of-lines.ensures.value
+put_message-requires-clause-lines_value c = own_lines _ _ _ c.lines_of-lines.ensures.value
 
 pub put_message-requires-clause-reports_value : goal.put_message-requires-clause-reports_value
-put_message-requires-clause-reports_value c =     own_entries _ _ _ c.lines_of-lines.ensures.value _ c.lines_of-lines.ensures.reports_after
+put_message-requires-clause-reports_value c = own_entries _ _ _ c.lines_of-lines.ensures.value _ c.lines_of-lines.ensures.reports_after
 
 pub returns-clause-value : goal.returns-clause-value
-returns-clause-value c =     own_length _ _ _ c.lines_of-lines.ensures.value _ 65535 _ c.put_message.ensures.value
+returns-clause-value c = own_length _ _ _ c.lines_of-lines.ensures.value _ 65535 _ c.put_message.ensures.value
 
 pub returns-clause-out_after : goal.returns-clause-out_after
-returns-clause-out_after c =     own_message _ _ _ c.lines_of-lines.ensures.value _ _ _ c.put_message.ensures.out_after
+returns-clause-out_after c = own_message _ _ _ c.lines_of-lines.ensures.value _ _ _ c.put_message.ensures.out_after

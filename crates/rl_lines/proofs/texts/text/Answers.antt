@@ -17,7 +17,7 @@ pub returns-in-Refused-clause-work_after : goal.returns-in-Refused-clause-work_a
 returns-in-Refused-clause-work_after c = search (laws, rules)
 
 pub returns-else-texts-number-clause-value : goal.returns-else-texts-number-clause-value
-returns-else-texts-number-clause-value c =     text_found _ _ _ c.read_starts-answer.ensures.value _ _ _ c.in-Accepted.is c.if-texts-number.false _ c.text_part.ensures
+returns-else-texts-number-clause-value c = text_found _ _ _ c.read_starts-answer.ensures.value _ _ _ c.in-Accepted.is c.if-texts-number.false _ c.text_part.ensures
 
 pub returns-else-texts-number-clause-work_after : goal.returns-else-texts-number-clause-work_after
-returns-else-texts-number-clause-work_after c =     text_found_work _ _ _ c.read_starts-answer.ensures.value _ _ _ c.in-Accepted.is c.if-texts-number.false _ c.text_part.ensures _ c.read_starts-answer.ensures.work_after
+returns-else-texts-number-clause-work_after c = text_found_work _ _ _ c.read_starts-answer.ensures.value _ _ _ c.in-Accepted.is c.if-texts-number.false _ c.text_part.ensures _ c.read_starts-answer.ensures.work_after

@@ -1,5 +1,4 @@
 use Rattle.rl_machine.proofs.BeginLaws.{begin_late, begin_early}
-use Rattle.std.proofs.Common.{rules}
 use Rattle.rl_machine.proofs.begin.begun.Goals as goal
 
 pub returns-then-limit-s : goal.returns-then-limit-s

@@ -1,6 +1,5 @@
 use native.Mathlib.Omega.{arith}
 use Rattle.rl_machine.proofs.BeginLaws.{begin_declaration, begin_value, begin_expression, begin_return, begin_alone, begin_conditional, begin_branch, begin_while, begin_loop, begin_break, begin_continue, begin_other}
-use Rattle.std.proofs.Common.{rules}
 use Rattle.rl_machine.proofs.begin.begun_form.Goals as goal
 
 pub returns-then-last : goal.returns-then-last

@@ -1,5 +1,4 @@
 use Rattle.rl_machine.proofs.EnterLaws.{enter_late, enter_early}
-use Rattle.std.proofs.Common.{rules}
 use Rattle.rl_machine.proofs.enter.entered.Goals as goal
 
 pub returns-then-limit-node : goal.returns-then-limit-node

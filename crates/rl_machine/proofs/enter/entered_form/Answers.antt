@@ -1,5 +1,4 @@
 use Rattle.rl_machine.proofs.EnterLaws.{enter_null, enter_literal, enter_identifier, enter_unary, enter_binary, enter_grouping, enter_assign, enter_ok, enter_err, enter_is_err, enter_unwrap, enter_other}
-use Rattle.std.proofs.Common.{rules}
 use Rattle.rl_machine.proofs.enter.entered_form.Goals as goal
 
 pub returns-in-Null : goal.returns-in-Null

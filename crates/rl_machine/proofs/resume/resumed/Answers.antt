@@ -1,5 +1,4 @@
-use Rattle.rl_machine.proofs.ResumeLaws.{take_by, take_declare, take_discard, take_return, take_left, take_right, take_unary, take_assign}
-use Rattle.std.proofs.Common.{rules}
+use Rattle.rl_machine.proofs.ResumeLaws.{take_by, take_right, take_unary}
 use Rattle.rl_machine.proofs.resume.resumed.Goals as goal
 
 pub returns-in-Test : goal.returns-in-Test

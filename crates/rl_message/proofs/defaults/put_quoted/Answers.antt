@@ -1,6 +1,5 @@
 use Rattle.rl_spec.specs.Tree.{ascii}
 use Rattle.rl_message.proofs.DefaultLaws.{puts_quoted}
-use Rattle.std.proofs.Common.{rules}
 use Rattle.rl_message.proofs.defaults.put_quoted.Goals as goal
 
 pub returns-clause-value : goal.returns-clause-value

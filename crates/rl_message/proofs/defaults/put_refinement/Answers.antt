@@ -1,6 +1,5 @@
 use Rattle.rl_spec.specs.Tree.{ascii}
 use Rattle.rl_message.proofs.DefaultLaws.{puts_refinement}
-use Rattle.std.proofs.Common.{rules}
 use Rattle.rl_message.proofs.defaults.put_refinement.Goals as goal
 
 pub returns-clause-by_index : goal.returns-clause-by_index

@@ -4,7 +4,7 @@ use Rattle.std.proofs.Common.{rules}
 use Rattle.rl_pages.proofs.lines.put_report_line.Goals as goal
 
 pub violation_at-violation-requires : goal.violation_at-violation-requires
-violation_at-violation-requires c =     number_low _ _ _ c.requires.known _ c.requires.lines_value _ c.requires.reports_value _ c.requires.number_lt_count
+violation_at-violation-requires c = number_low _ _ _ c.requires.known _ c.requires.lines_value _ c.requires.reports_value _ c.requires.number_lt_count
 
 pub returns : goal.returns
 returns c = let whole = puts_report _ _ _ c.requires.known _ c.requires.lines_value _ c.requires.reports_value _ c.requires.number_lt_count _ c.violation_at-violation.ensures _ _ _ _ _ _ _

@@ -1,5 +1,5 @@
-use Prim.Native.Nat.{◌-◌, ◌≤◌}
-use Rattle.rl_prover.proofs.CalleeLaws.{Looks, looks_start, looks_end, looks_found, looks_on}
+use Prim.Native.Nat.{◌-◌}
+use Rattle.rl_prover.proofs.CalleeLaws.{looks_start, looks_end, looks_found, looks_on}
 use Rattle.std.proofs.Common.{rules}
 use Rattle.rl_prover.proofs.callee.any_refined.Goals as goal
 

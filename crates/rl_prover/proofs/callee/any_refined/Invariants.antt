@@ -1,5 +1,5 @@
 use Prim.Native.Nat.{◌-◌, ◌≤◌}
-use Rattle.rl_prover.proofs.CalleeLaws.{Looks, looks_start, looks_end, looks_found, looks_on}
+use Rattle.rl_prover.proofs.CalleeLaws.{Looks}
 use Rattle.rl_prover.proofs.callee.any_refined.Given as goal
 
 abbrev pub invariant-loop-i : goal.invariant-loop-i

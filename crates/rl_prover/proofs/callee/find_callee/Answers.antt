@@ -1,4 +1,4 @@
-use Rattle.rl_prover.proofs.CalleeLaws.{Seeks, seeks_start, seeks_end, seeks_found, seeks_on}
+use Rattle.rl_prover.proofs.CalleeLaws.{seeks_start, seeks_end, seeks_found, seeks_on}
 use Rattle.std.proofs.Common.{rules}
 use Rattle.rl_prover.proofs.callee.find_callee.Goals as goal
 

@@ -8,5 +8,5 @@ pub returns-in-Unrefined : goal.returns-in-Unrefined
 returns-in-Unrefined c = search (laws, rules)
 
 pub returns-in-Refined : goal.returns-in-Refined
-returns-in-Refined c =     fails_refined c.args.image.now c.args.starts.now c.args.counts c.args.classes.now c.args.names.now c.args.count c.args.memory.now c.args.refinement c.args.arg _ _ c.const_eval-actual.result c.refine_bound.result _ _
+returns-in-Refined c = fails_refined c.args.image.now c.args.starts.now c.args.counts c.args.classes.now c.args.names.now c.args.count c.args.memory.now c.args.refinement c.args.arg _ _ c.const_eval-actual.result c.refine_bound.result _ _
     c.in-Refined.is c.const_eval-actual.ensures c.refine_bound.ensures c.is_refuted.ensures

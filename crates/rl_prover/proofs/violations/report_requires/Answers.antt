@@ -1,6 +1,5 @@
-use mathlib.Core.Path.{◌≡◌}
 use Prim.Native.Nat.{◌-◌}
-use Rattle.rl_prover.proofs.SecondLaws.{Requiring, requiring_start, requiring_end, requiring_next}
+use Rattle.rl_prover.proofs.SecondLaws.{requiring_start, requiring_end, requiring_next}
 use Rattle.std.proofs.Common.{rules}
 use Rattle.rl_prover.proofs.violations.report_requires.Goals as goal
 

@@ -1,6 +1,6 @@
 use Prim.Native.Nat.{◌-◌}
 use Rattle.rl_admission.proofs.Arrays.{unmapped}
-use Rattle.rl_runner.proofs.BoundLaws.{Bound, bound_none, bound_one, bound_all, bound_most}
+use Rattle.rl_runner.proofs.BoundLaws.{bound_none, bound_one, bound_all, bound_most}
 use Rattle.std.proofs.Common.{rules}
 use Rattle.rl_runner.proofs.bound.bind_all.Goals as goal
 

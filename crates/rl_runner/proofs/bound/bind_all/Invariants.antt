@@ -1,6 +1,5 @@
 use Prim.Native.Nat.{◌-◌}
-use Rattle.rl_admission.proofs.Arrays.{unmapped}
-use Rattle.rl_runner.proofs.BoundLaws.{Bound, bound_none, bound_one, bound_all, bound_most}
+use Rattle.rl_runner.proofs.BoundLaws.{Bound}
 use Rattle.rl_runner.proofs.bound.bind_all.Given as goal
 
 abbrev pub invariant-loop-i : goal.invariant-loop-i

@@ -1,8 +1,4 @@
-use Prim.Native.Nat.{ℕ}
-use native.Mathlib.Omega.{arith}
-use lib.ListN.{length-replicate}
 use Rattle.rl_runner.proofs.EndLaws.{function_ran}
-use Rattle.std.proofs.Common.{rules}
 use Rattle.rl_runner.proofs.running.run_function.Goals as goal
 
 pub returns : goal.returns

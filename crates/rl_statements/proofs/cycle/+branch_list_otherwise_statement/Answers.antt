@@ -1,22 +1,19 @@
-use Prim.Native.Nat.{ℕ, ◌+◌, ◌*◌, ◌<◌}
-use Rattle.rl_spec.specs.Found.{image_found}
-use Rattle.rl_statements.specs.Lists.{Listing, fuel}
-use Rattle.rl_statements.proofs.BindingLaws.{Sought, seek_begins, seek_hit, seek_miss}
+use Rattle.rl_statements.proofs.BindingLaws.{seek_begins, seek_hit, seek_miss}
 use Rattle.rl_statements.proofs.Falls.{falls_lighter, falls_paid, falls_compound, falls_pushed, falls_entered, falls_given}
-use Rattle.rl_statements.proofs.ListLaws.{list_over, list_spent, list_next, list_tested, list_skipped, list_compound, visit_spent, visit_node, push_frame, push_never, give_none, give_frame, name_found, name_missing, name_stored, name_bound, name_over, compound_below}
+use Rattle.rl_statements.proofs.ListLaws.{list_over, list_spent, list_next, list_tested, list_skipped, list_compound, visit_spent, visit_node, push_frame, push_never, give_none, give_frame, name_found, name_missing, name_stored, name_bound, name_over}
 use Rattle.rl_statements.proofs.TurnLaws.{list_begins, list_finished, turns_spent, turns_again}
-use native.Mathlib.Omega.{arith}
 use mathlib.Core.Path.{refl, sym, ◌∙◌}
-use Rattle.rl_statements.proofs.ViewLaws.{not_skipped}
 use Rattle.rl_statements.proofs.CycleLaws.{branch_lower, branch_taken, branch_missing, else_lower, else_branch_lem, else_conditional_lem, else_missing, statement_otherwise, statement_branch, statement_loop, statement_missing}
 use Rattle.std.proofs.Common.{rules}
 use Rattle.rl_statements.proofs.cycle.+branch_list_otherwise_statement.Goals as goal
 
 ruleset parts = (branch_lower, branch_taken, branch_missing, else_lower, else_branch_lem, else_conditional_lem, else_missing, statement_otherwise, statement_branch, statement_loop, statement_missing)
-ruleset falling = (falls_lighter, falls_paid, falls_compound, falls_pushed, falls_entered, falls_given)
-ruleset listing = (list_over, list_spent, list_next, list_tested, list_skipped, list_compound, visit_spent, visit_node, push_frame, push_never, give_none, give_frame, name_found, name_missing, name_stored, name_bound, name_over, list_begins, list_finished, turns_spent, turns_again)
-ruleset seeking = (seek_begins, seek_hit, seek_miss)
 
+ruleset falling = (falls_lighter, falls_paid, falls_compound, falls_pushed, falls_entered, falls_given)
+
+ruleset listing = (list_over, list_spent, list_next, list_tested, list_skipped, list_compound, visit_spent, visit_node, push_frame, push_never, give_none, give_frame, name_found, name_missing, name_stored, name_bound, name_over, list_begins, list_finished, turns_spent, turns_again)
+
+ruleset seeking = (seek_begins, seek_hit, seek_miss)
 
 pub list-loop-state-init : goal.list-loop-state-init
 list-loop-state-init t c = search (listing, rules)

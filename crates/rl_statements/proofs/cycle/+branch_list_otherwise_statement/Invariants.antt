@@ -1,14 +1,7 @@
-use Prim.Native.Nat.{ℕ, ◌+◌, ◌*◌, ◌<◌}
+use Prim.Native.Nat.{◌+◌, ◌*◌}
 use Rattle.rl_spec.specs.Found.{image_found}
 use Rattle.rl_statements.specs.Lists.{Listing, fuel}
-use Rattle.rl_statements.proofs.BindingLaws.{Sought, seek_begins, seek_hit, seek_miss}
-use Rattle.rl_statements.proofs.Falls.{falls_lighter, falls_paid, falls_compound, falls_pushed, falls_entered, falls_given}
-use Rattle.rl_statements.proofs.ListLaws.{list_over, list_spent, list_next, list_tested, list_skipped, list_compound, visit_spent, visit_node, push_frame, push_never, give_none, give_frame, name_found, name_missing, name_stored, name_bound, name_over, compound_below}
-use Rattle.rl_statements.proofs.TurnLaws.{list_begins, list_finished, turns_spent, turns_again}
-use native.Mathlib.Omega.{arith}
-use mathlib.Core.Path.{refl, sym, ◌∙◌}
-use Rattle.rl_statements.proofs.ViewLaws.{not_skipped}
-use Rattle.rl_statements.proofs.CycleLaws.{branch_lower, branch_taken, branch_missing, else_lower, else_branch_lem, else_conditional_lem, else_missing, statement_otherwise, statement_branch, statement_loop, statement_missing}
+use Rattle.rl_statements.proofs.BindingLaws.{Sought}
 use Rattle.rl_statements.proofs.cycle.+branch_list_otherwise_statement.Given as goal
 
 abbrev pub decreases-branch : goal.decreases-branch
@@ -24,13 +17,13 @@ abbrev pub decreases-statement : goal.decreases-statement
 decreases-statement l = l.s * 4 + 3
 
 abbrev pub invariant-list-loop-j : goal.invariant-list-loop-j
-invariant-list-loop-j l =     Sought l.classes l.e.slots l.name l.e.len l.j l.found
+invariant-list-loop-j l = Sought l.classes l.e.slots l.name l.e.len l.j l.found
 
 abbrev pub decreases-list-loop-j : goal.decreases-list-loop-j
-decreases-list-loop-j l =     l.j
+decreases-list-loop-j l = l.j
 
 abbrev pub invariant-list-loop-state : goal.invariant-list-loop-state
-invariant-list-loop-state l =     Listing (image_found l.image l.starts l.counts) l.bound l.outermost l.looping l.condition (record { first = l.first; count = l.count }) l.budget l.initial.e l.e l.left l.base l.done l.frames l.top l.state
+invariant-list-loop-state l = Listing (image_found l.image l.starts l.counts) l.bound l.outermost l.looping l.condition (record { first = l.first; count = l.count }) l.budget l.initial.e l.e l.left l.base l.done l.frames l.top l.state
 
 abbrev pub decreases-list-loop-state : goal.decreases-list-loop-state
-decreases-list-loop-state l =     fuel l.left l.top l.state
+decreases-list-loop-state l = fuel l.left l.top l.state

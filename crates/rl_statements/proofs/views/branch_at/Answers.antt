@@ -1,5 +1,4 @@
 use Rattle.rl_statements.proofs.ViewLaws.{branch_late, branch_view}
-use Rattle.std.proofs.Common.{rules}
 use Rattle.rl_statements.proofs.views.branch_at.Goals as goal
 
 pub returns-then-limit-b : goal.returns-then-limit-b

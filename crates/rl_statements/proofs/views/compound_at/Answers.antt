@@ -1,5 +1,4 @@
 use Rattle.rl_statements.proofs.ViewLaws.{compound_view}
-use Rattle.std.proofs.Common.{rules}
 use Rattle.rl_statements.proofs.views.compound_at.Goals as goal
 
 pub returns : goal.returns

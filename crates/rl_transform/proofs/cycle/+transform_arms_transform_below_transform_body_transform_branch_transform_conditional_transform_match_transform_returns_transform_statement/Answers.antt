@@ -1,17 +1,11 @@
-use Prim.Native.Nat.{◌+◌, ◌-◌, ◌*◌, ◌≤◌, ℕ, ◌<◌}
-use mathlib.Core.Path.{◌≡◌, refl, ◌∙◌}
+use Prim.Native.Nat.{◌-◌}
+use mathlib.Core.Path.{refl, ◌∙◌}
 use mathlib.Core.Logic.{inl, inr}
 use native.Mathlib.Omega.{arith}
-use lib.ListN.{length}
-use Rattle.rl_spec.specs.Found.{image_found}
-use Rattle.rl_spec.specs.Lower.{transform_arm}
-use Rattle.rl_context.specs.Does.{at}
 use Rattle.rl_images.specs.Lowering.AddsLower.{adds_arm}
 use Rattle.rl_context.proofs.Copying.{kind_in}
-use Rattle.rl_context.specs.Guards.{clauses_in}
-use Rattle.rl_transform.specs.Transforms.{walk_below, Ready, ArmsIn}
-use Rattle.rl_transform.proofs.Loops.{Flat, flat_none, flat_more, flat_all, Each, each_none, each_more, each_all}
-use Rattle.rl_transform.proofs.Steps.{adds_walk, below_untouched, below_done, statement_full, statement_return, statement_alone, statement_conditional, statement_match, statement_loop, statement_kept, field_low, flag_low, place_fits, next_fits, body_done, branch_body, branch_list, branch_kept, branch_earlier, else_earlier, conditional_alone, conditional_both, arm_made, arms_in, match_done, kind_here, loop_list}
+use Rattle.rl_transform.proofs.Loops.{flat_more, flat_all, each_none, each_more, each_all}
+use Rattle.rl_transform.proofs.Steps.{adds_walk, below_untouched, statement_full, statement_return, statement_alone, statement_conditional, statement_match, statement_loop, statement_kept, field_low, flag_low, body_done, branch_body, branch_list, branch_kept, branch_earlier, else_earlier, conditional_alone, conditional_both, arm_made, arms_in, match_done, kind_here, loop_list}
 use Rattle.std.proofs.Common.{rules}
 use Rattle.rl_transform.proofs.cycle.+transform_arms_transform_below_transform_body_transform_branch_transform_conditional_transform_match_transform_returns_transform_statement.Goals as goal
 

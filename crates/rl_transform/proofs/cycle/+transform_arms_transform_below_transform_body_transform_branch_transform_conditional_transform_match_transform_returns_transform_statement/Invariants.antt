@@ -1,17 +1,12 @@
-use Prim.Native.Nat.{◌+◌, ◌-◌, ◌*◌, ◌≤◌, ℕ, ◌<◌}
-use mathlib.Core.Path.{◌≡◌, refl, ◌∙◌}
-use mathlib.Core.Logic.{inl, inr}
-use native.Mathlib.Omega.{arith}
+use Prim.Native.Nat.{◌+◌, ◌-◌, ◌*◌, ◌≤◌, ◌<◌}
+use mathlib.Core.Path.{◌≡◌}
 use lib.ListN.{length}
 use Rattle.rl_spec.specs.Found.{image_found}
 use Rattle.rl_spec.specs.Lower.{transform_arm}
 use Rattle.rl_context.specs.Does.{at}
-use Rattle.rl_images.specs.Lowering.AddsLower.{adds_arm}
-use Rattle.rl_context.proofs.Copying.{kind_in}
 use Rattle.rl_context.specs.Guards.{clauses_in}
 use Rattle.rl_transform.specs.Transforms.{walk_below, Ready, ArmsIn}
-use Rattle.rl_transform.proofs.Loops.{Flat, flat_none, flat_more, flat_all, Each, each_none, each_more, each_all}
-use Rattle.rl_transform.proofs.Steps.{adds_walk, below_untouched, below_done, statement_full, statement_return, statement_alone, statement_conditional, statement_match, statement_loop, statement_kept, field_low, flag_low, place_fits, next_fits, body_done, branch_body, branch_list, branch_kept, branch_earlier, else_earlier, conditional_alone, conditional_both, arm_made, arms_in, match_done, kind_here, loop_list}
+use Rattle.rl_transform.proofs.Loops.{Flat, Each}
 use Rattle.rl_transform.proofs.cycle.+transform_arms_transform_below_transform_body_transform_branch_transform_conditional_transform_match_transform_returns_transform_statement.Given as goal
 
 abbrev pub decreases-transform_arms : goal.decreases-transform_arms
@@ -39,15 +34,15 @@ abbrev pub decreases-transform_statement : goal.decreases-transform_statement
 decreases-transform_statement l = l.id * 6 + 5
 
 abbrev pub invariant-transform_arms-loop-i : goal.invariant-transform_arms-loop-i
-invariant-transform_arms-loop-i l =     (l.i ≤ l.count) × ((length l.scratch ≡ length l.initial.scratch) × ((length l.waiting ≡ length l.initial.waiting) × ((l.count < 65536) ×
+invariant-transform_arms-loop-i l = (l.i ≤ l.count) × ((length l.scratch ≡ length l.initial.scratch) × ((length l.waiting ≡ length l.initial.waiting) × ((l.count < 65536) ×
     (Ready l.image l.starts l.counts l.rows l.ensured → l.limit ≤ l.counts.statements → ArmsIn l.image l.starts l.counts l.first l.count → Each (image_found l.image l.starts l.counts) (transform_arm (walk_below (clauses_in (image_found l.image l.starts l.counts) l.ensured) l.limit)) l.first l.count (at l.initial.next l.initial.scratch l.initial.waiting) (at l.next l.scratch l.waiting) l.i))))
 
 abbrev pub decreases-transform_arms-loop-i : goal.decreases-transform_arms-loop-i
-decreases-transform_arms-loop-i l =     l.count - l.i
+decreases-transform_arms-loop-i l = l.count - l.i
 
 abbrev pub invariant-transform_returns-loop-i : goal.invariant-transform_returns-loop-i
-invariant-transform_returns-loop-i l =     (l.i ≤ l.count) × ((length l.scratch ≡ length l.initial.scratch) × ((length l.waiting ≡ length l.initial.waiting) ×
+invariant-transform_returns-loop-i l = (l.i ≤ l.count) × ((length l.scratch ≡ length l.initial.scratch) × ((length l.waiting ≡ length l.initial.waiting) ×
     (Ready l.image l.starts l.counts l.rows l.ensured → l.limit ≤ l.counts.statements → Flat (image_found l.image l.starts l.counts) (walk_below (clauses_in (image_found l.image l.starts l.counts) l.ensured) l.limit) l.first l.count (at l.initial.next l.initial.scratch l.initial.waiting) (at l.next l.scratch l.waiting) l.i)))
 
 abbrev pub decreases-transform_returns-loop-i : goal.decreases-transform_returns-loop-i
-decreases-transform_returns-loop-i l =     l.count - l.i
+decreases-transform_returns-loop-i l = l.count - l.i

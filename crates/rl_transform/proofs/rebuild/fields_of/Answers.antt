@@ -1,7 +1,6 @@
 use native.Mathlib.Omega.{arith}
-use Prim.Native.Nat.{◌+◌}
 use mathlib.Core.Path.{refl}
-use Rattle.rl_transform.proofs.Rebuilding.{Reading, reading_none, reading_index, reading_place, reading_more, reading_all}
+use Rattle.rl_transform.proofs.Rebuilding.{reading_none, reading_index, reading_place, reading_more, reading_all}
 use Rattle.std.proofs.Common.{rules}
 use Rattle.rl_transform.proofs.rebuild.fields_of.Goals as goal
 

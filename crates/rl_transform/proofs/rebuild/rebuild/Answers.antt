@@ -2,7 +2,6 @@ use mathlib.Core.Path.{◌∙◌}
 use Rattle.rl_schema.proofs.Rows.{row_codes}
 use Rattle.rl_context.proofs.Copying.{kind_in}
 use Rattle.rl_transform.proofs.Rebuilding.{makes_rebuilt}
-use Rattle.std.proofs.Common.{rules}
 use Rattle.rl_transform.proofs.rebuild.rebuild.Goals as goal
 
 pub returns : goal.returns
