@@ -277,7 +277,8 @@ pub fn assemble(
     if 65535 < image.len() {
         return Assembled::PastLimit;
     }
-    if 65535 < new_length(image, counts, ctx) {
+    let long = 65535 < new_length(image, counts, ctx);
+    if long {
         return Assembled::PastLimit;
     }
     let n = put_image(out, image, starts, counts, ctx, scratch, function, list);
