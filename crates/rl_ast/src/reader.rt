@@ -336,7 +336,8 @@ pub fn read_starts(image: &[u8], work: &mut [u16], starts: &mut [u16; 6144]) -> 
             place: 0,
         };
     }
-    if work.len() < 8192 {
+    let short = work.len() < 8192;
+    if short {
         return Answer::Refused {
             cause: Cause::WorkTooShort,
             place: 0,
