@@ -23,11 +23,10 @@ use Rattle.rl_spec.specs.declared.ConstVal.{ConstVal}
 use Rattle.rl_spec.specs.declared.ConstVal.TheVariants as kind
 use Rattle.rl_spec.specs.declared.ArithOp.{ArithOp}
 use Rattle.rl_spec.specs.declared.ArithOp.TheVariants.{Plus, Minus, Star, Slash}
-use Rattle.rl_spec.specs.declared.Folded.{Folded}
+use Rattle.rl_spec.specs.Answers.{Folded, Verdict}
 use Rattle.rl_spec.specs.declared.RefineOp.{RefineOp}
 use Rattle.rl_spec.specs.declared.RefineOp.TheVariants.{Gt, Ge, Lt, Le, Eq, Ne}
-use Rattle.rl_spec.specs.declared.Verdict.{Verdict}
-use Rattle.rl_spec.specs.declared.Verdict.TheVariants.{Yes, No, Unknown}
+use Rattle.std.specs.Prelude.{None, Some}
 
 pub never : {A : Type 0} → true ≡ false → A
 never p = absurd (subst T p tt)
@@ -145,12 +144,12 @@ nan_no (inf s) e = refl
 nan_no (fin s m x) e = refl
 
 module _ (op : RefineOp) (x y : Float) where
-  pub nan_left : F.ne x x ≡ true → verdict_of Unknown ≡ compare_floats (op_of op) x y
+  pub nan_left : F.ne x x ≡ true → verdict_of None ≡ compare_floats (op_of op) x y
   unfolding compare_floats
   nan_left p = rw (nan_yes x p) refl
 
   module _ (p : F.ne x x ≡ false) where
-    pub nan_right : F.ne y y ≡ true → verdict_of Unknown ≡ compare_floats (op_of op) x y
+    pub nan_right : F.ne y y ≡ true → verdict_of None ≡ compare_floats (op_of op) x y
     unfolding compare_floats
     nan_right q = rw (nan_no x p, nan_yes y q) refl
 
@@ -160,10 +159,10 @@ module _ (op : RefineOp) (x y : Float) where
 
 -- ---- truth values
 
-pub verdict_yes : (b : Bool) → b ≡ true → verdict_of Yes ≡ some b
+pub verdict_yes : (b : Bool) → b ≡ true → verdict_of (Some true) ≡ some b
 verdict_yes b e = rw e refl
 
-pub verdict_no : (b : Bool) → b ≡ false → verdict_of No ≡ some b
+pub verdict_no : (b : Bool) → b ≡ false → verdict_of (Some false) ≡ some b
 verdict_no b e = rw e refl
 
 module _ (op : RefineOp) (x y : Bool) where

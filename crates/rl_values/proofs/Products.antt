@@ -21,7 +21,7 @@ use Rattle.rl_spec.specs.Values.{int, checked, arith_ints, arith_floats, arith_v
 use Rattle.rl_spec.specs.Folded.{const_of, folded_of, arith_of}
 use Rattle.rl_spec.specs.declared.ConstVal.{ConstVal}
 use Rattle.rl_spec.specs.declared.ConstVal.TheVariants as kind
-use Rattle.rl_spec.specs.declared.Folded.{Folded}
+use Rattle.rl_spec.specs.Answers.{Folded}
 use Rattle.rl_spec.specs.declared.ArithOp.{ArithOp}
 use Rattle.rl_spec.specs.declared.ArithOp.TheVariants.{Plus, Minus, Star, Slash}
 use Rattle.rl_values.proofs.Laws.{never, past_none}

@@ -16,7 +16,7 @@ use mir.Facts.{to_z-of_z}
 use borrow.Author.Tests.{lt-ltb, le-ltb, leb-true, leb-false, ltb-true, ltb-false, eq-eqb, ne_eqb}
 use Rattle.rl_spec.specs.Values.{int, checked, arith_ints, slash, same_int}
 use Rattle.rl_spec.specs.Folded.{folded_of}
-use Rattle.rl_spec.specs.declared.Folded.{Folded}
+use Rattle.rl_spec.specs.Answers.{Folded}
 use Rattle.rl_values.proofs.Laws.{never, fits_some, past_none, neg_within}
 
 top_minus : (b : ℕ) → b < 2 ^ 63 → pos 9223372036854775807 -ℤ pos b ≡ pos (9223372036854775807 - b)
