@@ -4,7 +4,7 @@ ghost use Rattle.rl_spec.specs.Lowerer.{any_over};
 ghost use Rattle.rl_admission.specs.Lowering.{tall_in, lowering_admission};
 
 use crate::Admission;
-use rl_bytes::word_at;
+use rl_bytes::get_or;
 use rl_spec::{Cause, Counts};
 
 // Whether one of n heights from a place on is over a limit.
@@ -15,7 +15,7 @@ fn any_over(work: &[u16], from: u16, n: u16, most: u16) -> bool
     let count = n as usize;
     let mut i = 0;
     while i < count {
-        if most < word_at(work, first + i) {
+        if most < get_or(work, first + i, 0) {
             return true;
         }
         i += 1;

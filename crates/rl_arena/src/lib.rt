@@ -8,7 +8,7 @@ ghost use Rattle.rl_spec.specs.Image.{no_field, first, second, is_pair, field_in
 ghost use Rattle.rl_schema.specs.Codes.{codes};
 ghost use Rattle.rl_arena.specs.Find.{number_in, spot_of, lookup};
 
-use rl_bytes::{byte_at, second_u16, u16_at, u32_at, u64_at, word_at};
+use rl_bytes::{get_or, second_u16, u16_at, u32_at, u64_at};
 pub use rl_schema::entry_at;
 use rl_schema::{sort_of, width_of};
 use rl_spec::{ArenaNo, Counts, Id, Sort};
@@ -18,7 +18,7 @@ use rl_spec::{ArenaNo, Counts, Id, Sort};
 pub fn expression_start(starts: &[u16], n: u16) -> u16
     ensures { result ≡ get_or starts.now n 0 }
 {
-    word_at(starts, n as usize)
+    get_or(starts, n as usize, 0)
 }
 
 // The starts of the statements follow those of the expressions.
@@ -26,7 +26,7 @@ pub fn statement_start(starts: &[u16], counts: Counts, n: u16) -> u16
     ensures { result ≡ get_or starts.now (counts.expressions + n) 0 }
 {
     let first = counts.expressions as usize;
-    word_at(starts, first + (n as usize))
+    get_or(starts, first + (n as usize), 0)
 }
 
 // ---- what stands in a record
@@ -34,7 +34,7 @@ pub fn statement_start(starts: &[u16], counts: Counts, n: u16) -> u16
 pub fn kind_at(image: &[u8], at: u16) -> u8
     ensures { result ≡ (record_in image.now at).kind }
 {
-    byte_at(image, at as usize)
+    get_or(image, at as usize, 0)
 }
 
 // The span of an expression or a statement.
@@ -49,7 +49,7 @@ pub fn number_at(image: &[u8], at: usize, width: u8) -> u64
     ensures { result ≡ number_in image.now at width }
 {
     match width {
-        1 => byte_at(image, at) as u64,
+        1 => get_or(image, at, 0) as u64,
         2 => u16_at(image, at) as u64,
         4 => u32_at(image, at) as u64,
         8 => u64_at(image, at),

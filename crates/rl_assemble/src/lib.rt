@@ -10,7 +10,7 @@ ghost use Rattle.rl_assemble.specs.Written.{Written};
 ghost use Rattle.rl_assemble.specs.Pieces.{Puts, Source, new_counts, new_header, new_text, new_texts, new_lists, new_trees, new_rest, new_bytes, new_length, expressions_at, statements_at, body_at, both};
 ghost use Rattle.rl_assemble.specs.Pieces as pieces;
 
-use rl_bytes::{part, word_at};
+use rl_bytes::{get_or, part};
 use rl_context::Ctx;
 use rl_encode::put_number;
 use rl_records::{before, functions_at, parameters_at};
@@ -197,7 +197,7 @@ fn statements_at(image: &[u8], starts: &[u16], counts: Counts) -> usize
     if statements == 0 {
         return parameters_at(image, counts);
     }
-    word_at(starts, expressions) as usize
+    get_or(starts, expressions, 0) as usize
 }
 
 fn body_at(image: &[u8], counts: Counts, function: u16) -> usize

@@ -5,7 +5,7 @@ ghost use Rattle.rl_ast.specs.Lists.{lists_from};
 ghost use Rattle.rl_spec.specs.Schema.{limits, sections};
 ghost use Rattle.rl_spec.specs.Read.{counts_of, counts_from, header_of, seen_by, keep, out_of, records_from, sections_from, body_of, content_of, answer_of, work_of, starts_of};
 
-use rl_bytes::{byte_at, clear, is_past, put, u16_at, u32_at};
+use rl_bytes::{get_or, is_past, put, u16_at, u32_at};
 use rl_fields::record;
 use rl_schema::{count_in, schema_table, section_at};
 use rl_spec::{Answer, ArenaNo, Cause, Counts, Section, Step};
@@ -58,7 +58,7 @@ fn header(s: &[u8]) -> Step
             place: 0,
         };
     }
-    if byte_at(s, 0) == 1 {
+    if get_or(s, 0, 0) == 1 {
         if is_past(s, 1, 4) {
             return Step::Stop {
                 cause: Cause::BytesEnd,
@@ -328,8 +328,8 @@ pub fn read_starts(image: &[u8], work: &mut [u16], starts: &mut [u16; 6144]) -> 
     ensures work_after { work.new ≡ work_of image.now (length work.old) }
     ensures starts_after { starts.new ≡ starts_of image.now (length work.old) }
 {
-    clear(work);
-    clear(starts);
+    work.fill(0);
+    starts.fill(0);
     if 65535 < image.len() {
         return Answer::Refused {
             cause: Cause::ImageTooLong,
@@ -351,8 +351,8 @@ pub fn read_starts(image: &[u8], work: &mut [u16], starts: &mut [u16; 6144]) -> 
             counts: header_counts(image),
         },
         Step::Stop { cause, place } => {
-            clear(work);
-            clear(starts);
+            work.fill(0);
+            starts.fill(0);
             Answer::Refused { cause, place }
         }
     }

@@ -11,7 +11,7 @@ ghost use Rattle.rl_transform.specs.Transforms.{Ready};
 ghost use Rattle.rl_bodies.specs.Bodies.{Fresh, refined_in, desugared_in, entries_in, Waits, BodyFits, ends_bare, rest_in};
 
 use rl_arena::{kind_at, statement_start};
-use rl_bytes::{u16_at, word_at};
+use rl_bytes::{get_or, u16_at};
 use rl_context::{Ctx, MadeList};
 use rl_records::{entry_at, function_at};
 use rl_spec::{Counts, Interval};
@@ -61,7 +61,7 @@ fn push_first(other: &[u16], count: u32, waiting: &mut [u16], ctx: Ctx) -> Ctx
     let mut next = ctx;
     let mut i = 0;
     while i < count {
-        let n = word_at(other, i as usize);
+        let n = get_or(other, i as usize, 0);
         next = next.push(waiting, n);
         i += 1;
     }

@@ -3,8 +3,7 @@ ghost use Rattle.std.specs.Prelude.{◌≡◌, [], ◌∷◌};
 ghost use Rattle.rl_spec.specs.Words.{sort_word_of, payload_word_of};
 ghost use Rattle.rl_spec.specs.Boundary.{is_plain, is_value, are_values, count_of_words, arguments_of, outcome_words};
 
-use rl_bytes::long_at;
-use rl_memory::clear as clear_words;
+use rl_bytes::get_or;
 use rl_spec::{Argument, Arguments, Folded, Outcome, Plain, Value};
 use rl_words::{payload_word, sort_word, value_of_words, value_payload, value_sort};
 
@@ -12,9 +11,7 @@ use rl_words::{payload_word, sort_word, value_of_words, value_payload, value_sor
 pub fn put_value(value: &mut [u64; 2], v: Folded)
     ensures { value.new ≡ sort_word_of v ∷ payload_word_of v ∷ [] }
 {
-    clear_words(value);
-    value[0] = sort_word(v);
-    value[1] = payload_word(v);
+    *value = [sort_word(v), payload_word(v)];
 }
 
 fn is_plain(sort: u64, payload: u64) -> bool
@@ -77,7 +74,7 @@ pub fn arguments_of(words: &[u64]) -> Arguments
     let mut i: usize = 0;
     while i < 16 {
         values[i] = Argument {
-            value: value_of_words(long_at(words, i * 2), long_at(words, i * 2 + 1)),
+            value: value_of_words(get_or(words, i * 2, 0), get_or(words, i * 2 + 1, 0)),
         };
         i = i + 1;
     }
@@ -89,11 +86,7 @@ pub fn arguments_of(words: &[u64]) -> Arguments
 pub fn put_words(outcome: &mut [u64; 4], tag: u64, steps: u64, sort: u64, payload: u64)
     ensures { outcome.new ≡ tag ∷ steps ∷ sort ∷ payload ∷ [] }
 {
-    clear_words(outcome);
-    outcome[0] = tag;
-    outcome[1] = steps;
-    outcome[2] = sort;
-    outcome[3] = payload;
+    *outcome = [tag, steps, sort, payload];
 }
 
 pub fn put_outcome(outcome: &mut [u64; 4], o: Outcome, steps: u32)

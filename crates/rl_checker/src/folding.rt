@@ -6,7 +6,6 @@ ghost use Rattle.rl_fold.specs.Folding.{folded_at};
 
 use rl_arena::{Lookup, node_of};
 use rl_ast::read_starts;
-use rl_bytes::clear;
 use rl_fold::const_eval;
 use rl_spec::{Answer, Cause, Counts, FoldAnswer, Folded, Id};
 
@@ -33,14 +32,14 @@ pub fn fold(image: &[u8], work: &mut [u16], id: Id) -> FoldAnswer
             match found {
                 Lookup::Node(n) => FoldAnswer::Found(fold_node(image, &starts, counts, n)),
                 Lookup::OtherArena => {
-                    clear(work);
+                    work.fill(0);
                     FoldAnswer::Refused {
                         cause: Cause::OtherArena,
                         place: 0,
                     }
                 }
                 Lookup::NoSuchNode => {
-                    clear(work);
+                    work.fill(0);
                     FoldAnswer::Refused {
                         cause: Cause::NoSuchNode,
                         place: 0,

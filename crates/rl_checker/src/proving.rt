@@ -7,7 +7,6 @@ ghost use Rattle.rl_prover.specs.Reports.{kept_at};
 ghost use Rattle.rl_checker.specs.Entries.{ProvesOne, ProvesEach, ProvesAll, fitting_at};
 
 use rl_ast::read_starts;
-use rl_bytes::{clear, clear_entries};
 use rl_classes::text_classes;
 use rl_prover::{memory_size, prove_call};
 use rl_spec::{Answer, Cause, Counts, ProveAnswer};
@@ -86,8 +85,8 @@ fn fitted(work: &mut [u16], reports: &mut [u32], at: usize) -> ProveAnswer
     ensures work_after { work.new ≡ kept_at (length reports.old) at work.old }
 {
     if reports.len() < at {
-        clear_entries(reports);
-        clear(work);
+        reports.fill(0);
+        work.fill(0);
         return ProveAnswer::Refused {
             cause: Cause::ReportsTooShort,
             place: 0,
@@ -103,14 +102,14 @@ pub fn prove(image: &[u8], work: &mut [u16], call: u32, reports: &mut [u32]) -> 
     ensures work_after { work.new ≡ work_unless (prove_number (prove_of image.now (length work.old) call (length reports.old))) image.now (length work.old) }
 {
     let mut starts = [0u16; 6144];
-    clear_entries(reports);
+    reports.fill(0);
     let answer = read_starts(image, work, &mut starts);
     match answer {
         Answer::Refused { cause, place } => ProveAnswer::Refused { cause, place },
         Answer::Accepted { arena, counts } => {
             let calls = counts.calls as u32;
             if calls <= call {
-                clear(work);
+                work.fill(0);
                 return ProveAnswer::Refused {
                     cause: Cause::NoSuchCall,
                     place: 0,
@@ -150,7 +149,7 @@ pub fn prove_all(image: &[u8], work: &mut [u16], reports: &mut [u32]) -> ProveAn
     ensures work_after { work.new ≡ work_unless (prove_number (prove_all_of image.now (length work.old) (length reports.old))) image.now (length work.old) }
 {
     let mut starts = [0u16; 6144];
-    clear_entries(reports);
+    reports.fill(0);
     let answer = read_starts(image, work, &mut starts);
     match answer {
         Answer::Refused { cause, place } => ProveAnswer::Refused { cause, place },

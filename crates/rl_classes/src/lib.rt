@@ -12,7 +12,7 @@ ghost use Rattle.rl_names.specs.Names.{Classes};
 ghost use Rattle.rl_classes.specs.Classes.{ClassOfEach};
 ghost use Rattle.rl_classes.specs.Links.{mismatch, next_link, Linked, PlaceOf};
 
-use rl_bytes::{clear, least, long_at, part, put, put_long};
+use rl_bytes::{get_or, part, put};
 use rl_records::text_at;
 use rl_spec::Counts;
 use rl_text_order::{same_text, u64_be_at};
@@ -38,7 +38,7 @@ fn mismatch_bytes(a: &[u8], b: &[u8], at: usize) -> usize
 fn mismatch(a: &[u8], b: &[u8], at: usize) -> usize
     ensures { result ≡ mismatch a.now b.now at }
 {
-    let n = least(a.len(), b.len());
+    let n = a.len().min(b.len());
     let mut i = at;
     while i < n {
         if n - i < 8 {
@@ -98,7 +98,7 @@ fn find(image: &[u8], counts: Counts, links: &[u64], t: u16) -> Place
     }
     let mut u = 0;
     while u < t {
-        if long_at(links, u as usize) != link {
+        if get_or(links, u as usize, 0) != link {
             u += 1;
             continue;
         }
@@ -119,11 +119,11 @@ pub fn text_classes(image: &[u8], counts: Counts, links: &mut [u64], classes: &m
     ensures by_index { (p : List ℕ) → counts.texts ≤ length links.old → counts.texts ≤ length classes.old → ClassOfEach (text_of (image_found image.now p counts)) classes.new }
     ensures by_index_2 { (p : List ℕ) → counts.texts ≤ length links.old → counts.texts ≤ length classes.old → Classes (text_of (image_found image.now p counts)) classes.new }
 {
-    clear(classes);
+    classes.fill(0);
     let mut t = 0;
     while t < counts.texts {
         let place = find(image, counts, links, t);
-        put_long(links, t as usize, place.link);
+        put(links, t as usize, place.link);
         put(classes, t as usize, place.class);
         t += 1;
     }

@@ -9,7 +9,7 @@ ghost use Rattle.rl_spec.specs.Pages.{spaces, left, right, page_line, ended};
 ghost use Rattle.rl_columns.specs.Columns.{column_of};
 ghost use Rattle.rl_text_out.specs.Put.{after_text, with_text};
 
-use rl_bytes::{least, part};
+use rl_bytes::part;
 use rl_text::char_width;
 use rl_text_out::{put_number, put_text};
 
@@ -52,7 +52,7 @@ fn put_right(out: &mut [u8], at: usize, n: u64, columns: usize) -> usize
 {
     let mut digits = [0u8; 20];
     let count = put_number(&mut digits, 0, n);
-    let shown = least(count, columns);
+    let shown = count.min(columns);
     let start = put_left(out, at, b"", columns - shown);
     put_left(out, start, part(&digits, 0, count), shown)
 }

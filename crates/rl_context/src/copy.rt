@@ -14,7 +14,7 @@ ghost use Rattle.rl_context.specs.Copies.{plan_of, Fitting, Copies, CopiesField,
 
 use crate::{Ctx, Made};
 use rl_arena::{expression_start, is_pair, kind_at, number_at};
-use rl_bytes::{put_long, second_u16, u16_at};
+use rl_bytes::{put, second_u16, u16_at};
 use rl_records::entry_at;
 use rl_schema::{row_of, sort_of, width_of};
 use rl_spec::{Counts, Sort, Target};
@@ -192,7 +192,7 @@ pub fn deep_clone_expr(
             image, starts, counts, rows, id, code, place, scratch, waiting, now,
         );
         now = copied.ctx;
-        put_long(&mut words, j, copied.word);
+        put(&mut words, j, copied.word);
         place += width_of(sort_of(code));
         rest = rest / 256;
         j += 1;

@@ -23,7 +23,7 @@ ghost use Rattle.rl_context.specs.Does.{Does, nothing, at, Pushes, Listed};
 pub use copy::{deep_clone_expr, word_of};
 pub use nodes::{list_word, optional_word};
 pub use refinements::Predicate;
-use rl_bytes::{put, word_at};
+use rl_bytes::{get_or, put};
 use rl_encode::{put_number, put_record};
 use rl_spec::Interval;
 use rl_text_out::put_text;
@@ -77,7 +77,7 @@ fn put_entries(scratch: &mut [u8], waiting: &[u16], at: usize, first: usize, cou
 {
     let mut i = 0;
     while i < count {
-        let entry = word_at(waiting, first + i);
+        let entry = get_or(waiting, first + i, 0);
         put_number(scratch, at + i * 3, 3 + (entry as u64) * 256, 3);
         i += 1;
     }

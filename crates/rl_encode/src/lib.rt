@@ -6,7 +6,7 @@ ghost use Rattle.rl_spec.specs.Image.{bytes_of, encode_fields};
 ghost use Rattle.rl_schema.specs.Codes.{codes};
 ghost use Rattle.rl_encode.specs.Words.{word_fields, over};
 
-use rl_bytes::long_at;
+use rl_bytes::get_or;
 use rl_schema::{sort_of, width_of};
 
 // A number in `width` bytes, little-endian.
@@ -34,7 +34,7 @@ fn put_fields(out: &mut [u8], at: usize, row: u64, words: &[u64]) -> usize
     let mut j = 0;
     while rest != 0 {
         let width = width_of(sort_of((rest % 256) as u8));
-        put_number(out, place, long_at(words, j), width);
+        put_number(out, place, get_or(words, j, 0), width);
         place += width;
         rest = rest / 256;
         j += 1;

@@ -13,7 +13,7 @@ ghost use Rattle.rl_spec.specs.Fields.{unless, range_of, part_of, byte_in, opera
 
 use crate::lists::list_of;
 use crate::references::{refer_or_none, refer_to};
-use rl_bytes::{byte_at, byte_before, is_past, part, second_u16, u16_at, u32_at};
+use rl_bytes::{byte_before, get_or, is_past, part, second_u16, u16_at, u32_at};
 use rl_schema::{count_in, in_section, row_of, sort_of, tallest_in, width_of};
 use rl_spec::{Cause, Check, Counts, Section, Sort, Step, Target};
 
@@ -158,7 +158,7 @@ fn field(
     }
     match sort {
         Sort::Raw { width: _ } => Check::Holds { tall },
-        Sort::Byte { low, high } => byte_in(low, high, byte_at(s, at), tall),
+        Sort::Byte { low, high } => byte_in(low, high, get_or(s, at, 0), tall),
         Sort::Scalar => unless_value(rl_text::is_scalar(u32_at(s, at)), tall),
         Sort::Part => part_of(s, seen, u16_at(s, at), second_u16(s, at), tall),
         Sort::One { target } => refer_to(s, w, p, seen, own, target, u16_at(s, at), tall),
@@ -169,7 +169,7 @@ fn field(
             list_of(s, w, p, seen, own, first, count, left, right, step, tall)
         }
         Sort::Range { section } => range_of(seen, u16_at(s, at), second_u16(s, at), section, tall),
-        Sort::OperandSort => operand_sort(byte_before(s, at), byte_at(s, at), tall),
+        Sort::OperandSort => operand_sort(byte_before(s, at), get_or(s, at, 0), tall),
         Sort::Operand => operand(s, w, p, seen, own, byte_before(s, at), at, tall),
     }
 }

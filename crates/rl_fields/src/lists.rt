@@ -3,7 +3,6 @@ ghost use Rattle.std.specs.Prelude.{◌≡◌, ◌+◌, ◌*◌, ◌%◌, ◌≤
 ghost use Rattle.rl_spec.specs.Fields.{lists_at, entries_from, list_of};
 
 use crate::references::{child_height, is_allowed};
-use rl_bytes::{join16, larger};
 use rl_schema::entry_at;
 use rl_spec::{Cause, Check, Counts, Section, Target};
 
@@ -29,7 +28,7 @@ fn entries(
     while i < count {
         let n = entry_at(s, seen, (first as u32) + (i as u32));
         if is_allowed(s, p, seen, here, n) {
-            t = larger(t, child_height(w, seen, own, here, n));
+            t = t.max(child_height(w, seen, own, here, n));
         } else {
             return Check::Fails {
                 cause: Cause::BadReference,
@@ -63,9 +62,9 @@ fn node_entries(
     let mut i: u16 = 0;
     while i < count {
         let at = start + (i as usize) * 3;
-        let n = join16(s[at], s[at + 1]);
+        let n = u16::from_le_bytes([s[at], s[at + 1]]);
         if n < seen.expressions {
-            t = larger(t, w[n as usize]);
+            t = t.max(w[n as usize]);
         } else {
             return Check::Fails {
                 cause: Cause::BadReference,

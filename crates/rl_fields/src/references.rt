@@ -2,7 +2,7 @@
 ghost use Rattle.std.specs.Prelude.{◌≡◌, false, ◌+◌};
 ghost use Rattle.rl_spec.specs.Fields.{takes, within, kind_of_statement, allowed, child_height, refer_to, refer_or_none, node_height, statement_height};
 
-use rl_bytes::{byte_at, larger, word_at};
+use rl_bytes::get_or;
 use rl_spec::{Cause, Check, Counts, Section, Target};
 
 // Whether a reference may find a statement of this kind.
@@ -42,8 +42,8 @@ fn statement_kind(s: &[u8], p: &[u16], seen: Counts, n: u16) -> u8
     ensures { result ≡ kind_of_statement s.now p.now seen n }
 {
     let first = seen.expressions as usize;
-    let start = word_at(p, first + (n as usize));
-    byte_at(s, start as usize)
+    let start = get_or(p, first + (n as usize), 0);
+    get_or(s, start as usize, 0)
 }
 
 pub fn is_allowed(s: &[u8], p: &[u16], seen: Counts, target: Target, n: u16) -> bool
@@ -60,7 +60,7 @@ fn node_height(w: &[u16], target: Target, n: u16) -> u16
 {
     match target {
         Target::Text => 0,
-        Target::Expression => word_at(w, n as usize),
+        Target::Expression => get_or(w, n as usize, 0),
         Target::Statement => 0,
         Target::Branch => 0,
         Target::ElseBranch => 0,
@@ -75,10 +75,10 @@ fn statement_height(w: &[u16], from: u16, target: Target, n: u16) -> u16
     match target {
         Target::Text => 0,
         Target::Expression => 0,
-        Target::Statement => word_at(w, at),
-        Target::Branch => word_at(w, at),
-        Target::ElseBranch => word_at(w, at),
-        Target::Arm => word_at(w, at),
+        Target::Statement => get_or(w, at, 0),
+        Target::Branch => get_or(w, at, 0),
+        Target::ElseBranch => get_or(w, at, 0),
+        Target::Arm => get_or(w, at, 0),
     }
 }
 
@@ -111,7 +111,7 @@ pub fn refer_to(
     ensures { result ≡ refer_to s.now w.now p.now seen own target n tall }
 {
     if is_allowed(s, p, seen, target, n) {
-        let t = larger(tall, child_height(w, seen, own, target, n));
+        let t = tall.max(child_height(w, seen, own, target, n));
         return Check::Holds { tall: t };
     }
     Check::Fails {

@@ -8,7 +8,6 @@ ghost use Rattle.rl_prover.specs.Callees.{callee_in};
 ghost use Rattle.rl_lines.specs.Opened.{Known};
 ghost use Rattle.rl_lines.specs.Lines.{function_or, padded, lines_for, entries_for, ReportAt};
 
-use rl_bytes::{clear_bytes, clear_entries};
 use rl_line::{refused_line, report_line, report_message};
 use rl_prover::{Callee, find_callee, prove_call};
 use rl_records::call_at;
@@ -50,7 +49,7 @@ pub fn lines_with(
     ensures value { result ≡ lines_for (image_of image.now) call }
     ensures reports_after { reports.new ≡ entries_for (image_of image.now) call }
 {
-    clear_entries(reports);
+    reports.fill(0);
     let end = prove_call(
         image, starts, counts, classes, call, names, memory, reports, 0,
     );
@@ -122,7 +121,7 @@ pub fn put_line(
     ensures out_after { out.new ≡ padded 65536 (line_at (image_of image.now) lines.call number) }
 {
     let mut room = [0u8; 32800];
-    clear_bytes(out);
+    out.fill(0);
     if lines.count <= number {
         return 0;
     }
@@ -158,7 +157,7 @@ pub fn put_message(
     ensures out_after { out.new ≡ padded 65535 (message_at (image_of image.now) lines.call number) }
 {
     let mut room = [0u8; 32800];
-    clear_bytes(out);
+    out.fill(0);
     if lines.count <= number {
         return 0;
     }
@@ -179,6 +178,6 @@ pub fn put_refused(cause: Cause, place: usize, out: &mut [u8; 65536]) -> usize
     ensures value { result ≡ length (refused_line cause place) }
     ensures out_after { out.new ≡ padded 65536 (refused_line cause place) }
 {
-    clear_bytes(out);
+    out.fill(0);
     refused_line(cause, place, out)
 }

@@ -9,7 +9,6 @@ ghost use Rattle.rl_lines.specs.Lines.{padded};
 
 use crate::lines::{lines_of, put_message};
 use crate::opened::open;
-use rl_bytes::{clear, clear_bytes};
 use rl_spec::{Answer, Cause, Counts, MessageAnswer};
 
 fn message_in(
@@ -45,14 +44,14 @@ pub fn message(
 {
     let mut starts = [0u16; 6144];
     let mut classes = [0u16; 2048];
-    clear_bytes(out);
+    out.fill(0);
     let answer = open(image, work, &mut starts, &mut classes);
     match answer {
         Answer::Refused { cause, place } => MessageAnswer::Refused { cause, place },
         Answer::Accepted { arena, counts } => {
             let calls = counts.calls as u32;
             if calls <= call {
-                clear(work);
+                work.fill(0);
                 return MessageAnswer::Refused {
                     cause: Cause::NoSuchCall,
                     place: 0,

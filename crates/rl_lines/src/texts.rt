@@ -4,7 +4,6 @@ ghost use Rattle.rl_spec.specs.Fold.{work_unless};
 ghost use Rattle.rl_spec.specs.Texts.{text_for, text_number};
 
 use rl_ast::read_starts;
-use rl_bytes::clear;
 use rl_records::text_part;
 use rl_spec::{Answer, Cause, TextAnswer};
 
@@ -20,7 +19,7 @@ pub fn text(image: &[u8], work: &mut [u16], number: u32) -> TextAnswer
         Answer::Accepted { arena, counts } => {
             let texts = counts.texts as u32;
             if texts <= number {
-                clear(work);
+                work.fill(0);
                 return TextAnswer::Refused {
                     cause: Cause::NoSuchText,
                     place: 0,

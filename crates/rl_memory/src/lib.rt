@@ -4,7 +4,7 @@
 ghost use Rattle.std.specs.Prelude.{◌≡◌, ℕ, length, replicate};
 ghost use Rattle.rl_memory.specs.Memory.{recalled, recall_of, tag_word, remember_of, Right};
 
-use rl_bytes::long_at;
+use rl_bytes::get_or;
 use rl_spec::Folded;
 use rl_words::{payload_word, sort_word, words_value};
 
@@ -34,7 +34,7 @@ pub fn recall(memory: &[u64], count: u16, n: u16) -> Recalled
     ensures { result ≡ recall_of memory.now count n }
 {
     let at = (n as usize) * 2;
-    recalled_by(count, long_at(memory, at), long_at(memory, at + 1))
+    recalled_by(count, get_or(memory, at, 0), get_or(memory, at + 1, 0))
 }
 
 fn tag_word(count: u16, v: Folded) -> u64
@@ -62,12 +62,3 @@ pub fn remember(memory: &mut [u64], count: u16, n: u16, v: Folded) -> Folded
     v
 }
 
-pub fn clear(memory: &mut [u64])
-    ensures { memory.new ≡ replicate (length memory.old) 0 }
-{
-    let mut i = 0;
-    while i < memory.len() {
-        memory[i] = 0;
-        i += 1;
-    }
-}

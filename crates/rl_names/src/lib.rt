@@ -5,7 +5,7 @@ ghost use Rattle.std.specs.Prelude.{◌≡◌};
 ghost use Rattle.rl_spec.specs.Words.{sort_word_of, payload_word_of, words_value};
 ghost use Rattle.rl_names.specs.Names.{lookup_in, bind_in};
 
-use rl_bytes::{long_at, put_long, word_at};
+use rl_bytes::{get_or, put};
 use rl_spec::Folded;
 use rl_words::{payload_word, sort_word, words_value};
 
@@ -13,13 +13,13 @@ use rl_words::{payload_word, sort_word, words_value};
 pub fn lookup(classes: &[u16], names: &[u64], count: u16, t: u16) -> Folded
     ensures { result ≡ lookup_in classes.now names.now t count }
 {
-    let class = word_at(classes, t as usize);
+    let class = get_or(classes, t as usize, 0);
     let mut k = count as usize;
     while 0 < k {
         k -= 1;
-        let name = long_at(names, k * 3);
-        if word_at(classes, name as usize) == class {
-            return words_value(long_at(names, k * 3 + 1), long_at(names, k * 3 + 2));
+        let name = get_or(names, k * 3, 0);
+        if get_or(classes, name as usize, 0) == class {
+            return words_value(get_or(names, k * 3 + 1, 0), get_or(names, k * 3 + 2, 0));
         }
     }
     Folded::Nothing
@@ -31,7 +31,7 @@ pub fn bind_name(names: &mut [u64], k: u16, t: u16, v: Folded)
     ensures v_value { words_value (sort_word_of v) (payload_word_of v) ≡ v }
 {
     let at = (k as usize) * 3;
-    put_long(names, at, t as u64);
-    put_long(names, at + 1, sort_word(v));
-    put_long(names, at + 2, payload_word(v));
+    put(names, at, t as u64);
+    put(names, at + 1, sort_word(v));
+    put(names, at + 2, payload_word(v));
 }

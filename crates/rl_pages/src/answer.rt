@@ -10,7 +10,6 @@ ghost use Rattle.rl_pages.specs.Added.{Adds, answer_at};
 
 use crate::lines::{Placed, put_call};
 use crate::put::put_blanks;
-use rl_bytes::{clear, clear_bytes};
 use rl_lines::open;
 use rl_prover::memory_size;
 use rl_spec::{Answer, Cause, Counts, PagesAnswer};
@@ -83,8 +82,8 @@ fn answer_at(work: &mut [u16], pages: &mut [u8], at: usize) -> PagesAnswer
     ensures work_after { work.new ≡ kept_at (length pages.old) at work.old }
 {
     if pages.len() < at {
-        clear_bytes(pages);
-        clear(work);
+        pages.fill(0);
+        work.fill(0);
         return PagesAnswer::Refused {
             cause: Cause::PagesTooShort,
             place: 0,
@@ -101,7 +100,7 @@ pub fn pages(image: &[u8], work: &mut [u16], pages: &mut [u8]) -> PagesAnswer
 {
     let mut starts = [0u16; 6144];
     let mut classes = [0u16; 2048];
-    clear_bytes(pages);
+    pages.fill(0);
     let answer = open(image, work, &mut starts, &mut classes);
     match answer {
         Answer::Refused { cause, place } => PagesAnswer::Refused { cause, place },

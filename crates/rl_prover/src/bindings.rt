@@ -4,7 +4,6 @@ ghost use Rattle.rl_spec.specs.Found.{image_found};
 ghost use Rattle.rl_prover.specs.Passes.{forget_for, Binds, BindsAll};
 
 use rl_fold::const_eval;
-use rl_memory::clear;
 use rl_names::{bind_name, lookup};
 use rl_records::{entry_at, param_at};
 use rl_spec::{Counts, Folded, Interval};
@@ -15,7 +14,7 @@ fn forget_for(memory: &mut [u64], old: Folded)
     ensures { memory.new ≡ forget_for memory.old old }
 {
     match old {
-        Folded::Value(v) => clear(memory),
+        Folded::Value(v) => memory.fill(0),
         Folded::Nothing => {}
     }
 }
@@ -43,12 +42,6 @@ fn bind_value(
     }
 }
 
-pub fn smaller(a: u16, b: u16) -> u16
-    ensures { result ≡ min a b }
-{
-    if a < b { a } else { b }
-}
-
 // Folds each argument under the names bound so far, and binds its parameter. The memory is scratch: it stays right for the names, and what
 // else it holds then is left open.
 pub fn bind_arguments(
@@ -63,7 +56,7 @@ pub fn bind_arguments(
 ) -> u16
     ensures { BindsAll (image_found image.now starts.now counts) classes.now params args names.old memory.old names.new result memory.new }
 {
-    let most = smaller(params.count, args.count);
+    let most = params.count.min(args.count);
     let mut count: u16 = 0;
     let mut i: u16 = 0;
     while i < most {

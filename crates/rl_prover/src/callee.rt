@@ -7,7 +7,7 @@ ghost use Rattle.rl_spec.specs.FnContracts.{param_of, any_refined, is_callee, ca
 ghost use Rattle.rl_names.specs.Names.{Classes};
 ghost use Rattle.rl_prover.specs.Callees.{is_refined, recorded, callee_in};
 
-use rl_bytes::word_at;
+use rl_bytes::get_or;
 use rl_records::{function_at, param_at};
 use rl_spec::{Counts, Function, Interval, ParamRefinement};
 
@@ -58,7 +58,7 @@ fn is_callee(image: &[u8], counts: Counts, classes: &[u16], name: u16, f: u16) -
     ensures { (p : List ℕ) → Classes (text_of (image_found image.now p counts)) classes.now → result ≡ is_callee (image_found image.now p counts) (text_of (image_found image.now p counts) name) f }
 {
     let function = function_at(image, counts, f);
-    if word_at(classes, function.name as usize) != word_at(classes, name as usize) {
+    if get_or(classes, function.name as usize, 0) != get_or(classes, name as usize, 0) {
         return false;
     }
     record_fn_contracts(image, counts, function)

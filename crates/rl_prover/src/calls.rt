@@ -6,7 +6,6 @@ ghost use Rattle.rl_prover.specs.Calls.{ProvesCallee, ProvesCall};
 use crate::bindings::bind_arguments;
 use crate::callee::{Callee, find_callee};
 use crate::violations::{report_refinements, report_requires};
-use rl_memory::clear;
 use rl_records::{call_at, function_at};
 use rl_spec::{Counts, Interval};
 
@@ -40,7 +39,7 @@ fn prove_callee(
     let function = function_at(image, counts, f);
     let params = function.params;
     let required = function.required;
-    clear(memory);
+    memory.fill(0);
     let count = bind_arguments(image, starts, counts, classes, params, args, names, memory);
     let at = report_refinements(
         image, starts, counts, classes, names, count, memory, params, args, call, span, reports,

@@ -2,24 +2,17 @@
 ghost use Rattle.std.specs.Prelude.{◌≡◌, ◌<◌, ◌≤◌, ◌+◌, set};
 ghost use Rattle.rl_prover.specs.Reports.{put_four, put_violation, Reports};
 
+use rl_bytes::put;
 use rl_spec::Violation;
-
-fn put_entry(reports: &mut [u32], at: usize, x: u32)
-    ensures { reports.new ≡ set reports.old at x }
-{
-    if at < reports.len() {
-        reports[at] = x;
-    }
-}
 
 fn put_four(reports: &mut [u32], at: usize, call: u32, span: u32, kind: u32, number: u32)
     requires { at < 2251799813685248 }
     ensures { reports.new ≡ put_four reports.old at call span kind number }
 {
-    put_entry(reports, at, call);
-    put_entry(reports, at + 1, span);
-    put_entry(reports, at + 2, kind);
-    put_entry(reports, at + 3, number);
+    put(reports, at, call);
+    put(reports, at + 1, span);
+    put(reports, at + 2, kind);
+    put(reports, at + 3, number);
 }
 
 fn put_violation(reports: &mut [u32], at: usize, call: u32, span: u32, violation: Violation)

@@ -10,7 +10,6 @@ ghost use Rattle.rl_spec.specs.Prove.{is_no, is_false, refine_bound, refutes};
 ghost use Rattle.rl_fold.specs.Folding.{Names};
 ghost use Rattle.rl_prover.specs.Violations.{FailsRefinement, FailsClause, ReportsRefinements, ReportsRequires};
 
-use crate::bindings::smaller;
 use crate::reports::report_if;
 use rl_fold::{const_eval, value_text};
 use rl_names::lookup;
@@ -142,7 +141,7 @@ pub fn report_refinements(
     ensures reports_refinements { ReportsRefinements (image_found image.now starts.now counts) classes.now names.now count memory.old params args call span reports.old start memory.new reports.new result }
     ensures upper_bound { result ≤ start + 262140 }
 {
-    let most = smaller(params.count, args.count);
+    let most = params.count.min(args.count);
     let mut at = start;
     let mut i: u16 = 0;
     while i < most {

@@ -4,7 +4,7 @@ ghost use Rattle.rl_spec.specs.Records.{refine_op, refine_operand, refinement_by
 ghost use Rattle.rl_spec.specs.Found.{calls_at, functions_at, clauses_at, parameters_at, image_found};
 
 use crate::texts::{interval_at, optional_at};
-use rl_bytes::{byte_at, u16_at, u32_at, u64_at};
+use rl_bytes::{get_or, u16_at, u32_at, u64_at};
 use rl_spec::{
     Call, Clause, Counts, Function, Interval, Optional, Param, ParamRefinement, RefineOp,
     RefineOperand,
@@ -97,8 +97,8 @@ pub fn param_at(image: &[u8], counts: Counts, i: u32) -> Param
         };
     }
     let at = parameters_at(image, counts) + (i as usize) * 17 + 1;
-    let op = byte_at(image, at + 2 + 4);
-    let sort = byte_at(image, at + 2 + 4 + 1);
+    let op = get_or(image, at + 2 + 4, 0);
+    let sort = get_or(image, at + 2 + 4 + 1, 0);
     let refinement = refinement(op, sort, u64_at(image, at + 2 + 4 + 1 + 1));
     Param {
         name: u16_at(image, at),
@@ -150,7 +150,7 @@ pub fn function_at(image: &[u8], counts: Counts, i: u16) -> Function
         name: u16_at(image, at),
         span: u32_at(image, at + 2),
         params,
-        result: byte_at(image, at + 2 + 4 + 4) == 1,
+        result: get_or(image, at + 2 + 4 + 4, 0) == 1,
         body,
         required,
         ensured,

@@ -6,7 +6,7 @@ ghost use Rattle.rl_spec.specs.Tree.{is_res_path, call_form, form_by, form_of};
 ghost use Rattle.rl_spec.specs.Found.{image_found, record_as};
 
 use crate::texts::{entry_at, interval_at, text_at};
-use rl_bytes::{byte_at, u16_at, u32_at, u64_at, word_at};
+use rl_bytes::{get_or, u16_at, u32_at, u64_at};
 use rl_spec::{ConstVal, Counts, Folded, Form, Interval};
 use rl_text_order::same_text;
 use rl_words::{float32, float64, signed8, signed16, signed32, signed64, unsigned64};
@@ -62,28 +62,28 @@ fn form_in(image: &[u8], counts: Counts, start: u16) -> Form
     ensures { (p : List ℕ) → result ≡ form_by (image_found image.now p counts) (record_as image.now (slice_index image.now start) start) }
 {
     let at = (start as usize) + 1 + 4;
-    match byte_at(image, start as usize) {
+    match get_or(image, start as usize, 0) {
         16 => Form::Null,
         17 => literal(ConstVal::Int(signed64(u64_at(image, at)))),
         18 => literal(ConstVal::Int(signed32(u32_at(image, at)))),
         19 => Form::Literal(unsigned64(u64_at(image, at))),
         20 => literal(ConstVal::Int(u32_at(image, at) as i64)),
-        21 => literal(ConstVal::Int(byte_at(image, at) as i64)),
-        22 => literal(ConstVal::Int(signed8(byte_at(image, at)))),
+        21 => literal(ConstVal::Int(get_or(image, at, 0) as i64)),
+        22 => literal(ConstVal::Int(signed8(get_or(image, at, 0)))),
         23 => literal(ConstVal::Int(u16_at(image, at) as i64)),
         24 => literal(ConstVal::Int(signed16(u16_at(image, at)))),
         25 => literal(ConstVal::Str(u16_at(image, at))),
-        26 => literal(ConstVal::Bool(byte_at(image, at) == 1)),
+        26 => literal(ConstVal::Bool(get_or(image, at, 0) == 1)),
         27 => literal(ConstVal::Float(float64(u64_at(image, at)))),
         28 => literal(ConstVal::Float(float32(u32_at(image, at)))),
         30 => Form::Identifier(u16_at(image, at)),
         32 => Form::Binary {
             left: u16_at(image, at),
-            operator: byte_at(image, at + 2),
+            operator: get_or(image, at + 2, 0),
             right: u16_at(image, at + 2 + 1),
         },
         33 => Form::Unary {
-            operator: byte_at(image, at),
+            operator: get_or(image, at, 0),
             operand: u16_at(image, at + 1),
         },
         34 => Form::Grouping(u16_at(image, at)),
@@ -110,5 +110,5 @@ pub fn form_at(image: &[u8], starts: &[u16], counts: Counts, n: u16) -> Form
     if counts.expressions <= n {
         return Form::Other;
     }
-    form_in(image, counts, word_at(starts, n as usize))
+    form_in(image, counts, get_or(starts, n as usize, 0))
 }

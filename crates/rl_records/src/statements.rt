@@ -4,7 +4,7 @@ ghost use Rattle.rl_spec.specs.Statement.{statement_by, statement_of};
 ghost use Rattle.rl_spec.specs.Found.{image_found, record_as};
 
 use crate::texts::{interval_at, optional_at};
-use rl_bytes::{byte_at, u16_at, word_at};
+use rl_bytes::{get_or, u16_at};
 use rl_spec::{Counts, StatementForm};
 
 // The form of the record at a place. Its fields stand behind the kind and the span.
@@ -12,7 +12,7 @@ fn statement_in(image: &[u8], start: u16) -> StatementForm
     ensures { result ≡ statement_by (record_as image.now (slice_index image.now start) start) }
 {
     let at = (start as usize) + 1 + 4;
-    match byte_at(image, start as usize) {
+    match get_or(image, start as usize, 0) {
         64 => StatementForm::Declaration {
             name: u16_at(image, at),
             value: u16_at(image, at + 2 + 4),
@@ -47,5 +47,5 @@ pub fn statement_at(image: &[u8], starts: &[u16], counts: Counts, n: u16) -> Sta
         return StatementForm::Other;
     }
     let i = (counts.expressions as usize) + (n as usize);
-    statement_in(image, word_at(starts, i))
+    statement_in(image, get_or(starts, i, 0))
 }

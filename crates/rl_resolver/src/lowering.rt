@@ -13,7 +13,6 @@ use rl_admission::{Admission, admit_lowering};
 use rl_assemble::{Assembled, assemble};
 use rl_ast::read_starts;
 use rl_bodies::new_body;
-use rl_bytes::{clear, clear_bytes};
 use rl_context::Ctx;
 use rl_prover::any_refined;
 use rl_records::function_at;
@@ -124,7 +123,7 @@ pub fn lower(image: &[u8], work: &mut [u16], function: u32, out: &mut [u8]) -> L
     ensures out_after { out.new ≡ lower_out (length out.old) (lower_of image.now (length work.old) function (length out.old)) }
     ensures work_after { work.new ≡ work_unless (lower_number (lower_of image.now (length work.old) function (length out.old))) image.now (length work.old) }
 {
-    clear_bytes(out);
+    out.fill(0);
     let mut starts = [0u16; 6144];
     let answer = read_starts(image, work, &mut starts);
     match answer {
@@ -133,7 +132,7 @@ pub fn lower(image: &[u8], work: &mut [u16], function: u32, out: &mut [u8]) -> L
             let check = admit_lowering(work, counts, function, out.len());
             match check {
                 Admission::Refused(cause) => {
-                    clear(work);
+                    work.fill(0);
                     LowerAnswer::Refused { cause, place: 0 }
                 }
                 Admission::Admitted => {
@@ -141,7 +140,7 @@ pub fn lower(image: &[u8], work: &mut [u16], function: u32, out: &mut [u8]) -> L
                     match put {
                         Assembled::Length(n) => LowerAnswer::Lowered(n as u32),
                         Assembled::PastLimit => {
-                            clear(work);
+                            work.fill(0);
                             LowerAnswer::Refused {
                                 cause: Cause::LimitPassed,
                                 place: 0,

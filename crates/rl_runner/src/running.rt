@@ -10,7 +10,6 @@ ghost use Rattle.rl_runner.specs.Ends.{outcome_after};
 use crate::bound::bind_all;
 use rl_admission::{Admission, admit_run};
 use rl_ast::read_starts;
-use rl_bytes::clear;
 use rl_classes::text_classes;
 use rl_machine::Flow;
 use rl_records::function_at;
@@ -93,7 +92,7 @@ pub fn run(
             let check = admit_run(image, counts, function, arguments, budget);
             match check {
                 Admission::Refused(cause) => {
-                    clear(work);
+                    work.fill(0);
                     RunAnswer::Refused { cause, place: 0 }
                 }
                 Admission::Admitted => run_function(

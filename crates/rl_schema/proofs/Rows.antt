@@ -16,7 +16,7 @@ use Rattle.rl_spec.specs.Bytes.{u16_at}
 use Rattle.rl_spec.specs.Fields.{entry_at}
 use Rattle.rl_spec.specs.Schema.{Row, schema, fields_in, fields_of, in_section, lowest, highest, sections}
 use Rattle.rl_laws.specs.Tests.{by_ltb}
-use Rattle.rl_bytes.proofs.Laws.{get_or_past}
+use Rattle.std.proofs.lemmas.List.{get_or_past}
 use Rattle.rl_schema.specs.Codes.{codes_in, codes, table}
 use Rattle.rl_schema.proofs.Table.{at}
 
@@ -95,7 +95,7 @@ table_rows = refl
 pub row_codes : (rows : List ℕ) (k r : ℕ) → rows ≡ table → r ≡ get_or rows k 0 → codes r ≡ fields_of k
 row_codes rows k r e f =
     ap codes (f ∙ ap (λ (l : List ℕ). get_or l k 0) e)
-    ∙ by_ltb k 84 (λ h. row_below k h) (λ h. ap codes (sym (get_or_past table k (omega (arith, table_rows)))) ∙ row_none k h)
+    ∙ by_ltb k 84 (λ h. row_below k h) (λ h. ap codes (get_or_past table k 0 (omega (arith, table_rows))) ∙ row_none k h)
 
 -- ---- sections
 

@@ -11,7 +11,7 @@ ghost use Rattle.rl_statements.specs.Lists.{list_run, branch_run, otherwise_run,
 
 use crate::types::{Binding, BranchForm, CompoundForm, ElseForm, Env, Ran, Turn, Waiting};
 use crate::views::{branch_at, compound_at, else_at};
-use rl_bytes::word_at;
+use rl_bytes::get_or;
 use rl_machine::{Flow, Frame, State, begun, condition_first, entered, followed, resumed};
 use rl_records::entry_at;
 use rl_spec::{Counts, Interval, Optional, Outcome, Value};
@@ -28,16 +28,10 @@ pub fn binding(name: u16, v: Value) -> Binding
     }
 }
 
-fn smaller(a: usize, b: usize) -> usize
-    ensures { result ≡ min a b }
-{
-    if a < b { a } else { b }
-}
-
 fn class_of(classes: &[u16], t: u16) -> u16
     ensures { result ≡ get_or classes.now t 0 }
 {
-    word_at(classes, t as usize)
+    get_or(classes, t as usize, 0)
 }
 
 // Whether the statement that is begun is the body's last.
@@ -225,7 +219,7 @@ pub fn list(
             }
             State::Ends(f) => {
                 let n = e.len;
-                e.len = smaller(base, n);
+                e.len = base.min(n);
                 let turn = turn_after(looping, f);
                 match turn {
                     Turn::Finish(g) => {

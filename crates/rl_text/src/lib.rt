@@ -98,12 +98,6 @@ pub fn char_width(s: &[u8], at: usize) -> usize
     0
 }
 
-fn higher(a: u8, b: u8) -> u8
-    ensures { result ≡ max a b }
-{
-    if a < b { b } else { a }
-}
-
 // The highest octet of a text. The compiler makes many octets a step of it.
 fn highest(s: &[u8]) -> u8
     ensures { result ≡ highest_of s.now (length s.now) }
@@ -111,7 +105,7 @@ fn highest(s: &[u8]) -> u8
     let mut m = 0;
     let mut i = 0;
     while i < s.len() {
-        m = higher(m, s[i]);
+        m = m.max(s[i]);
         i += 1;
     }
     m

@@ -5,7 +5,6 @@ ghost use Rattle.std.specs.Prelude.{◌≡◌, ◌+◌, ◌*◌, ◌≤◌, leng
 ghost use Rattle.rl_laws.specs.Words.{Word};
 ghost use Rattle.rl_spec.specs.Values.{same_text, less_text};
 
-use rl_bytes::least;
 
 // Whether two texts are the same, byte by byte.
 pub fn same_bytes(a: &[u8], b: &[u8]) -> bool
@@ -102,7 +101,7 @@ pub fn less_text(a: &[u8], b: &[u8]) -> bool
     if a.len() < 8 {
         return less_bytes(a, b);
     }
-    let n = least(a.len(), b.len());
+    let n = a.len().min(b.len());
     let mut i = 0;
     while 8 <= n - i {
         let x = u64_be_at(a, i);

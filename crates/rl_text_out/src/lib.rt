@@ -7,7 +7,6 @@ ghost use Rattle.std.proofs.Math.Seq.{paste};
 ghost use Rattle.rl_spec.specs.Message.{decimal};
 ghost use Rattle.rl_text_out.specs.Put.{with_text, after_text};
 
-use rl_bytes::least;
 
 fn copy(out: &mut [u8], at: usize, text: &[u8], n: usize)
     requires n_in_bounds { at + n ≤ length out.old }
@@ -28,7 +27,7 @@ pub fn put_text(out: &mut [u8], at: usize, text: &[u8]) -> usize
     if out.len() <= at {
         return at;
     }
-    let n = least(text.len(), out.len() - at);
+    let n = text.len().min(out.len() - at);
     copy(out, at, text, n);
     at + n
 }

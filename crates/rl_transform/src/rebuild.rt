@@ -12,7 +12,7 @@ ghost use Rattle.rl_context.specs.Guards.{Makes};
 ghost use Rattle.rl_transform.specs.Transforms.{list_field, list_place, flag_field, rebuilt};
 
 use rl_arena::{kind_at, statement_start};
-use rl_bytes::put_long;
+use rl_bytes::put;
 use rl_context::{Ctx, Made, optional_word, word_of};
 use rl_schema::{row_of, sort_of, width_of};
 use rl_spec::{Counts, Optional};
@@ -28,7 +28,7 @@ fn fields_of(image: &[u8], row: u64, start: u16) -> [u64; 8]
     let mut j = 0;
     while rest != 0 {
         let code = (rest % 256) as u8;
-        put_long(&mut words, j, word_of(image, code, place));
+        put(&mut words, j, word_of(image, code, place));
         place += width_of(sort_of(code));
         rest = rest / 256;
         j += 1;
@@ -55,8 +55,8 @@ pub fn rebuild(
     let kind = kind_at(image, start);
     let row = row_of(rows, kind);
     let mut words = fields_of(image, row, start);
-    put_long(&mut words, j as usize, word);
-    put_long(&mut words, k as usize, other);
+    put(&mut words, j as usize, word);
+    put(&mut words, k as usize, other);
     ctx.new_statement(scratch, kind, row, &words)
 }
 

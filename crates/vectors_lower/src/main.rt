@@ -3,7 +3,7 @@
 #![tactic(auto)]
 
 use rl_abi::rl_lower;
-use rl_bytes::{byte_at, is_past, part, u32_at};
+use rl_bytes::{get_or, is_past, part, u32_at};
 use rl_streams::{read_full, write_all};
 use rl_text_out::{put_number, put_text};
 
@@ -12,7 +12,7 @@ fn write_front(rt: &impl Print, line: &[u8; 64], n: usize) {
 }
 
 fn digit(n: u8) -> u8 {
-    byte_at(b"0123456789abcdef", n as usize)
+    get_or(b"0123456789abcdef", n as usize, 0)
 }
 
 fn write_byte(rt: &impl Print, byte: u8) {

@@ -2,7 +2,7 @@
 // image; for each a line is written: the refusal's number and place, or `0 0` and the heights.
 #![tactic(auto)]
 
-use rl_bytes::{is_past, part, u32_at, word_at};
+use rl_bytes::{get_or, is_past, part, u32_at};
 use rl_numbers::number_of;
 use rl_spec::{Answer, Cause, Counts};
 use rl_streams::{read_full, write_all};
@@ -44,7 +44,7 @@ fn put_heights(out: &mut [u8], start: usize, work: &[u16], first: u16, count: u1
     let mut at = start;
     let mut i: u16 = 0;
     while i < count {
-        let height = word_at(work, (first as usize) + (i as usize));
+        let height = get_or(work, (first as usize) + (i as usize), 0);
         at = put_height(out, at, height);
         i += 1;
     }

@@ -3,7 +3,7 @@
 #![tactic(auto)]
 
 use rl_abi::rl_run;
-use rl_bytes::{is_past, long_at, part, put_long, u32_at, u64_at};
+use rl_bytes::{get_or, is_past, part, put, u32_at, u64_at};
 use rl_streams::{read_full, write_all};
 use rl_text_out::{put_number, put_text};
 
@@ -14,18 +14,18 @@ fn write_line(rt: &impl Print, line: &[u8; 128], n: usize) {
 // NAME SORT PAYLOAD steps N
 fn put_value(name: &[u8], outcome: &[u64; 4], line: &mut [u8]) -> usize {
     let mut at = put_text(line, 0, name);
-    at = put_number(line, at, long_at(outcome, 2));
+    at = put_number(line, at, get_or(outcome, 2, 0));
     at = put_text(line, at, b" ");
-    put_number(line, at, long_at(outcome, 3))
+    put_number(line, at, get_or(outcome, 3, 0))
 }
 
 fn put_outcome(outcome: &[u64; 4], line: &mut [u8]) -> usize {
-    match long_at(outcome, 0) {
+    match get_or(outcome, 0, 0) {
         1 => put_value(b"returned ", outcome, line),
         2 => put_value(b"stopped ", outcome, line),
         3 => {
             let at = put_text(line, 0, b"fault ");
-            put_number(line, at, long_at(outcome, 2))
+            put_number(line, at, get_or(outcome, 2, 0))
         }
         _ => put_text(line, 0, b"spent"),
     }
@@ -44,7 +44,7 @@ fn write_outcome(rt: &impl Print, answer: u64, outcome: &[u64; 4]) {
     }
     let mut at = put_outcome(outcome, &mut line);
     at = put_text(&mut line, at, b" steps ");
-    at = put_number(&mut line, at, long_at(outcome, 1));
+    at = put_number(&mut line, at, get_or(outcome, 1, 0));
     at = put_text(&mut line, at, b"\n");
     write_line(rt, &line, at);
 }
@@ -53,7 +53,7 @@ fn write_outcome(rt: &impl Print, answer: u64, outcome: &[u64; 4]) {
 fn read_words(bytes: &[u8], words: &mut [u64]) {
     let mut i: usize = 0;
     while i < 64 {
-        put_long(words, i, u64_at(bytes, i * 8));
+        put(words, i, u64_at(bytes, i * 8));
         i += 1;
     }
 }

@@ -11,14 +11,14 @@ returns-then-text-eq0 c = search (laws, rules)
 pub loop-u-init : goal.loop-u-init
 loop-u-init c = find_start _ _ _ _ _ c.text_at-text.ensures c.if-text-eq0.false
 
-pub loop-u-preserved-then-long_at-link : goal.loop-u-preserved-then-long_at-link
-loop-u-preserved-then-long_at-link c = find_past _ _ _ _ _ _ c.loop-u.invariant c.loop-u-test.true _ c.long_at.ensures c.if-long_at-link.true
+pub loop-u-preserved-then-get_or-link : goal.loop-u-preserved-then-get_or-link
+loop-u-preserved-then-get_or-link c = find_past _ _ _ _ _ _ c.loop-u.invariant c.loop-u-test.true _ c.get_or.ensures c.if-get_or-link.true
 
 pub returns-then-is_same : goal.returns-then-is_same
 returns-then-is_same c = search (laws, rules)
 
 pub loop-u-preserved : goal.loop-u-preserved
-loop-u-preserved c = find_more _ _ _ _ _ _ c.loop-u.invariant c.loop-u-test.true _ _ c.text_at-text.ensures c.text_at-other.ensures _ c.is_same.ensures c.if-is_same.false _ c.long_at.ensures c.if-long_at-link.false _ c.next_link-link.ensures
+loop-u-preserved c = find_more _ _ _ _ _ _ c.loop-u.invariant c.loop-u-test.true _ _ c.text_at-text.ensures c.text_at-other.ensures _ c.is_same.ensures c.if-is_same.false _ c.get_or.ensures c.if-get_or-link.false _ c.next_link-link.ensures
 
 pub returns : goal.returns
 returns c = search (laws, rules)

@@ -6,7 +6,7 @@ use Rattle.rl_classes.proofs.text_classes.Goals as goal
 ruleset laws = (classed_start, classed_more, classed_end, classed_tell)
 
 pub loop-t-preserved : goal.loop-t-preserved
-loop-t-preserved c = classed_more _ _ _ _ _ _ _ c.loop-t.invariant c.loop-t-test.true _ _ c.find-place.ensures _ _ c.put_long.ensures c.put.ensures
+loop-t-preserved c = classed_more _ _ _ _ _ _ _ c.loop-t.invariant c.loop-t-test.true _ _ c.find-place.ensures _ _ c.put.ensures c.put.ensures
 
 pub returns-clause-by_index : goal.returns-clause-by_index
 returns-clause-by_index c = search (laws, rules)

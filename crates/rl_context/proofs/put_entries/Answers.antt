@@ -9,4 +9,4 @@ loop-i-init c = search (laws, rules)
 
 pub loop-i-preserved : goal.loop-i-preserved
 loop-i-preserved c =
-    entering_more _ _ _ _ _ _ _ c.loop-i.invariant _ _ c.loop-i-test.true c.word_at-entry.type_inv c.word_at-entry.ensures c.put_number.ensures
+    entering_more _ _ _ _ _ _ _ c.loop-i.invariant _ _ c.loop-i-test.true c.get_or-entry.type_inv c.get_or-entry.ensures c.put_number.ensures

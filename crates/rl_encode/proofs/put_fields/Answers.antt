@@ -12,7 +12,7 @@ put_number-requires c = recording_room _ _ _ _ _ _ _ _ c.loop-rest.invariant (se
 
 pub loop-rest-preserved : goal.loop-rest-preserved
 loop-rest-preserved c = recording_more _ _ _ _ _ _ _ _ c.loop-rest.invariant (search rules) _ _ c.sort_of.ensures c.width_of-width.ensures _ _
-    c.long_at.ensures c.put_number.ensures
+    c.get_or.ensures c.put_number.ensures
 
 pub returns-clause-value : goal.returns-clause-value
 returns-clause-value c = search (laws, rules)

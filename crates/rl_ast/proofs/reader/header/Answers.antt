@@ -10,8 +10,8 @@ returns-then-is_past c = search (laws, rules)
 pub returns-then-is_past-2 : goal.returns-then-is_past-2
 returns-then-is_past-2 c = search (laws, rules)
 
-pub returns-then-byte_at-eq1 : goal.returns-then-byte_at-eq1
-returns-then-byte_at-eq1 c = search (laws, rules)
+pub returns-then-get_or-eq1 : goal.returns-then-get_or-eq1
+returns-then-get_or-eq1 c = search (laws, rules)
 
 pub returns : goal.returns
 returns c = search (laws, rules)

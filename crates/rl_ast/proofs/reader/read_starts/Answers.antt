@@ -7,21 +7,21 @@ use Rattle.rl_ast.proofs.reader.read_starts.Goals as goal
 
 pub returns-then-image-gt65535 : goal.returns-then-image-gt65535
 returns-then-image-gt65535 c = let whole = let z : length c.args.starts.now ≡ 6144 = search rules in
-    read_long _ _ c.if-image-gt65535.true _ _ c.clear.ensures (cleared c.args.starts.now _ _ c.clear-2.ensures z) in record { value = whole.0; work_after = whole.1.0; starts_after = whole.1.1 }
+    read_long _ _ c.if-image-gt65535.true _ _ (c.fill.ensures.after (λ y e. e)) (cleared c.args.starts.now _ _ (c.fill-2.ensures.after (λ y e. e)) z) in record { value = whole.0; work_after = whole.1.0; starts_after = whole.1.1 }
 
 pub returns-then-short : goal.returns-then-short
 returns-then-short c = let whole = let z : length c.args.starts.now ≡ 6144 = search rules in
-    read_short _ _ c.if-image-gt65535.false (omega (arith, c.clear.auto.w)) _ _ c.clear.ensures
-    (cleared c.args.starts.now _ _ c.clear-2.ensures z) in record { value = whole.0; work_after = whole.1.0; starts_after = whole.1.1 }
+    read_short _ _ c.if-image-gt65535.false (omega (arith, c.fill.auto.self)) _ _ (c.fill.ensures.after (λ y e. e))
+    (cleared c.args.starts.now _ _ (c.fill-2.ensures.after (λ y e. e)) z) in record { value = whole.0; work_after = whole.1.0; starts_after = whole.1.1 }
 
 pub returns-in-Next : goal.returns-in-Next
 returns-in-Next c = let whole = let z : length c.args.starts.now ≡ 6144 = search rules in
-    read_good _ _ c.if-image-gt65535.false (omega (arith, c.clear.auto.w)) _ _ _ _ _ c.clear.ensures
-    (cleared c.args.starts.now _ _ c.clear-2.ensures z) c.content-all.ensures _ _ c.in-Next.is _ c.u32_at.ensures _ c.header_counts.ensures in record { value = whole.0; work_after = whole.1.0; starts_after = whole.1.1 }
+    read_good _ _ c.if-image-gt65535.false (omega (arith, c.fill.auto.self)) _ _ _ _ _ (c.fill.ensures.after (λ y e. e))
+    (cleared c.args.starts.now _ _ (c.fill-2.ensures.after (λ y e. e)) z) c.content-all.ensures _ _ c.in-Next.is _ c.u32_at.ensures _ c.header_counts.ensures in record { value = whole.0; work_after = whole.1.0; starts_after = whole.1.1 }
 
 pub returns-in-Stop : goal.returns-in-Stop
 returns-in-Stop c = let whole = let z : length c.args.starts.now ≡ 6144 = search rules in
-    read_stop _ _ c.if-image-gt65535.false (omega (arith, c.clear.auto.w)) _ _ _ _ _ c.clear.ensures
-    (cleared c.args.starts.now _ _ c.clear-2.ensures z) c.content-all.ensures _ _ c.in-Stop.is _ _
-    (cleared c.content-all.new.w _ _ c.clear-in-Stop.ensures (c.content-all.auto.w ∙ c.clear.auto.w))
-    (cleared c.content-all.new.p _ _ c.clear-in-Stop-2.ensures (c.content-all.auto.p ∙ c.clear-2.auto.w ∙ z)) in record { value = whole.0; work_after = whole.1.0; starts_after = whole.1.1 }
+    read_stop _ _ c.if-image-gt65535.false (omega (arith, c.fill.auto.self)) _ _ _ _ _ (c.fill.ensures.after (λ y e. e))
+    (cleared c.args.starts.now _ _ (c.fill-2.ensures.after (λ y e. e)) z) c.content-all.ensures _ _ c.in-Stop.is _ _
+    (cleared c.content-all.new.w _ _ (c.fill-in-Stop.ensures.after (λ y e. e)) (c.content-all.auto.w ∙ c.fill.auto.self))
+    (cleared c.content-all.new.p _ _ (c.fill-in-Stop-2.ensures.after (λ y e. e)) (c.content-all.auto.p ∙ c.fill-2.auto.self ∙ z)) in record { value = whole.0; work_after = whole.1.0; starts_after = whole.1.1 }

@@ -13,7 +13,7 @@ loop-i-preserved c = (
   search rules,
   (
     search rules,
-    λ im s h. first_more _ _ _ _ _ (c.loop-i.invariant.1.1 im s h) _ _ _ c.loop-i-test.true h c.word_at-n.ensures (c.push-next.ensures s),
+    λ im s h. first_more _ _ _ _ _ (c.loop-i.invariant.1.1 im s h) _ _ _ c.loop-i-test.true h c.get_or-n.ensures (c.push-next.ensures s),
   ),
 )
 

@@ -12,7 +12,7 @@ pub loop-i-init : goal.loop-i-init
 loop-i-init c = (omega arith, (refl, none_yet c.args.words.now))
 
 pub loop-i-preserved : goal.loop-i-preserved
-loop-i-preserved c = (omega arith, (length-set c.loop-i.values c.loop-i.i (record { value = c.value_of_words.result }) ∙ c.loop-i.invariant.1.0, argument_next c.args.words.now _ _ c.loop-i.invariant.1.0 (omega arith) c.loop-i.invariant.1.1 _ _ _ c.long_at.ensures c.long_at-in-loop-i.ensures c.value_of_words.ensures))
+loop-i-preserved c = (omega arith, (length-set c.loop-i.values c.loop-i.i (record { value = c.value_of_words.result }) ∙ c.loop-i.invariant.1.0, argument_next c.args.words.now _ _ c.loop-i.invariant.1.0 (omega arith) c.loop-i.invariant.1.1 _ _ _ c.get_or.ensures c.get_or-in-loop-i.ensures c.value_of_words.ensures))
 
 pub returns : goal.returns
 returns c = search (laws, rules)

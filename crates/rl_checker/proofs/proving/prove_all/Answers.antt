@@ -17,14 +17,14 @@ returns-in-Refused-clause-work_after c = search (laws, rules)
 pub returns-in-Accepted-clause-value : goal.returns-in-Accepted-clause-value
 returns-in-Accepted-clause-value c = let k = length c.args.work.now in
     let room = length c.args.reports.now in
-    all_found c.args.image.now k room _ c.read_starts-answer.ensures.value _ c.clear_entries.ensures _ _ c.in-Accepted.is c.shared_slice_known-1.given _ c.read_starts-answer.ensures.starts_after _ _ c.prove_each-at.ensures.proves_all c.prove_each-at.auto.reports _ c.fitted.ensures.value
+    all_found c.args.image.now k room _ c.read_starts-answer.ensures.value _ (c.fill.ensures.after (λ y e. e)) _ _ c.in-Accepted.is c.shared_slice_known-1.given _ c.read_starts-answer.ensures.starts_after _ _ c.prove_each-at.ensures.proves_all c.prove_each-at.auto.reports _ c.fitted.ensures.value
 
 pub returns-in-Accepted-clause-reports_after : goal.returns-in-Accepted-clause-reports_after
 returns-in-Accepted-clause-reports_after c = let k = length c.args.work.now in
     let room = length c.args.reports.now in
-    all_found_slice c.args.image.now k room _ c.read_starts-answer.ensures.value _ c.clear_entries.ensures _ _ c.in-Accepted.is c.shared_slice_known-1.given _ c.read_starts-answer.ensures.starts_after _ _ c.prove_each-at.ensures.proves_all c.prove_each-at.auto.reports _ c.fitted.ensures.reports_after
+    all_found_slice c.args.image.now k room _ c.read_starts-answer.ensures.value _ (c.fill.ensures.after (λ y e. e)) _ _ c.in-Accepted.is c.shared_slice_known-1.given _ c.read_starts-answer.ensures.starts_after _ _ c.prove_each-at.ensures.proves_all c.prove_each-at.auto.reports _ c.fitted.ensures.reports_after
 
 pub returns-in-Accepted-clause-work_after : goal.returns-in-Accepted-clause-work_after
 returns-in-Accepted-clause-work_after c = let k = length c.args.work.now in
     let room = length c.args.reports.now in
-    all_found_work c.args.image.now k room _ c.read_starts-answer.ensures.value _ c.clear_entries.ensures _ _ c.in-Accepted.is c.shared_slice_known-1.given _ c.read_starts-answer.ensures.starts_after _ _ c.prove_each-at.ensures.proves_all c.prove_each-at.auto.reports _ _ c.read_starts-answer.ensures.work_after c.read_starts-answer.auto.work c.fitted.ensures.work_after
+    all_found_work c.args.image.now k room _ c.read_starts-answer.ensures.value _ (c.fill.ensures.after (λ y e. e)) _ _ c.in-Accepted.is c.shared_slice_known-1.given _ c.read_starts-answer.ensures.starts_after _ _ c.prove_each-at.ensures.proves_all c.prove_each-at.auto.reports _ _ c.read_starts-answer.ensures.work_after c.read_starts-answer.auto.work c.fitted.ensures.work_after

@@ -87,8 +87,8 @@ deep_clone_expr-loop-rest-preserved t c = (
         (
           place_left _ _ _ c.loop-rest.invariant.1.1.1.1.0 (width_small _ _ c.sort_of.ensures _ c.width_of-place.ensures),
           (
-            still_eight c.loop-rest.words _ c.loop-rest.j c.clone_field-copied.result.word c.loop-rest.invariant.1.1.1.1.1.0 c.put_long.ensures,
-            λ r h. copying_more _ _ _ _ _ _ _ _ _ _ _ _ (c.loop-rest.invariant.1.1.1.1.1.1 r h) c.loop-rest-test.true _ _ _ _ (c.clone_field-copied.ensures r h (copying_field _ _ _ _ _ _ _ _ _ _ _ _ (c.loop-rest.invariant.1.1.1.1.1.1 r h) c.loop-rest-test.true)) (c.width_of-place.ensures ∙ ap width_of c.sort_of.ensures) c.put_long.ensures,
+            still_eight c.loop-rest.words _ c.loop-rest.j c.clone_field-copied.result.word c.loop-rest.invariant.1.1.1.1.1.0 c.put.ensures,
+            λ r h. copying_more _ _ _ _ _ _ _ _ _ _ _ _ (c.loop-rest.invariant.1.1.1.1.1.1 r h) c.loop-rest-test.true _ _ _ _ (c.clone_field-copied.ensures r h (copying_field _ _ _ _ _ _ _ _ _ _ _ _ (c.loop-rest.invariant.1.1.1.1.1.1 r h) c.loop-rest-test.true)) (c.width_of-place.ensures ∙ ap width_of c.sort_of.ensures) c.put.ensures,
           ),
         ),
       ),

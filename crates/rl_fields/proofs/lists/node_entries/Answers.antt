@@ -8,7 +8,7 @@ pub returns-else-n-seen : goal.returns-else-n-seen
 returns-else-n-seen c = search (laws, rules)
 
 pub loop-i-preserved : goal.loop-i-preserved
-loop-i-preserved c = (search rules, (c.loop-i.invariant.1.0, nodes_more _ _ _ _ c.loop-i.invariant.1.0 _ _ _ _ _ _ c.loop-i.invariant.1.1 c.loop-i-test.true _ c.join16-n.ensures c.if-n-seen.true _ c.larger-t.ensures))
+loop-i-preserved c = (search rules, (c.loop-i.invariant.1.0, nodes_more _ _ _ _ c.loop-i.invariant.1.0 _ _ _ _ _ _ c.loop-i.invariant.1.1 c.loop-i-test.true _ c.from_le_bytes-n.ensures c.if-n-seen.true _ c.max-t.ensures))
 
 pub returns : goal.returns
 returns c = search (laws, rules)

@@ -17,8 +17,8 @@ violation_at-violation-requires c = search (laws, rules)
 
 pub returns-clause-value : goal.returns-clause-value
 returns-clause-value c = let size : length c.args.out.now ≡ 65535 = search rules in
-    message_length _ _ _ c.requires.known _ c.requires.lines_value _ c.requires.reports_value _ c.if-lines-number.false _ c.violation_at-violation.ensures _ _ c.clear_bytes.ensures size _ c.report_message.ensures.value
+    message_length _ _ _ c.requires.known _ c.requires.lines_value _ c.requires.reports_value _ c.if-lines-number.false _ c.violation_at-violation.ensures _ _ (c.fill.ensures.after (λ y e. e)) size _ c.report_message.ensures.value
 
 pub returns-clause-out_after : goal.returns-clause-out_after
 returns-clause-out_after c = let size : length c.args.out.now ≡ 65535 = search rules in
-    message_out_lem _ _ _ c.requires.known _ c.requires.lines_value _ c.requires.reports_value _ c.if-lines-number.false _ c.violation_at-violation.ensures _ _ c.clear_bytes.ensures size _ c.report_message.ensures.out_after
+    message_out_lem _ _ _ c.requires.known _ c.requires.lines_value _ c.requires.reports_value _ c.if-lines-number.false _ c.violation_at-violation.ensures _ _ (c.fill.ensures.after (λ y e. e)) size _ c.report_message.ensures.out_after

@@ -12,11 +12,11 @@ returns-then-calls-call-clause-value c = let size : length c.args.out.now ≡ 65
 
 pub returns-then-calls-call-clause-out_after : goal.returns-then-calls-call-clause-out_after
 returns-then-calls-call-clause-out_after c = let size : length c.args.out.now ≡ 65535 = search rules in
-    message_missing_out _ _ _ c.open-answer.ensures.value _ _ _ _ c.in-Accepted.is c.if-calls-call.true _ _ size c.clear_bytes.ensures
+    message_missing_out _ _ _ c.open-answer.ensures.value _ _ _ _ c.in-Accepted.is c.if-calls-call.true _ _ size (c.fill.ensures.after (λ y e. e))
 
 pub returns-then-calls-call-clause-work_after : goal.returns-then-calls-call-clause-work_after
 returns-then-calls-call-clause-work_after c = let size : length c.args.out.now ≡ 65535 = search rules in
-    message_missing_work _ _ _ c.open-answer.ensures.value _ _ _ _ c.in-Accepted.is c.if-calls-call.true c.open-answer.new.work _ c.open-answer.auto.work c.clear.ensures
+    message_missing_work _ _ _ c.open-answer.ensures.value _ _ _ _ c.in-Accepted.is c.if-calls-call.true c.open-answer.new.work _ c.open-answer.auto.work (c.fill.ensures.after (λ y e. e))
 
 pub returns-in-Refused-clause-value : goal.returns-in-Refused-clause-value
 returns-in-Refused-clause-value c = search (laws, rules)

@@ -4,8 +4,8 @@ use Rattle.rl_prover.proofs.callee.is_callee.Goals as goal
 
 ruleset laws = (callee_other, callee_named)
 
-pub returns-then-word_at : goal.returns-then-word_at
-returns-then-word_at c = search (laws, rules)
+pub returns-then-get_or : goal.returns-then-get_or
+returns-then-get_or c = search (laws, rules)
 
 pub returns : goal.returns
 returns c = search (laws, rules)

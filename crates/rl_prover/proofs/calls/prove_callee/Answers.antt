@@ -5,4 +5,4 @@ ruleset laws = (callee_proves)
 
 pub returns-clause-proves_callee : goal.returns-clause-proves_callee
 returns-clause-proves_callee c = callee_proves c.args.image.now c.args.starts.now c.args.counts c.args.classes.now c.args.f _ c.function_at-function.ensures c.args.args c.args.call c.args.span c.args.names.now c.args.reports.now c.args.memory.now _ _ _ _ _ _ _ _ c.args.start _ _
-    c.clear.ensures c.bind_arguments-count.ensures c.report_refinements-at.ensures.reports_refinements c.report_requires.ensures.reports_requires
+    (c.fill.ensures.after (λ y e. e)) c.bind_arguments-count.ensures c.report_refinements-at.ensures.reports_refinements c.report_requires.ensures.reports_requires

@@ -29,7 +29,7 @@ pub returns-in-Refused-check-clause-value : goal.returns-in-Refused-check-clause
 returns-in-Refused-check-clause-value c = run_refused _ _ _ _ _ _ c.read_starts-answer.ensures.value _ _ c.in-Accepted.is _ c.read_starts-answer.ensures.starts_after _ c.admit_run-check.ensures _ c.in-Refused-check.is
 
 pub returns-in-Refused-check-clause-work_after : goal.returns-in-Refused-check-clause-work_after
-returns-in-Refused-check-clause-work_after c = run_refused_work _ _ _ _ _ _ c.read_starts-answer.ensures.value _ _ c.in-Accepted.is _ c.read_starts-answer.ensures.starts_after _ c.admit_run-check.ensures _ c.in-Refused-check.is _ _ c.read_starts-answer.auto.work c.clear.ensures
+returns-in-Refused-check-clause-work_after c = run_refused_work _ _ _ _ _ _ c.read_starts-answer.ensures.value _ _ c.in-Accepted.is _ c.read_starts-answer.ensures.starts_after _ c.admit_run-check.ensures _ c.in-Refused-check.is _ _ c.read_starts-answer.auto.work (c.fill.ensures.after (λ y e. e))
 
 pub returns-in-Admitted-clause-value : goal.returns-in-Admitted-clause-value
 returns-in-Admitted-clause-value c = run_admitted _ _ _ _ _ _ c.read_starts-answer.ensures.value _ _ c.in-Accepted.is _ c.read_starts-answer.ensures.starts_after _ c.admit_run-check.ensures c.in-Admitted.is _ c.run_function.ensures

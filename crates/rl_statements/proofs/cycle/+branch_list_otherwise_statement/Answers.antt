@@ -70,10 +70,10 @@ pub list-loop-state-preserved-else-top-eq0 : goal.list-loop-state-preserved-else
 list-loop-state-preserved-else-top-eq0 t c = give_frame _ _ _ _ _ _ _ _ _ _ _ _ _ _ _ _ _ c.loop-state.invariant c.in-Give.is c.if-top-eq0.false refl (c.resumed-state.ensures.by_index c.args.starts.now) (c.resumed-state.ensures.resumes_room _)
 
 pub list-returns-in-Finish : goal.list-returns-in-Finish
-list-returns-in-Finish t c = list_finished _ _ _ _ _ _ c.args.looping c.args.condition _ _ _ _ _ _ _ _ c.smaller.ensures _ _ c.loop-state.invariant c.in-Ends.is (sym c.turn_after-turn.ensures ∙ c.in-Finish.is) _ _ refl
+list-returns-in-Finish t c = list_finished _ _ _ _ _ _ c.args.looping c.args.condition _ _ _ _ _ _ _ _ c.min.ensures _ _ c.loop-state.invariant c.in-Ends.is (sym c.turn_after-turn.ensures ∙ c.in-Finish.is) _ _ refl
 
 pub list-returns-then-left-eq0-4 : goal.list-returns-then-left-eq0-4
-list-returns-then-left-eq0-4 t c = turns_spent _ _ _ _ _ _ c.args.looping c.args.condition _ _ _ _ _ _ _ _ c.smaller.ensures _ c.loop-state.invariant c.in-Ends.is (sym c.turn_after-turn.ensures ∙ c.in-Again.is) c.if-left-eq0-4.true _ _ refl
+list-returns-then-left-eq0-4 t c = turns_spent _ _ _ _ _ _ c.args.looping c.args.condition _ _ _ _ _ _ _ _ c.min.ensures _ c.loop-state.invariant c.in-Ends.is (sym c.turn_after-turn.ensures ∙ c.in-Again.is) c.if-left-eq0-4.true _ _ refl
 
 pub list-loop-state-preserved : goal.list-loop-state-preserved
-list-loop-state-preserved t c = turns_again _ _ _ _ _ _ c.args.looping c.args.condition _ _ _ _ _ _ _ _ c.smaller.ensures _ _ c.loop-state.invariant c.in-Ends.is (sym c.turn_after-turn.ensures ∙ c.in-Again.is) c.if-left-eq0-4.false c.condition_first-state.ensures.means c.condition_first-state.ensures.room c.requires.sound.low
+list-loop-state-preserved t c = turns_again _ _ _ _ _ _ c.args.looping c.args.condition _ _ _ _ _ _ _ _ c.min.ensures _ _ c.loop-state.invariant c.in-Ends.is (sym c.turn_after-turn.ensures ∙ c.in-Again.is) c.if-left-eq0-4.false c.condition_first-state.ensures.means c.condition_first-state.ensures.room c.requires.sound.low

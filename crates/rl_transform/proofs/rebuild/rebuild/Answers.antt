@@ -12,7 +12,7 @@ returns c = λ w r h j k.
     (row_codes _ _ _ r c.row_of-row.ensures) _
     c.fields_of-words.ensures.value
     c.fields_of-words.ensures.result_value _ _ _ _ j k _ _
-    c.put_long.ensures
-    c.put_long-2.ensures _ _ _
+    c.put.ensures
+    c.put-2.ensures _ _ _
     (c.new_statement.ensures _ 0 w
     (row_codes _ _ _ r c.row_of-row.ensures))
