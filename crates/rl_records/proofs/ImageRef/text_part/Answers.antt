@@ -1,7 +1,7 @@
 use Rattle.std.proofs.Common.{rules}
 use Rattle.rl_records.proofs.TextLaws.{part_none, part_is}
 use Rattle.std.proofs.Common.{rules}
-use Rattle.rl_records.proofs.texts.text_part.Goals as goal
+use Rattle.rl_records.proofs.ImageRef.text_part.Goals as goal
 
 ruleset laws = (part_none, part_is)
 

@@ -1,7 +1,7 @@
 use Rattle.std.proofs.Common.{rules}
 use Rattle.rl_records.proofs.TextLaws.{text_none, text_is}
 use Rattle.std.proofs.Common.{rules}
-use Rattle.rl_records.proofs.texts.text_at.Goals as goal
+use Rattle.rl_records.proofs.ImageRef.text.Goals as goal
 
 ruleset laws = (text_none, text_is)
 
