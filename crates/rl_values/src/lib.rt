@@ -27,6 +27,7 @@ fn compare<T: PartialOrd + Copy>(op: RefineOp, x: T, y: T) -> bool
 }
 
 // One pass for each, eight bytes at a step: at most is not above.
+#[tactic(auto, using(crate::proofs::Laws::at_most))]
 fn compare_texts(op: RefineOp, a: &[u8], b: &[u8]) -> bool
     ensures { result ≡ compare_by less_text same_text (op_of op) a.now b.now }
 {
@@ -46,6 +47,7 @@ pub fn cmp_i64(op: RefineOp, x: i64, y: i64) -> bool
     compare(op, x, y)
 }
 
+#[tactic(auto, unfolding(rl_spec::specs::Values::compare_floats))]
 pub fn compare_floats(op: RefineOp, x: f64, y: f64) -> Option<bool>
     ensures { verdict_of result ≡ compare_floats (op_of op) x y }
 {
@@ -55,6 +57,7 @@ pub fn compare_floats(op: RefineOp, x: f64, y: f64) -> Option<bool>
     Some(compare(op, x, y))
 }
 
+#[tactic(auto, unfolding(rl_spec::specs::Values::compare_bools))]
 pub fn compare_bools(op: RefineOp, x: bool, y: bool) -> Option<bool>
     ensures { verdict_of result ≡ compare_bools (op_of op) x y }
 {
@@ -74,6 +77,7 @@ pub fn nearest_f64(x: i64) -> f64
     upper + lower
 }
 
+#[tactic(auto, using(crate::proofs::Laws::nan_is))]
 pub fn as_f64(v: ConstVal) -> f64
     ensures { result ≡ as_f64 (const_of v) }
 {
@@ -85,7 +89,14 @@ pub fn as_f64(v: ConstVal) -> f64
 }
 
 // left and right are the bytes of a and of b where they are texts.
-pub fn compare_values(op: RefineOp, a: ConstVal, b: ConstVal, left: &[u8], right: &[u8]) -> Option<bool>
+#[tactic(auto, using(crate::proofs::Laws::as_beside), unfolding(rl_spec::specs::Values::compare_values))]
+pub fn compare_values(
+    op: RefineOp,
+    a: ConstVal,
+    b: ConstVal,
+    left: &[u8],
+    right: &[u8],
+) -> Option<bool>
     ensures { verdict_of result ≡ compare_values (λ t. t) (op_of op) (with_text a left.now) (with_text b right.now) }
 {
     match (a, b) {
@@ -98,6 +109,7 @@ pub fn compare_values(op: RefineOp, a: ConstVal, b: ConstVal, left: &[u8], right
     }
 }
 
+#[tactic(auto, unfolding(rl_spec::specs::Values::bang))]
 pub fn bang(v: ConstVal) -> Option<ConstVal>
     ensures { folded_of result ≡ bang (const_of v) }
 {
@@ -107,6 +119,7 @@ pub fn bang(v: ConstVal) -> Option<ConstVal>
     }
 }
 
+#[tactic(auto, unfolding(rl_spec::specs::Values::negate))]
 pub fn negate(v: ConstVal) -> Option<ConstVal>
     ensures { folded_of result ≡ negate (const_of v) }
 {
@@ -117,6 +130,7 @@ pub fn negate(v: ConstVal) -> Option<ConstVal>
     }
 }
 
+#[tactic(auto, using(crate::proofs::Laws::zero_bits))]
 pub fn arith_floats(op: ArithOp, x: f64, y: f64) -> Option<ConstVal>
     ensures { folded_of result ≡ arith_floats (arith_of op) x y }
 {
@@ -144,6 +158,7 @@ pub fn arith_ints(op: ArithOp, x: i64, y: i64) -> Option<ConstVal>
     z.map(ConstVal::Int)
 }
 
+#[tactic(auto, unfolding(rl_spec::specs::Values::arith_values))]
 pub fn arith_values(op: ArithOp, a: ConstVal, b: ConstVal) -> Option<ConstVal>
     ensures { folded_of result ≡ arith_values (arith_of op) (const_of a) (const_of b) }
 {
