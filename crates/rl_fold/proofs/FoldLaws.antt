@@ -20,7 +20,7 @@ use Rattle.rl_spec.specs.Folded.{as_const, as_folded, const_of, folded_of}
 use Rattle.rl_spec.specs.Tree.{other, below, form_of, tree_by, expr_tree}
 use Rattle.rl_spec.specs.Fold.{Binding, unary_folded, binary_folded, const_eval}
 use Rattle.rl_spec.specs.Found.{image_found}
-use Rattle.rl_memory.specs.declared.Recalled.{Recalled}
+use Rattle.rl_memory.specs.Memory.{Recalled}
 use Rattle.rl_memory.specs.Memory.{recall_of, Right}
 use Rattle.rl_names.specs.Names.{lookup_in}
 use Rattle.rl_names.proofs.Laws.{walk_is}

@@ -1,4 +1,2 @@
 pub mod Laws
 pub mod Halves
-pub mod Sums
-pub mod Products
