@@ -39,7 +39,7 @@ pub enum Frame {
 }
 
 // What comes next.
-#[derive(Drop)]
+#[derive(Clone, Copy)]
 pub enum State {
     // the next statement
     Next,
