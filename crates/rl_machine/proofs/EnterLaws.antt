@@ -19,7 +19,7 @@ use Rattle.rl_laws.specs.Heights.{expr_height}
 use Rattle.rl_machine.specs.declared.types.Flow.TheVariants.{Over}
 use Rattle.rl_machine.specs.declared.types.Frame.TheVariants.{Left, Unary, Assign, Ok, Err, IsErr, Unwrap}
 use Rattle.rl_machine.specs.declared.types.State.{State}
-use Rattle.rl_machine.specs.declared.types.State.TheVariants.{Visit, Push, Seek, Give, Ends}
+use Rattle.rl_machine.specs.declared.types.State.TheVariants.{Visit, Push, Look, Give, Ends}
 use Rattle.rl_machine.specs.Machine.{tree_under, Room, Means, Enters, EntersRoom}
 use Rattle.rl_machine.proofs.Results.{then_then, then_by}
 
@@ -41,7 +41,7 @@ module _ (x : Form) (at : ℕ) where
   unfolding eval
   enter_null e = rw e (λ im base rest k env n. refl, λ im b t h. tt)
 
-  pub enter_identifier : (name : ℕ) → x ≡ form.Identifier name → Entered x at (Seek name false (Plain Null))
+  pub enter_identifier : (name : ℕ) → x ≡ form.Identifier name → Entered x at (Look name)
   unfolding eval
   enter_identifier name e = rw e (λ im base rest k env n. refl, λ im b t h. tt)
 

@@ -28,11 +28,7 @@ fn entered_form(form: Form, at: u16) -> State
     match form {
         Form::Null => State::Give(Value::Plain(Plain::Null)),
         Form::Literal(v) => folded(v),
-        Form::Identifier(name) => State::Seek {
-            name,
-            storing: false,
-            value: Value::Plain(Plain::Null),
-        },
+        Form::Identifier(name) => State::Look(name),
         Form::Unary { operator, operand } => push(Frame::Unary(operator), operand, at),
         Form::Binary {
             left,

@@ -101,11 +101,7 @@ pub fn resumed(image: ImageRef, frame: Frame, v: Value) -> State
             operand(v),
         )),
         Frame::Unary(operator) => folded(unary_folded(operator, operand(v))),
-        Frame::Assign(name) => State::Seek {
-            name,
-            storing: true,
-            value: v,
-        },
+        Frame::Assign(name) => State::Store { name, value: v },
         Frame::Ok => ok_of(v),
         Frame::Err => err_of(v),
         Frame::IsErr => is_err(v),
