@@ -3,7 +3,6 @@ ghost use Rattle.std.specs.Prelude.{◌≡◌, take, drop};
 ghost use Rattle.rl_spec.specs.Lowerer.{any_over};
 ghost use Rattle.rl_admission.specs.Lowering.{tall_in, lowering_admission};
 
-use rl_bytes::part;
 use rl_spec::{Cause, Counts};
 
 // Whether one of n heights from a place on is over a limit.
@@ -11,7 +10,8 @@ use rl_spec::{Cause, Counts};
 fn any_over(work: &[u16], from: u16, n: u16, most: u16) -> bool
     ensures { result ≡ any_over most (take n (drop from work.now)) }
 {
-    for height in part(work, from as usize, n as usize) {
+    let rest = work.get((from as usize)..).unwrap_or(&[]);
+    for height in rest.get(..(n as usize)).unwrap_or(rest) {
         if most < *height {
             return true;
         }
@@ -19,7 +19,7 @@ fn any_over(work: &[u16], from: u16, n: u16, most: u16) -> bool
     false
 }
 
-#[tactic(auto, unfolding(rl_admission::specs::Lowering::tall_in))]
+#[tactic(auto, unfolding(crate::specs::Lowering::tall_in))]
 fn too_tall(work: &[u16], counts: Counts) -> bool
     ensures { result ≡ tall_in work.now counts }
 {
@@ -28,13 +28,8 @@ fn too_tall(work: &[u16], counts: Counts) -> bool
 }
 
 // The checks in the table's order, of the heights in the work slice and of the room for the image.
-#[tactic(auto, unfolding(rl_admission::specs::Lowering::lowering_admission))]
-pub fn admit_lowering(
-    work: &[u16],
-    counts: Counts,
-    function: u32,
-    room: usize,
-) -> Result<(), Cause>
+#[tactic(auto, unfolding(crate::specs::Lowering::lowering_admission))]
+pub fn admit_lowering(work: &[u16], counts: Counts, function: u32, room: usize) -> Result<(), Cause>
     ensures { result ≡ lowering_admission work.now counts function room }
 {
     if counts.functions as u32 <= function {

@@ -26,13 +26,12 @@ fn value_has(counts: Counts, v: Value) -> bool
 }
 
 // The same of all values that are given.
+#[tactic(auto, unfolding(rl_spec::specs::Runner::all_have))]
 fn all_have(counts: Counts, arguments: Arguments) -> bool
     ensures { result ≡ all_have counts (given arguments) }
 {
-    for (i, argument) in arguments.values.iter().enumerate() {
-        if arguments.count <= i as u32 {
-            return true;
-        }
+    let values = &arguments.values;
+    for argument in &values[..(arguments.count as usize).min(values.len())] {
         if !value_has(counts, argument.value) {
             return false;
         }
@@ -41,6 +40,7 @@ fn all_have(counts: Counts, arguments: Arguments) -> bool
 }
 
 // The checks in the table's order.
+#[tactic(auto, unfolding(crate::specs::Running::run_admission))]
 pub fn admit_run(
     image: ImageRef,
     function: u32,
