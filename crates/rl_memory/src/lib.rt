@@ -1,7 +1,7 @@
 // What is remembered of nodes that were folded under some names, in lent words.
 #![tactic(auto)]
 
-ghost use Rattle.std.specs.Prelude.{◌≡◌, ℕ, length, replicate};
+ghost use Rattle.std.specs.Prelude.{◌≡◌, ℕ};
 ghost use Rattle.rl_memory.specs.Memory.{recalled, recall_of, tag_word, remember_of, Right};
 
 use rl_bytes::get_or;
@@ -61,4 +61,3 @@ pub fn remember(memory: &mut [u64], count: u16, n: u16, v: Folded) -> Folded
     }
     v
 }
-
