@@ -7,7 +7,6 @@ ghost use Rattle.std.proofs.Math.Seq.{paste};
 ghost use Rattle.rl_spec.specs.Message.{decimal};
 ghost use Rattle.rl_text_out.specs.Put.{with_text, after_text};
 
-
 fn copy(out: &mut [u8], at: usize, text: &[u8], n: usize)
     requires n_in_bounds { at + n ≤ length out.old }
     requires n_in_bounds_2 { n ≤ length text.now }
