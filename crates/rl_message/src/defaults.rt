@@ -15,30 +15,28 @@ use rl_records::ImageRef;
 use rl_spec::{Param, RefineOp, RefineOperand, Refinement, Violation};
 use rl_text_out::{put_number, put_text};
 
-fn refine_op_str(out: &mut [u8], at: usize, op: RefineOp) -> usize
-    ensures value { result ≡ after_text out.old at (refine_op_str (op_of op)) }
-    ensures out_after { out.new ≡ with_text out.old at (refine_op_str (op_of op)) }
+#[tactic(auto, unfolding(rl_spec::specs::Tree::ascii))]
+fn refine_op_str(op: RefineOp) -> &'static [u8]
+    ensures { result.now ≡ refine_op_str (op_of op) }
 {
     match op {
-        RefineOp::Gt => put_text(out, at, b">"),
-        RefineOp::Ge => put_text(out, at, b">="),
-        RefineOp::Lt => put_text(out, at, b"<"),
-        RefineOp::Le => put_text(out, at, b"<="),
-        RefineOp::Eq => put_text(out, at, b"=="),
-        RefineOp::Ne => put_text(out, at, b"!="),
+        RefineOp::Gt => b">",
+        RefineOp::Ge => b">=",
+        RefineOp::Lt => b"<",
+        RefineOp::Le => b"<=",
+        RefineOp::Eq => b"==",
+        RefineOp::Ne => b"!=",
     }
 }
 
-fn put_bool(out: &mut [u8], at: usize, b: bool) -> usize
-    ensures value { result ≡ after_text out.old at (bool_text b) }
-    ensures out_after { out.new ≡ with_text out.old at (bool_text b) }
+#[tactic(auto, unfolding(rl_spec::specs::Tree::ascii))]
+fn bool_text(b: bool) -> &'static [u8]
+    ensures { result.now ≡ bool_text b }
 {
-    if b {
-        return put_text(out, at, b"true");
-    }
-    put_text(out, at, b"false")
+    if b { b"true" } else { b"false" }
 }
 
+#[tactic(auto, unfolding(rl_spec::specs::Tree::ascii), using(crate::proofs::DefaultLaws::puts_minus, crate::proofs::DefaultLaws::text_plain))]
 fn put_integer(out: &mut [u8], at: usize, x: i64) -> usize
     ensures value { result ≡ after_text out.old at (integer_text x) }
     ensures out_after { out.new ≡ with_text out.old at (integer_text x) }
@@ -51,6 +49,7 @@ fn put_integer(out: &mut [u8], at: usize, x: i64) -> usize
 }
 
 // A text in quotes, as it is.
+#[tactic(auto, unfolding(rl_spec::specs::Tree::ascii), using(crate::proofs::DefaultLaws::puts_quoted))]
 fn put_quoted(out: &mut [u8], at: usize, text: &[u8]) -> usize
     ensures value { result ≡ after_text out.old at (ascii "\"" ++ text.now ++ ascii "\"") }
     ensures out_after { out.new ≡ with_text out.old at (ascii "\"" ++ text.now ++ ascii "\"") }
@@ -67,12 +66,13 @@ fn operand_str(image: ImageRef, operand: RefineOperand, out: &mut [u8], at: usiz
     match operand {
         RefineOperand::Integer(x) => put_integer(out, at, x),
         RefineOperand::Str(t) => put_quoted(out, at, image.text(t)),
-        RefineOperand::Bool(b) => put_bool(out, at, b),
+        RefineOperand::Bool(b) => put_text(out, at, bool_text(b)),
         RefineOperand::Param(t) => put_text(out, at, image.text(t)),
     }
 }
 
 // refinement failed: NAME OP OPERAND
+#[tactic(auto, unfolding(rl_spec::specs::Tree::ascii), using(crate::proofs::DefaultLaws::puts_refinement))]
 fn put_refinement(image: ImageRef, name: u16, refinement: Refinement, out: &mut [u8]) -> usize
     ensures by_index { (p : List ℕ) → result ≡ after_text out.old 0 (refinement_text (text_of (found_with image.entry p) name) (map (map_refinement (text_of (found_with image.entry p))) (refinement_of (Some refinement)))) }
     ensures by_index_2 { (p : List ℕ) → out.new ≡ with_text out.old 0 (refinement_text (text_of (found_with image.entry p) name) (map (map_refinement (text_of (found_with image.entry p))) (refinement_of (Some refinement)))) }
@@ -80,7 +80,7 @@ fn put_refinement(image: ImageRef, name: u16, refinement: Refinement, out: &mut 
     let mut at = put_text(out, 0, b"refinement failed: ");
     at = put_text(out, at, image.text(name));
     at = put_text(out, at, b" ");
-    at = refine_op_str(out, at, refinement.op);
+    at = put_text(out, at, refine_op_str(refinement.op));
     at = put_text(out, at, b" ");
     operand_str(image, refinement.operand, out, at)
 }
