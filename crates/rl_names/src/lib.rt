@@ -19,6 +19,7 @@ pub struct Names<'a> {
 
 impl<'a> Names<'a> {
     // The value of the latest binding whose name has the class of the text t.
+    #[tactic(auto, unfolding(crate::specs::Names::lookup_in))]
     pub fn lookup(self, t: u16) -> Option<ConstVal>
         ensures { result ≡ lookup_in self.entry.classes.now self.entry.words.now t self.entry.count }
     {
@@ -26,7 +27,10 @@ impl<'a> Names<'a> {
         for k in (0..self.count as usize).rev() {
             let name = get_or(self.words, k * 3, 0);
             if get_or(self.classes, name as usize, 0) == class {
-                return words_value(get_or(self.words, k * 3 + 1, 0), get_or(self.words, k * 3 + 2, 0));
+                return words_value(
+                    get_or(self.words, k * 3 + 1, 0),
+                    get_or(self.words, k * 3 + 2, 0),
+                );
             }
         }
         None
@@ -34,6 +38,7 @@ impl<'a> Names<'a> {
 }
 
 // Binds a name as the k-th.
+#[tactic(auto, using(crate::proofs::Laws::comes_back), unfolding(crate::specs::Names::bind_in))]
 pub fn bind_name(names: &mut [u64], k: u16, t: u16, v: Option<ConstVal>)
     ensures names_after { names.new ≡ bind_in names.old k t v }
     ensures v_value { words_value (sort_word_of v) (payload_word_of v) ≡ v }
