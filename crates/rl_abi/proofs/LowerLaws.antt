@@ -7,14 +7,13 @@ use mathlib.Core.List.{List}
 use mathlib.Core.Option.{Option, none, some}
 use native.Mathlib.Omega.{arith}
 use lib.Dec.{ltb}
-use Rattle.rl_spec.specs.declared.Answer.{Answer}
-use Rattle.rl_spec.specs.declared.Answer.TheVariants.{Accepted, Refused}
+use Rattle.rl_spec.specs.Answers.{Answer, refused, LowerAnswer}
+use Rattle.std.specs.Prelude.{Ok, Err}
 use Rattle.rl_spec.specs.declared.Cause.TheVariants.{NoSuchFunction, HeightOverLimit, OutputTooShort}
-use Rattle.rl_spec.specs.declared.LowerAnswer.{LowerAnswer}
 use Rattle.rl_spec.specs.Read.{answer_of}
 use Rattle.rl_spec.specs.Image.{Image, image_of}
 use Rattle.rl_spec.specs.Lower.{lowered}
-use Rattle.rl_spec.specs.Lowerer.{refused, too_tall, or_limit, lower_by, lower_of, lower_answer}
+use Rattle.rl_spec.specs.Lowerer.{too_tall, or_limit, lower_by, lower_of, lower_answer}
 use Rattle.rl_images.specs.Reading.Places.{place_small}
 use Rattle.rl_spec.specs.Boundary.{lower_packed, lowered_place}
 
@@ -34,8 +33,8 @@ lower_place s k f room = go (answer_of s k) refl
     chosen true false false o = limit o
 
     go : (a : Answer) → answer_of s k ≡ a → lowered_place (lower_answer (lower_by s f room a)) ≤ 65535
-    go (Refused c n) e = place_small s k c n e
-    go (Accepted m c) e = chosen (ltb f c.functions) (too_tall (image_of s)) (ltb room 65535) (lowered (image_of s) f)
+    go (Err r) e = place_small s k r.cause r.place e
+    go (Ok h) e = chosen (ltb f h.counts.functions) (too_tall (image_of s)) (ltb room 65535) (lowered (image_of s) f)
 
 module _ (s : List ℕ) (k f room : ℕ) (a : LowerAnswer) (e : a ≡ lower_answer (lower_of s k f room)) where
   pub lower_near : lowered_place a ≤ 65535

@@ -7,15 +7,9 @@ use mathlib.Core.List.{List}
 use native.Mathlib.Omega.{arith}
 use lib.Dec.{ltb}
 use lib.ListN.{length}
-use Rattle.rl_spec.specs.declared.Answer.{Answer}
-use Rattle.rl_spec.specs.declared.Answer.TheVariants.{Accepted, Refused}
+use Rattle.rl_spec.specs.Answers.{Answer, refused, MessageAnswer, PagesAnswer, TextAnswer}
+use Rattle.std.specs.Prelude.{Ok, Err}
 use Rattle.rl_spec.specs.declared.Cause.TheVariants.{NoSuchCall, NoSuchText, PagesTooShort}
-use Rattle.rl_spec.specs.declared.MessageAnswer.{MessageAnswer}
-use Rattle.rl_spec.specs.declared.MessageAnswer.TheVariants as message
-use Rattle.rl_spec.specs.declared.PagesAnswer.{PagesAnswer}
-use Rattle.rl_spec.specs.declared.PagesAnswer.TheVariants as pages
-use Rattle.rl_spec.specs.declared.TextAnswer.{TextAnswer}
-use Rattle.rl_spec.specs.declared.TextAnswer.TheVariants as text
 use Rattle.rl_spec.specs.declared.TextPart.{TextPart}
 use Rattle.rl_spec.specs.Read.{answer_of}
 use Rattle.rl_spec.specs.Image.{image_of}
@@ -30,13 +24,13 @@ text_place_lem : (s : List ℕ) (k t : ℕ) → text_place (text_for s k t) ≤ 
 unfolding text_for
 text_place_lem s k t = go (answer_of s k) refl
   where
-    chosen : (x : Bool) (part : TextPart) → text_place (cond x (text.Found part) (text.Refused NoSuchText 0)) ≤ 65535
+    chosen : (x : Bool) (part : TextPart) → text_place (cond x (Ok part) (refused NoSuchText 0)) ≤ 65535
     chosen true part = omega arith
     chosen false part = omega arith
 
     go : (a : Answer) → answer_of s k ≡ a → text_place (text_by s t a) ≤ 65535
-    go (Refused c n) e = place_small s k c n e
-    go (Accepted m c) e = chosen (ltb t c.texts) (text_part (image_of s) t)
+    go (Err r) e = place_small s k r.cause r.place e
+    go (Ok h) e = chosen (ltb t h.counts.texts) (text_part (image_of s) t)
 
 module _ (s : List ℕ) (k t : ℕ) (a : TextAnswer) (e : a ≡ text_for s k t) where
   pub text_near : text_place a ≤ 65535
@@ -51,13 +45,13 @@ message_place_lem : (s : List ℕ) (k call number : ℕ) → message_place (mess
 unfolding message_answer
 message_place_lem s k call number = go (answer_of s k) refl
   where
-    chosen : (x : Bool) (n : ℕ) → message_place (cond x (message.Message n) (message.Refused NoSuchCall 0)) ≤ 65535
+    chosen : (x : Bool) (n : ℕ) → message_place (cond x (Ok n) (refused NoSuchCall 0)) ≤ 65535
     chosen true n = omega arith
     chosen false n = omega arith
 
     go : (a : Answer) → answer_of s k ≡ a → message_place (message_from s call number a) ≤ 65535
-    go (Refused c n) e = place_small s k c n e
-    go (Accepted m c) e = chosen (ltb call c.calls) (length (message_at (image_of s) call number))
+    go (Err r) e = place_small s k r.cause r.place e
+    go (Ok h) e = chosen (ltb call h.counts.calls) (length (message_at (image_of s) call number))
 
 module _ (s : List ℕ) (k call number : ℕ) (a : MessageAnswer) (e : a ≡ message_answer s k call number) where
   pub message_near : message_place a ≤ 65535
@@ -72,13 +66,13 @@ pages_place_lem : (s : List ℕ) (k room : ℕ) → pages_place (pages_answer s 
 unfolding pages_answer
 pages_place_lem s k room = go (answer_of s k) refl
   where
-    chosen : (x : Bool) (n : ℕ) → pages_place (cond x (pages.Refused PagesTooShort 0) (pages.Written n)) ≤ 65535
+    chosen : (x : Bool) (n : ℕ) → pages_place (cond x (refused PagesTooShort 0) (Ok n)) ≤ 65535
     chosen true n = omega arith
     chosen false n = omega arith
 
     go : (a : Answer) → answer_of s k ≡ a → pages_place (pages_from s room a) ≤ 65535
-    go (Refused c n) e = place_small s k c n e
-    go (Accepted m c) e = chosen (ltb room (length (pages_of (image_of s) c.calls))) (length (pages_of (image_of s) c.calls))
+    go (Err r) e = place_small s k r.cause r.place e
+    go (Ok h) e = chosen (ltb room (length (pages_of (image_of s) h.counts.calls))) (length (pages_of (image_of s) h.counts.calls))
 
 module _ (s : List ℕ) (k room : ℕ) (a : PagesAnswer) (e : a ≡ pages_answer s k room) where
   pub pages_near : pages_place a ≤ 65535

@@ -19,7 +19,8 @@ use Rattle.rl_spec.specs.declared.Function.{Function}
 use Rattle.rl_spec.specs.declared.Plain.{Plain}
 use Rattle.rl_spec.specs.declared.Plain.TheVariants.{Const}
 use Rattle.rl_spec.specs.declared.Value.{Value}
-use Rattle.rl_spec.specs.declared.Value.TheVariants.{Plain as Bare, Ok, Err}
+use Rattle.rl_spec.specs.declared.Value.TheVariants.{Plain as Bare}
+use Rattle.rl_spec.specs.declared.Value.TheVariants as val
 use Rattle.rl_spec.specs.Image.{Image}
 use Rattle.rl_spec.specs.Records.{function_at}
 use Rattle.rl_spec.specs.Runner.{plain_has, value_has, all_have, given}
@@ -36,10 +37,10 @@ module _ (c : Counts) (v : Value) (p : Plain) (b : Bool) (e : b ≡ plain_has c 
   pub bare_has : v ≡ Bare p → b ≡ value_has c v
   bare_has f = rw f e
 
-  pub ok_has : v ≡ Ok p → b ≡ value_has c v
+  pub ok_has : v ≡ val.Ok p → b ≡ value_has c v
   ok_has f = rw f e
 
-  pub err_has : v ≡ Err p → b ≡ value_has c v
+  pub err_has : v ≡ val.Err p → b ≡ value_has c v
   err_has f = rw f e
 
 -- ---- the values that are given

@@ -2,7 +2,8 @@
 use Rattle.std.specs.Prelude.{ℕ, Bool, not, cond, ◌||◌, List, ltb, take, drop}
 use Rattle.rl_spec.specs.declared.Cause.TheVariants.{NoSuchFunction, HeightOverLimit, OutputTooShort}
 use Rattle.rl_spec.specs.declared.Counts.{Counts}
-use Rattle.rl_spec.specs.Lowerer.{Lowering, any_over, refused}
+use Rattle.rl_spec.specs.Answers.{refused}
+use Rattle.rl_spec.specs.Lowerer.{Lowering, any_over}
 use Rattle.rl_admission.specs.declared.Admission.{Admission}
 use Rattle.rl_admission.specs.declared.Admission.TheVariants.{Admitted, Refused}
 

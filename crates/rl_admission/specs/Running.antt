@@ -3,8 +3,7 @@ use Rattle.std.specs.Prelude.{ℕ, not, cond, ltb}
 use Rattle.rl_spec.specs.declared.Arguments.{Arguments}
 use Rattle.rl_spec.specs.declared.Cause.TheVariants.{NoSuchFunction, WrongValues, NoSuchText, BudgetOverLimit}
 use Rattle.rl_spec.specs.declared.Counts.{Counts}
-use Rattle.rl_spec.specs.declared.RunAnswer.{RunAnswer}
-use Rattle.rl_spec.specs.declared.RunAnswer.TheVariants as run
+use Rattle.rl_spec.specs.Answers.{RunAnswer, refused}
 use Rattle.rl_spec.specs.Image.{Image}
 use Rattle.rl_spec.specs.Records.{function_at}
 use Rattle.rl_spec.specs.Runner.{is_for, all_have, given}
@@ -20,4 +19,4 @@ run_admission im c f args budget =
 
 abbrev pub run_or : Admission → RunAnswer → RunAnswer
 run_or Admitted r = r
-run_or (Refused cause) r = run.Refused cause 0
+run_or (Refused cause) r = refused cause 0

@@ -9,7 +9,7 @@ use borrow.Author.Tests.{ltb-true, le-ltb, eqb-true, eq-eqb, ne_eqb}
 use Rattle.rl_spec.specs.declared.ArenaNo.{ArenaNo}
 use Rattle.rl_spec.specs.declared.Counts.{Counts}
 use Rattle.rl_spec.specs.declared.Id.{Id}
-use Rattle.rl_spec.specs.declared.Answer.TheVariants.{Accepted}
+use Rattle.rl_spec.specs.Answers.{accepted}
 use Rattle.rl_spec.specs.declared.Section.{Section}
 use Rattle.rl_spec.specs.declared.Section.TheVariants.{Expressions, Statements}
 use Rattle.rl_spec.specs.Bytes.{num_at}
@@ -48,7 +48,7 @@ module _ (s : List ℕ) (at kind : ℕ) (k : kind ≡ (record_in s at).kind) whe
 
 -- ---- accepted images
 
-module _ (s : List ℕ) (k : ℕ) (a : ArenaNo) (c : Counts) (e : answer_of s k ≡ Accepted a c) where
+module _ (s : List ℕ) (k : ℕ) (a : ArenaNo) (c : Counts) (e : answer_of s k ≡ accepted a c) where
   module _ (i at kind : ℕ) (q : kind ≡ (record_in s at).kind) where
     module _ (l : i < c.expressions) (p : at ≡ get_or (starts_of s k) i 0) where
       expression_stands : StandsAt s Expressions i at

@@ -7,7 +7,7 @@ use native.Mathlib.Nat.{add-zero}
 use lib.ListN.{get_or}
 use Rattle.rl_spec.specs.declared.ArenaNo.{ArenaNo}
 use Rattle.rl_spec.specs.declared.Counts.{Counts}
-use Rattle.rl_spec.specs.declared.Answer.TheVariants.{Accepted}
+use Rattle.rl_spec.specs.Answers.{accepted}
 use Rattle.rl_spec.specs.declared.Section.TheVariants.{Expressions, Statements}
 use Rattle.rl_spec.specs.Schema.{sections}
 use Rattle.rl_spec.specs.Read.{counts_of, answer_of, starts_of}
@@ -25,7 +25,7 @@ use Rattle.rl_images.specs.Encoding.Sections.{place_of}
 use Rattle.rl_assemble.specs.Pieces.{Source, expressions_at}
 use Rattle.rl_assemble.proofs.Parts.{size_in, statements_place}
 
-module _ (s : List ℕ) (k : ℕ) (a : ArenaNo) (c : Counts) (bytes : AllBytes s) (e : answer_of s k ≡ Accepted a c) where
+module _ (s : List ℕ) (k : ℕ) (a : ArenaNo) (c : Counts) (bytes : AllBytes s) (e : answer_of s k ≡ accepted a c) where
   well_formed : WellFormed (image_of s)
   well_formed = accepted_well_formed s k a c bytes e
 

@@ -24,7 +24,7 @@ use Rattle.rl_context.specs.Additions.{New, grown, Counted, Kept}
 use Rattle.rl_assemble.specs.Pieces.{Puts, Source, new_bytes, new_length}
 use Rattle.rl_assemble.specs.Written.{Written}
 use Rattle.rl_assemble.specs.declared.Assembled.{Assembled}
-use Rattle.rl_assemble.specs.declared.Assembled.TheVariants.{Length, PastLimit}
+use Rattle.std.specs.Prelude.{None, Some}
 use Rattle.rl_assemble.proofs.Final.{bytes_are, length_is}
 
 -- a text at the front of a slice that has room for it
@@ -42,30 +42,30 @@ module _ (out x : List ℕ) (room : length x ≤ length out) where
   with_front = ap (paste out 0 x) fits ∙ ap₂ (λ a n. a ++ drop n out) (take-length x) (zero-add (length x))
 
 abbrev pub IsPast : Assembled → Type 0
-IsPast (Length n) = ⊥
-IsPast PastLimit = Unit {0}
+IsPast (Some n) = ⊥
+IsPast None = Unit {0}
 
 abbrev pub length_in : Assembled → ℕ
-length_in (Length n) = n
-length_in PastLimit = 0
+length_in (Some n) = n
+length_in None = 0
 
-pub written_none : (out : List ℕ) → Written none out PastLimit out
+pub written_none : (out : List ℕ) → Written none out None out
 written_none out = record { number = refl; bytes = refl; few = λ n e. absurd (subst IsPast e tt) }
 
 pub written_all : (im : Image) (out : List ℕ) (r : ℕ) (after : List ℕ) → r ≡ length (encode im) → after ≡ encode im ++ drop (length (encode im)) out →
-    length (encode im) ≤ 65535 → Written (some im) out (Length r) after
-written_all im out r after e f h = record { number = ap Length e; bytes = f; few = λ n g. omega (arith, ap length_in g, e) }
+    length (encode im) ≤ 65535 → Written (some im) out (Some r) after
+written_all im out r after e f h = record { number = ap Some e; bytes = f; few = λ n g. omega (arith, ap length_in g, e) }
 
-past_limit : (im : Image) (out : List ℕ) → 65535 < length (encode im) → Written (fitting true im) out PastLimit out
+past_limit : (im : Image) (out : List ℕ) → 65535 < length (encode im) → Written (fitting true im) out None out
 unfolding fitting
 past_limit im out h =
-    subst (λ b. Written (cond b none (some im)) out PastLimit out) (sym (lt-ltb 65535 (length (encode im)) h)) (written_none out)
+    subst (λ b. Written (cond b none (some im)) out None out) (sym (lt-ltb 65535 (length (encode im)) h)) (written_none out)
 
 within_limit : (im : Image) (out : List ℕ) (r : ℕ) (after : List ℕ) → length (encode im) ≤ 65535 → 65535 ≤ length out →
-    Puts out 0 (encode im) r after → Written (fitting true im) out (Length r) after
+    Puts out 0 (encode im) r after → Written (fitting true im) out (Some r) after
 unfolding fitting
 within_limit im out r after h room p =
-    subst (λ b. Written (cond b none (some im)) out (Length r) after) (sym (le-ltb 65535 (length (encode im)) h))
+    subst (λ b. Written (cond b none (some im)) out (Some r) after) (sym (le-ltb 65535 (length (encode im)) h))
     (written_all im out r after (p.place ∙ after_front out (encode im) (omega arith)) (p.bytes ∙ with_front out (encode im) (omega arith)) h)
 
 -- ---- the three ways out
@@ -93,15 +93,15 @@ module _ (s p : List ℕ) (c : Counts) (ctx : Ctx) (z : List ℕ) (f : ℕ) (lis
         (λ i. new_bytes (src.bytes i) p (src.counts_are i) ctx z f list)
         ∙ bytes_are im src.well_formed new ctx z counted kept f l list p starts_are
 
-  pub image_long : 65535 < length s → Assembles PastLimit out
+  pub image_long : 65535 < length s → Assembles None out
   image_long h im new src counted kept l room = absurd (omega (arith, src.well_formed.size, ap length src.bytes))
 
-  pub bytes_long : (n : ℕ) → n ≡ new_length s c ctx → 65535 < n → Assembles PastLimit out
+  pub bytes_long : (n : ℕ) → n ≡ new_length s c ctx → 65535 < n → Assembles None out
   bytes_long n e h im new src counted kept l room =
       past_limit (final im new src counted kept l) out (omega (arith, size_is im new src counted kept l))
 
   pub all_put : (n : ℕ) → n ≡ new_length s c ctx → n ≤ 65535 → (r : ℕ) (after : List ℕ) → Puts out 0 (new_bytes s p c ctx z f list) r after →
-      Assembles (Length r) after
+      Assembles (Some r) after
   all_put n e h r after q im new src counted kept l room =
       within_limit (final im new src counted kept l) out r after (omega (arith, size_is im new src counted kept l)) room
       (subst (λ x. Puts out 0 x r after) (put_is im new src counted kept l) q)

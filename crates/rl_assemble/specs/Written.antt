@@ -1,13 +1,12 @@
 -- An image's bytes at the front of a slice, and their number; nothing is put where there is no image.
-use Rattle.std.specs.Prelude.{ℕ, ◌≤◌, ◌≡◌, List, ◌++◌, length, drop}
+use Rattle.std.specs.Prelude.{ℕ, ◌≤◌, ◌≡◌, List, ◌++◌, length, drop, None, Some}
 use Rattle.std.proofs.Math.Option.{Option, none, some}
 use Rattle.rl_spec.specs.Image.{Image, encode}
 use Rattle.rl_assemble.specs.declared.Assembled.{Assembled}
-use Rattle.rl_assemble.specs.declared.Assembled.TheVariants.{Length, PastLimit}
 
 abbrev pub length_of : Option Image → Assembled
-length_of none = PastLimit
-length_of (some im) = Length (length (encode im))
+length_of none = None
+length_of (some im) = Some (length (encode im))
 
 abbrev pub put_over : Option Image → List ℕ → List ℕ
 put_over none out = out
@@ -16,4 +15,4 @@ put_over (some im) out = encode im ++ drop (length (encode im)) out
 pub record Written (o : Option Image) (out : List ℕ) (r : Assembled) (after : List ℕ) : Type 0 where
   pub number : r ≡ length_of o
   pub bytes : after ≡ put_over o out
-  pub few : (n : ℕ) → r ≡ Length n → n ≤ 65535
+  pub few : (n : ℕ) → r ≡ Some n → n ≤ 65535

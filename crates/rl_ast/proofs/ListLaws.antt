@@ -14,8 +14,8 @@ use Rattle.rl_spec.specs.declared.Counts.{Counts}
 use Rattle.rl_spec.specs.declared.Cause.TheVariants.{BytesEnd, WrongKind}
 use Rattle.rl_spec.specs.declared.Section.{Section}
 use Rattle.rl_spec.specs.declared.Section.TheVariants.{Lists}
-use Rattle.rl_spec.specs.declared.Step.{Step}
-use Rattle.rl_spec.specs.declared.Step.TheVariants.{Next, Stop}
+use Rattle.rl_spec.specs.Answers.{Step, goes_on, refused}
+use Rattle.std.specs.Prelude.{Err}
 use Rattle.rl_spec.specs.Bytes.{past}
 use Rattle.rl_spec.specs.Schema.{in_section, fields_of, fields_in, schema, sort_of}
 use Rattle.rl_spec.specs.Fields.{height_step, record_at, fields_from, field_at, value_of}
@@ -28,22 +28,22 @@ use Rattle.rl_fields.proofs.RecordLaws.{there}
 -- ---- the loop
 
 module _ (s : List ℕ) (n i at : ℕ) (whole : Step) (v : whole ≡ lists_from s (n - i) at) where
-  pub lists_end : n ≤ i → Next at 0 ≡ whole
+  pub lists_end : n ≤ i → goes_on at 0 ≡ whole
   unfolding lists_from
   lists_end q = rw (v, ended n i q) refl
 
   module _ (q : i < n) (b : Bool) (e : b ≡ past s at 1) where
-    pub lists_past : b ≡ true → Stop BytesEnd at ≡ whole
+    pub lists_past : b ≡ true → refused BytesEnd at ≡ whole
     unfolding lists_from
     lists_past f = rw (v, turn n i q, ← e, f) refl
 
     module _ (f : b ≡ false) where
-      pub lists_kind : (get_or s at 0 ≡ 3 → ⊥) → Stop WrongKind at ≡ whole
+      pub lists_kind : (get_or s at 0 ≡ 3 → ⊥) → refused WrongKind at ≡ whole
       unfolding lists_from
       lists_kind g = rw (v, turn n i q, ← e, f, ne_eqb (get_or s at 0) 3 g) refl
 
       module _ (g : get_or s at 0 ≡ 3) (d : Bool) (h : d ≡ past s (at + 1) 2) where
-        pub lists_short : d ≡ true → Stop BytesEnd (at + 1) ≡ whole
+        pub lists_short : d ≡ true → refused BytesEnd (at + 1) ≡ whole
         unfolding lists_from
         lists_short x = rw (v, turn n i q, ← e, f, eq-eqb (get_or s at 0) 3 g, ← h, x) refl
 
@@ -71,16 +71,16 @@ kind_only k = by_ltb k 3 (λ p. rw (lt-ltb k 3 p, ne_eqb k 3 (λ e. omega arith)
         (λ q. let e : k ≡ 3 = omega arith in rw (le-ltb k 3 p, le-leb k 3 q, eq-eqb k 3 e) refl)
 
 module _ (s w p : List ℕ) (c : Counts) (at : ℕ) where
-  only_field : (b : Bool) → past s (at + 1) 2 ≡ b → height_step Lists at (fields_from s w p c Lists (fields_of 3) (at + 1) 0) ≡ cond b (Stop BytesEnd (at + 1)) (Next (at + 1 + 2) 1)
+  only_field : (b : Bool) → past s (at + 1) 2 ≡ b → height_step Lists at (fields_from s w p c Lists (fields_of 3) (at + 1) 0) ≡ cond b (refused BytesEnd (at + 1)) (goes_on (at + 1 + 2) 1)
   unfolding fields_of fields_in schema sort_of fields_from field_at value_of
   only_field true e = rw e refl
   only_field false e = rw e refl
 
-  entry : record_at s w p c Lists at ≡ cond (past s at 1) (Stop BytesEnd at) (cond (eqb (get_or s at 0) 3) (cond (past s (at + 1) 2) (Stop BytesEnd (at + 1)) (Next (at + 1 + 2) 1)) (Stop WrongKind at))
+  entry : record_at s w p c Lists at ≡ cond (past s at 1) (refused BytesEnd at) (cond (eqb (get_or s at 0) 3) (cond (past s (at + 1) 2) (refused BytesEnd (at + 1)) (goes_on (at + 1 + 2) 1)) (refused WrongKind at))
   unfolding record_at
   entry = rw (kind_only (get_or s at 0)) (go (eqb (get_or s at 0) 3) refl)
     where
-      go : (b : Bool) → eqb (get_or s at 0) 3 ≡ b → cond (past s at 1) (Stop BytesEnd at) (cond b (height_step Lists at (fields_from s w p c Lists (fields_of (get_or s at 0)) (at + 1) 0)) (Stop WrongKind at)) ≡ cond (past s at 1) (Stop BytesEnd at) (cond b (cond (past s (at + 1) 2) (Stop BytesEnd (at + 1)) (Next (at + 1 + 2) 1)) (Stop WrongKind at))
+      go : (b : Bool) → eqb (get_or s at 0) 3 ≡ b → cond (past s at 1) (refused BytesEnd at) (cond b (height_step Lists at (fields_from s w p c Lists (fields_of (get_or s at 0)) (at + 1) 0)) (refused WrongKind at)) ≡ cond (past s at 1) (refused BytesEnd at) (cond b (cond (past s (at + 1) 2) (refused BytesEnd (at + 1)) (goes_on (at + 1 + 2) 1)) (refused WrongKind at))
       go true e = rw (eqb-true (get_or s at 0) 3 e, only_field (past s (at + 1) 2) refl) refl
       go false e = refl
 
@@ -90,7 +90,7 @@ lists_are s c zero i at w p = refl
 lists_are s c (suc n) i at w p =
     rw (entry s w p c at) (go (past s at 1) (eqb (get_or s at 0) 3) (past s (at + 1) 2) (lists_are s c n (i + 1) (at + 1 + 2) w p))
   where
-    go : (x y z : Bool) → out_of (lists_from s n (at + 1 + 2)) w p ≡ records_from s c Lists n (i + 1) (at + 1 + 2) w p → out_of (cond x (Stop BytesEnd at) (cond y (cond z (Stop BytesEnd (at + 1)) (lists_from s n (at + 1 + 2))) (Stop WrongKind at))) w p ≡ after (cond x (Stop BytesEnd at) (cond y (cond z (Stop BytesEnd (at + 1)) (Next (at + 1 + 2) 1)) (Stop WrongKind at))) (λ a t. records_from s c Lists n (i + 1) a w p) bad
+    go : (x y z : Bool) → out_of (lists_from s n (at + 1 + 2)) w p ≡ records_from s c Lists n (i + 1) (at + 1 + 2) w p → out_of (cond x (Err r) (cond y (cond z (refused BytesEnd (at + 1)) (lists_from s n (at + 1 + 2))) (Err r1))) w p ≡ after (cond x (Err r1) (cond y (cond z (refused BytesEnd (at + 1)) (goes_on (at + 1 + 2) 1)) (Err r1))) (λ a t. records_from s c Lists n (i + 1) a w p) bad
     go true y z f = refl
     go false true true f = refl
     go false true false f = f

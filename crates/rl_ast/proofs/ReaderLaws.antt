@@ -14,12 +14,9 @@ use borrow.Author.Tests.{lt-ltb, le-ltb, eq-eqb, ne_eqb}
 use Rattle.rl_spec.specs.declared.Counts.{Counts}
 use Rattle.rl_spec.specs.declared.Cause.{Cause}
 use Rattle.rl_spec.specs.declared.Cause.TheVariants.{ImageTooLong, WorkTooShort, BytesEnd, WrongKind, CountOverLimit, BytesLeft}
-use Rattle.rl_spec.specs.declared.Answer.{Answer}
-use Rattle.rl_spec.specs.declared.Answer.TheVariants.{Accepted, Refused}
+use Rattle.rl_spec.specs.Answers.{Answer, accepted, goes_on, refused, Step}
 use Rattle.rl_spec.specs.declared.Section.{Section}
 use Rattle.rl_spec.specs.declared.Section.TheVariants.{Texts, Lists, Expressions, Statements, Parameters, Clauses, Functions, Calls}
-use Rattle.rl_spec.specs.declared.Step.{Step}
-use Rattle.rl_spec.specs.declared.Step.TheVariants.{Next, Stop}
 use Rattle.rl_spec.specs.Bytes.{u16_at, u32_at, past}
 use Rattle.rl_spec.specs.Schema.{limits, sections, count_of, in_section, fields_of}
 use Rattle.rl_spec.specs.Fields.{record_at, height_step, fields_from}
@@ -49,7 +46,7 @@ unfolding limits
 nine = refl
 
 module _ (s : List ℕ) (j at : ℕ) (whole : Step) (v : whole ≡ counts_from s (drop j limits) at) where
-  pub count_end : 9 ≤ j → Next at 0 ≡ whole
+  pub count_end : 9 ≤ j → goes_on at 0 ≡ whole
   unfolding counts_from
   count_end q = rw (v, drop_of_length-le limits {i = j} (rw nine q)) refl
 
@@ -57,12 +54,12 @@ module _ (s : List ℕ) (j at : ℕ) (whole : Step) (v : whole ≡ counts_from s
     here : drop j limits ≡ get_or limits j 256 ∷ drop (j + 1) limits
     here = rw (add-one j) (drop-cons limits j 256 (rw nine q))
 
-    pub count_past : b ≡ true → Stop BytesEnd at ≡ whole
+    pub count_past : b ≡ true → refused BytesEnd at ≡ whole
     unfolding counts_from
     count_past f = rw (v, here, ← e, f) refl
 
     module _ (f : b ≡ false) (most n : ℕ) (g : most ≡ get_or limits j 256) (h : n ≡ u16_at s at) where
-      pub count_over : most < n → Stop CountOverLimit at ≡ whole
+      pub count_over : most < n → refused CountOverLimit at ≡ whole
       unfolding counts_from
       count_over x = rw (v, here, ← e, f, ← g, ← h, lt-ltb most n x) refl
 
@@ -71,17 +68,17 @@ module _ (s : List ℕ) (j at : ℕ) (whole : Step) (v : whole ≡ counts_from s
       count_more x = rw (v, here, ← e, f, ← g, ← h, le-ltb most n x) refl
 
 module _ (s : List ℕ) (b : Bool) (e : b ≡ past s 0 1) where
-  pub header_past : b ≡ true → Stop BytesEnd 0 ≡ header_of s
+  pub header_past : b ≡ true → refused BytesEnd 0 ≡ header_of s
   unfolding header_of
   header_past q = rw (← e, q) refl
 
   module _ (q : b ≡ false) (k : ℕ) (f : k ≡ get_or s 0 0) where
-    pub header_kind : (k ≡ 1 → ⊥) → Stop WrongKind 0 ≡ header_of s
+    pub header_kind : (k ≡ 1 → ⊥) → refused WrongKind 0 ≡ header_of s
     unfolding header_of
     header_kind x = rw (← e, q, ← f, ne_eqb k 1 x) refl
 
     module _ (x : k ≡ 1) (d : Bool) (g : d ≡ past s 1 4) where
-      pub header_arena : d ≡ true → Stop BytesEnd 1 ≡ header_of s
+      pub header_arena : d ≡ true → refused BytesEnd 1 ≡ header_of s
       unfolding header_of
       header_arena y = rw (← e, q, ← f, eq-eqb k 1 x, ← g, y) refl
 
@@ -112,18 +109,18 @@ length_keep c Functions i x w = refl
 length_keep c Calls i x w = refl
 
 -- a record that is accepted is there
-pub record_there : (s w p : List ℕ) (seen : Counts) (own : Section) (at : ℕ) (r : Step) → r ≡ record_at s w p seen own at → (a t : ℕ) → r ≡ Next a t → at < length s
+pub record_there : (s w p : List ℕ) (seen : Counts) (own : Section) (at : ℕ) (r : Step) → r ≡ record_at s w p seen own at → (a t : ℕ) → r ≡ goes_on a t → at < length s
 unfolding record_at
 record_there s w p seen own at r e a t f = go (past s at 1) refl (sym e ∙ f)
   where
     rest : Step
-    rest = cond (in_section own (get_or s at 0)) (height_step own at (fields_from s w p seen own (fields_of (get_or s at 0)) (at + 1) 0)) (Stop WrongKind at)
+    rest = cond (in_section own (get_or s at 0)) (height_step own at (fields_from s w p seen own (fields_of (get_or s at 0)) (at + 1) 0)) (refused WrongKind at)
 
-    go : (b : Bool) → b ≡ past s at 1 → cond b (Stop BytesEnd at) rest ≡ Next a t → at < length s
+    go : (b : Bool) → b ≡ past s at 1 → cond b (refused BytesEnd at) rest ≡ goes_on a t → at < length s
     go true g h = let z : ◌≡◌ {A = ℕ} 0 1 = cc in absurd (omega arith)
     go false g h = byte_there s at false g refl
 
-pub start_fits : (rows s w p : List ℕ) (seen : Counts) (own : Section) (at : ℕ) → rows ≡ table → (r : Step) → r ≡ record_by rows s w p seen own at → (a t : ℕ) → r ≡ Next a t → length s ≤ 65535 → Fits w16 at
+pub start_fits : (rows s w p : List ℕ) (seen : Counts) (own : Section) (at : ℕ) → rows ≡ table → (r : Step) → r ≡ record_by rows s w p seen own at → (a t : ℕ) → r ≡ goes_on a t → length s ≤ 65535 → Fits w16 at
 start_fits rows s w p seen own at z r e a t f l =
     omega (arith, record_there s w p seen own at r (e ∙ record_by_table rows s w p seen own at z) a t f)
 
@@ -142,11 +139,11 @@ module _ (s : List ℕ) (c : Counts) (o : Section) (n i at : ℕ) (w p : List �
     f : r ≡ record_at s w p seen o at
     f = h ∙ record_by_table rows s w p seen o at z
 
-    pub records_more : (a t : ℕ) → r ≡ Next a t → (w' p' : List ℕ) → w' ≡ keep c o i t w → p' ≡ keep c o i at p → whole ≡ records_from s c o (n - (i + 1)) (i + 1) a w' p'
+    pub records_more : (a t : ℕ) → r ≡ goes_on a t → (w' p' : List ℕ) → w' ≡ keep c o i t w → p' ≡ keep c o i at p → whole ≡ records_from s c o (n - (i + 1)) (i + 1) a w' p'
     unfolding records_from
     records_more a t g w' p' x y = rw (v, turn n i q, ← e, ← f, g, x, y) refl
 
-    pub records_stop : (d : Cause) (y : ℕ) → r ≡ Stop d y → bad d y ≡ whole
+    pub records_stop : (d : Cause) (y : ℕ) → r ≡ refused d y → bad d y ≡ whole
     unfolding records_from
     records_stop d y g = rw (v, turn n i q, ← e, ← f, g) refl
 
@@ -173,11 +170,11 @@ module _ (s : List ℕ) (c : Counts) (j at : ℕ) (w p : List ℕ) (whole : Out)
     next : drop j sections ≡ o ∷ drop (j + 1) sections
     next = rw (add-one j, e) (drop-cons sections j Calls (rw eight q))
 
-    pub sections_more : (a t : ℕ) → r ≡ Next a t → whole ≡ sections_from s c (drop (j + 1) sections) a w' p'
+    pub sections_more : (a t : ℕ) → r ≡ goes_on a t → whole ≡ sections_from s c (drop (j + 1) sections) a w' p'
     unfolding sections_from
     sections_more a t h = rw (v, next, ← f, ← g, h) refl
 
-    pub sections_stop : (d : Cause) (z : ℕ) → r ≡ Stop d z → bad d z ≡ whole
+    pub sections_stop : (d : Cause) (z : ℕ) → r ≡ refused d z → bad d z ≡ whole
     unfolding sections_from
     sections_stop d z h = rw (v, next, ← f, ← g, h) refl
 
@@ -193,11 +190,11 @@ module _ (s : List ℕ) (c : Counts) (w p : List ℕ) (b : Bool) (e : b ≡ past
     unfolding body_of
     body_is = rw (← e, q, f) refl
 
-    pub body_stop : (d : Cause) (z : ℕ) → r ≡ Stop d z → bad d z ≡ body_of s c w p
+    pub body_stop : (d : Cause) (z : ℕ) → r ≡ refused d z → bad d z ≡ body_of s c w p
     unfolding end_of
     body_stop d z g = rw (← body_is, g) refl
 
-    module _ (a t : ℕ) (g : r ≡ Next a t) where
+    module _ (a t : ℕ) (g : r ≡ goes_on a t) where
       pub body_left_lem : a < length s → bad BytesLeft a ≡ body_of s c w p
       unfolding end_of
       body_left_lem x = rw (← body_is, g, lt-ltb a (length s) x) refl
@@ -209,10 +206,10 @@ module _ (s : List ℕ) (c : Counts) (w p : List ℕ) (b : Bool) (e : b ≡ past
 -- ---- the content
 
 module _ (s w p : List ℕ) (r : Step) (e : r ≡ header_of s) where
-  pub content_stop : (d : Cause) (z : ℕ) → r ≡ Stop d z → bad d z ≡ content_of s w p
+  pub content_stop : (d : Cause) (z : ℕ) → r ≡ refused d z → bad d z ≡ content_of s w p
   content_stop d z f = rw (← e, f) refl
 
-  pub content_more : (a t : ℕ) → r ≡ Next a t → (c : Counts) → c ≡ counts_of s → (o : Out) → o ≡ body_of s c w p → o ≡ content_of s w p
+  pub content_more : (a t : ℕ) → r ≡ goes_on a t → (c : Counts) → c ≡ counts_of s → (o : Out) → o ≡ body_of s c w p → o ≡ content_of s w p
   content_more a t f c g o h = rw (← e, f, ← g) h
 
 -- ---- the answer
@@ -225,16 +222,16 @@ abbrev Promised : List ℕ → ℕ → Answer → List ℕ → List ℕ → Type
 Promised s k r w p = (r ≡ answer_of s k) × ((w ≡ work_of s k) × (p ≡ starts_of s k))
 
 module _ (s : List ℕ) (k : ℕ) where
-  refused : (d : Cause) (z : ℕ) → bad d z ≡ read_of s k → (w p : List ℕ) → w ≡ replicate k 0 → p ≡ replicate most_starts 0 → Promised s k (Refused d z) w p
+  refused : (d : Cause) (z : ℕ) → bad d z ≡ read_of s k → (w p : List ℕ) → w ≡ replicate k 0 → p ≡ replicate most_starts 0 → Promised s k (refused d z) w p
   unfolding answer_of work_of starts_of
   refused d z e w p f g = rw (← e) (refl, (f, g))
 
-  pub read_long : 65535 < length s → (w p : List ℕ) → w ≡ replicate k 0 → p ≡ replicate most_starts 0 → Promised s k (Refused ImageTooLong 0) w p
+  pub read_long : 65535 < length s → (w p : List ℕ) → w ≡ replicate k 0 → p ≡ replicate most_starts 0 → Promised s k (refused ImageTooLong 0) w p
   unfolding read_of
   read_long h w p f g = refused ImageTooLong 0 (rw (lt-ltb 65535 (length s) h) refl) w p f g
 
   module _ (h : length s ≤ 65535) where
-    pub read_short : k < 8192 → (w p : List ℕ) → w ≡ replicate k 0 → p ≡ replicate most_starts 0 → Promised s k (Refused WorkTooShort 0) w p
+    pub read_short : k < 8192 → (w p : List ℕ) → w ≡ replicate k 0 → p ≡ replicate most_starts 0 → Promised s k (refused WorkTooShort 0) w p
     unfolding read_of
     read_short q w p f g = refused WorkTooShort 0 (rw (le-ltb 65535 (length s) h, lt-ltb k 8192 q) refl) w p f g
 
@@ -243,9 +240,9 @@ module _ (s : List ℕ) (k : ℕ) where
       unfolding read_of
       read_is = rw (le-ltb 65535 (length s) h, le-ltb k 8192 q, ← f, ← g) e
 
-      pub read_stop : (d : Cause) (z : ℕ) → r ≡ Stop d z → (w'' p'' : List ℕ) → w'' ≡ replicate k 0 → p'' ≡ replicate most_starts 0 → Promised s k (Refused d z) w'' p''
+      pub read_stop : (d : Cause) (z : ℕ) → r ≡ refused d z → (w'' p'' : List ℕ) → w'' ≡ replicate k 0 → p'' ≡ replicate most_starts 0 → Promised s k (refused d z) w'' p''
       read_stop d z x w'' p'' y v = refused d z (ap (λ (i : Step). out_of i w' p') (sym x) ∙ read_is) w'' p'' y v
 
-      pub read_good : (a t : ℕ) → r ≡ Next a t → (n : ℕ) → n ≡ u32_at s 1 → (c : Counts) → c ≡ counts_of s → Promised s k (Accepted (record { 0 = n }) c) w' p'
+      pub read_good : (a t : ℕ) → r ≡ goes_on a t → (n : ℕ) → n ≡ u32_at s 1 → (c : Counts) → c ≡ counts_of s → Promised s k (accepted (record { 0 = n }) c) w' p'
       unfolding answer_of work_of starts_of
       read_good a t x n y c z = rw (← read_is, x, y, z) (refl, (refl, refl))

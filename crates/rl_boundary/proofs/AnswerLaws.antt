@@ -5,22 +5,12 @@ use mathlib.Core.Path.{◌≡◌, refl}
 use native.Mathlib.Omega.{arith}
 use mir.Val.{Fits}
 use mir.Syntax.{w64}
-use Rattle.rl_spec.specs.declared.Answer.{Answer}
-use Rattle.rl_spec.specs.declared.Answer.TheVariants.{Accepted, Refused}
+use Rattle.rl_spec.specs.Answers.{Answer, accepted, refused, LowerAnswer, MessageAnswer, PagesAnswer, ProveAnswer, TextAnswer}
+use Rattle.std.specs.Prelude.{Ok}
 use Rattle.rl_spec.specs.declared.ArenaNo.{ArenaNo}
 use Rattle.rl_spec.specs.declared.Cause.{Cause}
 use Rattle.rl_spec.specs.declared.Cause.TheVariants.{ImageTooLong, WorkTooShort, BytesEnd, WrongKind, CountOverLimit, BadText, BadValue, BadReference, TooHigh, BytesLeft, OtherArena, NoSuchNode, NoSuchCall, ReportsTooShort, NoSuchFunction, HeightOverLimit, OutputTooShort, LimitPassed, WrongValues, NoSuchText, BudgetOverLimit, PagesTooShort}
 use Rattle.rl_spec.specs.declared.Counts.{Counts}
-use Rattle.rl_spec.specs.declared.LowerAnswer.{LowerAnswer}
-use Rattle.rl_spec.specs.declared.LowerAnswer.TheVariants as lower
-use Rattle.rl_spec.specs.declared.MessageAnswer.{MessageAnswer}
-use Rattle.rl_spec.specs.declared.MessageAnswer.TheVariants as message
-use Rattle.rl_spec.specs.declared.PagesAnswer.{PagesAnswer}
-use Rattle.rl_spec.specs.declared.PagesAnswer.TheVariants as pages
-use Rattle.rl_spec.specs.declared.ProveAnswer.{ProveAnswer}
-use Rattle.rl_spec.specs.declared.ProveAnswer.TheVariants as prove
-use Rattle.rl_spec.specs.declared.TextAnswer.{TextAnswer}
-use Rattle.rl_spec.specs.declared.TextAnswer.TheVariants as text
 use Rattle.rl_spec.specs.declared.TextPart.{TextPart}
 use Rattle.rl_spec.specs.Read.{number_of, place_in, packed}
 use Rattle.rl_spec.specs.Boundary.{above, prove_packed, proved_place, lower_packed, lowered_place, text_packed, text_place, message_packed, message_place, pages_packed, pages_place}
@@ -59,10 +49,10 @@ module _ (q : Cause) (n : ℕ) (e : n ≡ number_of q) where
 -- ---- reading
 
 module _ (a : Answer) where
-  pub accepted_packed : (m : ArenaNo) (c : Counts) → a ≡ Accepted m c → 0 ≡ packed a
+  pub accepted_packed : (m : ArenaNo) (c : Counts) → a ≡ accepted m c → 0 ≡ packed a
   accepted_packed m c f = rw f refl
 
-  module _ (q : Cause) (p : ℕ) (f : a ≡ Refused q p) where
+  module _ (q : Cause) (p : ℕ) (f : a ≡ refused q p) where
     pub read_near : place_in a ≤ 65535 → p ≤ 65535
     read_near h = rw f at h
 
@@ -71,7 +61,7 @@ module _ (a : Answer) where
 
 -- ---- proving
 
-module _ (a : ProveAnswer) (q : Cause) (p : ℕ) (f : a ≡ prove.Refused q p) where
+module _ (a : ProveAnswer) (q : Cause) (p : ℕ) (f : a ≡ refused q p) where
   pub refused_near : proved_place a ≤ 65535 → p ≤ 65535
   refused_near h = rw f at h
 
@@ -80,7 +70,7 @@ module _ (a : ProveAnswer) (q : Cause) (p : ℕ) (f : a ≡ prove.Refused q p) w
 
 -- ---- lowering
 
-module _ (a : LowerAnswer) (q : Cause) (p : ℕ) (f : a ≡ lower.Refused q p) where
+module _ (a : LowerAnswer) (q : Cause) (p : ℕ) (f : a ≡ refused q p) where
   pub lowered_near : lowered_place a ≤ 65535 → p ≤ 65535
   lowered_near h = rw f at h
 
@@ -90,10 +80,10 @@ module _ (a : LowerAnswer) (q : Cause) (p : ℕ) (f : a ≡ lower.Refused q p) w
 -- ---- texts
 
 module _ (a : TextAnswer) where
-  pub text_packed_lem : (part : TextPart) → a ≡ text.Found part → part.start + part.length * 65536 ≡ text_packed a
+  pub text_packed_lem : (part : TextPart) → a ≡ Ok part → part.start + part.length * 65536 ≡ text_packed a
   text_packed_lem part f = rw f refl
 
-  module _ (q : Cause) (p : ℕ) (f : a ≡ text.Refused q p) where
+  module _ (q : Cause) (p : ℕ) (f : a ≡ refused q p) where
     pub text_near : text_place a ≤ 65535 → p ≤ 65535
     text_near h = rw f at h
 
@@ -102,7 +92,7 @@ module _ (a : TextAnswer) where
 
 -- ---- messages
 
-module _ (a : MessageAnswer) (q : Cause) (p : ℕ) (f : a ≡ message.Refused q p) where
+module _ (a : MessageAnswer) (q : Cause) (p : ℕ) (f : a ≡ refused q p) where
   pub message_near : message_place a ≤ 65535 → p ≤ 65535
   message_near h = rw f at h
 
@@ -111,7 +101,7 @@ module _ (a : MessageAnswer) (q : Cause) (p : ℕ) (f : a ≡ message.Refused q 
 
 -- ---- pages
 
-module _ (a : PagesAnswer) (q : Cause) (p : ℕ) (f : a ≡ pages.Refused q p) where
+module _ (a : PagesAnswer) (q : Cause) (p : ℕ) (f : a ≡ refused q p) where
   pub pages_near : pages_place a ≤ 65535 → p ≤ 65535
   pages_near h = rw f at h
 

@@ -12,7 +12,7 @@ use lib.Seq.{drop-cons, take_all, take-suc-set}
 use borrow.Author.Tests.{lt-ltb, le-ltb, eq-eqb, ne_eqb}
 use Rattle.rl_laws.specs.Tests.{by_eqb}
 use Rattle.rl_spec.specs.declared.Argument.{Argument}
-use Rattle.rl_spec.specs.declared.Folded.{Folded}
+use Rattle.rl_spec.specs.Answers.{Folded}
 use Rattle.rl_spec.specs.declared.Outcome.{Outcome}
 use Rattle.rl_spec.specs.declared.Outcome.TheVariants as outcome
 use Rattle.rl_spec.specs.declared.Plain.{Plain}

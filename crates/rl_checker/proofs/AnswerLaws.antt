@@ -9,14 +9,12 @@ use mir.Syntax.{w8}
 use mir.Val.{Fits}
 use borrow.Author.Tests.{lt-ltb, le-ltb}
 use Rattle.rl_laws.specs.Tests.{by_ltb}
-use Rattle.rl_spec.specs.declared.Answer.{Answer}
-use Rattle.rl_spec.specs.declared.Answer.TheVariants as read
+use Rattle.rl_spec.specs.Answers.{Answer, accepted, refused, ProveAnswer}
+use Rattle.std.specs.Prelude.{Ok}
 use Rattle.rl_spec.specs.declared.ArenaNo.{ArenaNo}
 use Rattle.rl_spec.specs.declared.Cause.{Cause}
 use Rattle.rl_spec.specs.declared.Cause.TheVariants.{NoSuchCall, ReportsTooShort}
 use Rattle.rl_spec.specs.declared.Counts.{Counts}
-use Rattle.rl_spec.specs.declared.ProveAnswer.{ProveAnswer}
-use Rattle.rl_spec.specs.declared.ProveAnswer.TheVariants.{Proved, Refused}
 use Rattle.rl_spec.specs.declared.Section.TheVariants.{Texts, Calls}
 use Rattle.rl_spec.specs.Schema.{limits}
 use Rattle.rl_spec.specs.Read.{counts_of, answer_of, work_of, starts_of}
@@ -58,17 +56,17 @@ module _ (l e : List ℕ) (at room : ℕ) (n : length l ≡ room) (sh : Shown l 
       (λ h. rw (n, ← p, lt-ltb room (length e) h, m) (zeros_unless ReportsTooShort s k))
       (λ h. rw (n, ← p, le-ltb room (length e) h) w)
 
-pub fitted_short : (room at : ℕ) → room < at → Refused ReportsTooShort 0 ≡ fitting_at room at
+pub fitted_short : (room at : ℕ) → room < at → refused ReportsTooShort 0 ≡ fitting_at room at
 unfolding fitting_at
 fitted_short room at h = rw (lt-ltb room at h) refl
 
-pub fitted_all : (room at : ℕ) → at ≤ room → Proved (at / 4) ≡ fitting_at room at
+pub fitted_all : (room at : ℕ) → at ≤ room → Ok (at / 4) ≡ fitting_at room at
 unfolding fitting_at
 fitted_all room at h = rw (le-ltb room at h) refl
 
 -- ---- an accepted image
 
-module _ (s : List ℕ) (bytes : (i : ℕ) → Fits w8 (get_or s i 0)) (k : ℕ) (no : ArenaNo) (c : Counts) (e : answer_of s k ≡ read.Accepted no c) where
+module _ (s : List ℕ) (bytes : (i : ℕ) → Fits w8 (get_or s i 0)) (k : ℕ) (no : ArenaNo) (c : Counts) (e : answer_of s k ≡ accepted no c) where
   well : WellFormed (image_of s)
   well = accepted_well_formed s k no c (all_bytes s (λ i. omega (arith, (bytes i).fits))) e
 
@@ -86,16 +84,16 @@ module _ (s : List ℕ) (bytes : (i : ℕ) → Fits w8 (get_or s i 0)) (k : ℕ)
 -- ---- the ways out
 
 module _ (s : List ℕ) (k room : ℕ) (a : Answer) (e : a ≡ answer_of s k) (l : List ℕ) (z : l ≡ replicate room 0) where
-  module _ (q : Cause) (n : ℕ) (f : a ≡ read.Refused q n) (w : List ℕ) (g : w ≡ work_of s k) where
-    unread_work : (r : ProveAnswer) → r ≡ Refused q n → w ≡ work_unless (prove_number r) s k
+  module _ (q : Cause) (n : ℕ) (f : a ≡ refused q n) (w : List ℕ) (g : w ≡ work_of s k) where
+    unread_work : (r : ProveAnswer) → r ≡ refused q n → w ≡ work_unless (prove_number r) s k
     unread_work r h = g ∙ refused_work s k q n (sym e ∙ f) ∙ zeros_unless q s k ∙ ap (λ (x : ProveAnswer). work_unless (prove_number x) s k) (sym h)
 
     module _ (call : ℕ) where
-      unread : prove_of s k call room ≡ Refused q n
+      unread : prove_of s k call room ≡ refused q n
       unfolding prove_of
       unread = rw (← e, f) refl
 
-      pub prove_unread : Refused q n ≡ prove_of s k call room
+      pub prove_unread : refused q n ≡ prove_of s k call room
       prove_unread = sym unread
 
       pub prove_unread_slice : l ≡ reports_of s k call room
@@ -105,11 +103,11 @@ module _ (s : List ℕ) (k room : ℕ) (a : Answer) (e : a ≡ answer_of s k) (l
       pub prove_unread_work : w ≡ work_unless (prove_number (prove_of s k call room)) s k
       prove_unread_work = unread_work (prove_of s k call room) unread
 
-    unread_all : prove_all_of s k room ≡ Refused q n
+    unread_all : prove_all_of s k room ≡ refused q n
     unfolding prove_all_of
     unread_all = rw (← e, f) refl
 
-    pub all_unread : Refused q n ≡ prove_all_of s k room
+    pub all_unread : refused q n ≡ prove_all_of s k room
     all_unread = sym unread_all
 
     pub all_unread_slice : l ≡ all_reports_of s k room
@@ -119,13 +117,13 @@ module _ (s : List ℕ) (k room : ℕ) (a : Answer) (e : a ≡ answer_of s k) (l
     pub all_unread_work : w ≡ work_unless (prove_number (prove_all_of s k room)) s k
     all_unread_work = unread_work (prove_all_of s k room) unread_all
 
-  module _ (no : ArenaNo) (c : Counts) (f : a ≡ read.Accepted no c) where
+  module _ (no : ArenaNo) (c : Counts) (f : a ≡ accepted no c) where
     module _ (call : ℕ) (h : c.calls ≤ call) where
-      missing : prove_of s k call room ≡ Refused NoSuchCall 0
+      missing : prove_of s k call room ≡ refused NoSuchCall 0
       unfolding prove_of
       missing = rw (← e, f, le-ltb call c.calls h) refl
 
-      pub prove_missing : Refused NoSuchCall 0 ≡ prove_of s k call room
+      pub prove_missing : refused NoSuchCall 0 ≡ prove_of s k call room
       prove_missing = sym missing
 
       pub prove_missing_slice : l ≡ reports_of s k call room

@@ -6,15 +6,12 @@ use mathlib.Core.Bool.{Bool, true, false, cond}
 use mathlib.Core.List.{List, []}
 use lib.Dec.{eqb, ltb}
 use lib.ListN.{length, replicate}
-use Rattle.rl_spec.specs.declared.Answer.{Answer}
-use Rattle.rl_spec.specs.declared.Answer.TheVariants as read
+use Rattle.rl_spec.specs.Answers.{Answer, accepted, refused, FoldAnswer, Folded}
+use Rattle.std.specs.Prelude.{Ok}
 use Rattle.rl_spec.specs.declared.ArenaNo.{ArenaNo}
 use Rattle.rl_spec.specs.declared.Cause.{Cause}
 use Rattle.rl_spec.specs.declared.Cause.TheVariants as cause
 use Rattle.rl_spec.specs.declared.Counts.{Counts}
-use Rattle.rl_spec.specs.declared.FoldAnswer.{FoldAnswer}
-use Rattle.rl_spec.specs.declared.FoldAnswer.TheVariants.{Found, Refused}
-use Rattle.rl_spec.specs.declared.Folded.{Folded}
 use Rattle.rl_spec.specs.declared.Id.{Id}
 use Rattle.rl_spec.specs.Read.{answer_of, work_of, starts_of}
 use Rattle.rl_spec.specs.Image.{Image, image_of}
@@ -43,24 +40,24 @@ module _ (s : List ℕ) (k : ℕ) (id : Id) (a : Answer) (e : a ≡ answer_of s 
   work_of_lem : (r : FoldAnswer) (w : List ℕ) → Is r → w ≡ work_unless (fold_number r) s k → Work w
   work_of_lem r w f g = subst (λ (x : FoldAnswer). w ≡ work_unless (fold_number x) s k) f g
 
-  module _ (q : Cause) (n : ℕ) (f : a ≡ read.Refused q n) where
-    pub fold_unread : Is (Refused q n)
+  module _ (q : Cause) (n : ℕ) (f : a ≡ refused q n) where
+    pub fold_unread : Is (refused q n)
     unfolding fold_of
     fold_unread = rw (← e, f) refl
 
     pub fold_unread_work : (w : List ℕ) → w ≡ work_of s k → Work w
-    fold_unread_work w g = work_of_lem (Refused q n) w fold_unread (g ∙ refused_work s k q n (sym e ∙ f) ∙ zeros_unless q s k)
+    fold_unread_work w g = work_of_lem (refused q n) w fold_unread (g ∙ refused_work s k q n (sym e ∙ f) ∙ zeros_unless q s k)
 
-  module _ (no : ArenaNo) (c : Counts) (f : a ≡ read.Accepted no c) (l : Lookup) (g : l ≡ lookup no c id) where
-    by_lookup : (x y : Bool) → eqb id.arena.0 no.0 ≡ x → ltb id.node.0 c.expressions ≡ y → (l ≡ cond x (cond y (Node id.node.0) NoSuchNode) OtherArena) × (fold_of s k id ≡ cond x (cond y (Found (folded_at (image_of s) [] id.node.0)) (Refused cause.NoSuchNode 0)) (Refused cause.OtherArena 0))
+  module _ (no : ArenaNo) (c : Counts) (f : a ≡ accepted no c) (l : Lookup) (g : l ≡ lookup no c id) where
+    by_lookup : (x y : Bool) → eqb id.arena.0 no.0 ≡ x → ltb id.node.0 c.expressions ≡ y → (l ≡ cond x (cond y (Node id.node.0) NoSuchNode) OtherArena) × (fold_of s k id ≡ cond x (cond y (Ok (folded_at (image_of s) [] id.node.0)) (refused cause.NoSuchNode 0)) (refused cause.OtherArena 0))
     unfolding fold_of lookup
     by_lookup x y p q = (g ∙ rw (p, q) refl, rw (← e, f, p, q) refl)
 
     -- which of the three it is
     abbrev Three : Lookup → Type 0
-    Three (Node n) = fold_of s k id ≡ Found (folded_at (image_of s) [] n)
-    Three OtherArena = fold_of s k id ≡ Refused cause.OtherArena 0
-    Three NoSuchNode = fold_of s k id ≡ Refused cause.NoSuchNode 0
+    Three (Node n) = fold_of s k id ≡ Ok (folded_at (image_of s) [] n)
+    Three OtherArena = fold_of s k id ≡ refused cause.OtherArena 0
+    Three NoSuchNode = fold_of s k id ≡ refused cause.NoSuchNode 0
 
     three : Three l
     three = go (eqb id.arena.0 no.0) (ltb id.node.0 c.expressions) refl refl
@@ -70,24 +67,24 @@ module _ (s : List ℕ) (k : ℕ) (id : Id) (a : Answer) (e : a ≡ answer_of s 
         go true false p q = let t = by_lookup true false p q in subst Three (sym t.0) t.1
         go false y p q = let t = by_lookup false y p q in subst Three (sym t.0) t.1
 
-    pub fold_other : l ≡ OtherArena → Is (Refused cause.OtherArena 0)
+    pub fold_other : l ≡ OtherArena → Is (refused cause.OtherArena 0)
     fold_other h = sym (subst Three h three)
 
     pub fold_other_work : l ≡ OtherArena → (v w : List ℕ) → length v ≡ k → w ≡ replicate (length v) 0 → Work w
-    fold_other_work h v w n z = work_of_lem (Refused cause.OtherArena 0) w (fold_other h) (z ∙ ap (λ (i : ℕ). replicate i 0) n ∙ zeros_unless cause.OtherArena s k)
+    fold_other_work h v w n z = work_of_lem (refused cause.OtherArena 0) w (fold_other h) (z ∙ ap (λ (i : ℕ). replicate i 0) n ∙ zeros_unless cause.OtherArena s k)
 
-    pub fold_missing : l ≡ NoSuchNode → Is (Refused cause.NoSuchNode 0)
+    pub fold_missing : l ≡ NoSuchNode → Is (refused cause.NoSuchNode 0)
     fold_missing h = sym (subst Three h three)
 
     pub fold_missing_work : l ≡ NoSuchNode → (v w : List ℕ) → length v ≡ k → w ≡ replicate (length v) 0 → Work w
-    fold_missing_work h v w n z = work_of_lem (Refused cause.NoSuchNode 0) w (fold_missing h) (z ∙ ap (λ (i : ℕ). replicate i 0) n ∙ zeros_unless cause.NoSuchNode s k)
+    fold_missing_work h v w n z = work_of_lem (refused cause.NoSuchNode 0) w (fold_missing h) (z ∙ ap (λ (i : ℕ). replicate i 0) n ∙ zeros_unless cause.NoSuchNode s k)
 
     module _ (n : ℕ) (h : l ≡ Node n) (p : List ℕ) (z : p ≡ starts_of s k) (r : Folded) (y : r ≡ folded_at (image_found s p c) [] n) where
       own : r ≡ folded_at (image_of s) [] n
       own = y ∙ ap (λ (im : Image). folded_at im [] n) (ap (λ (x : List ℕ). image_found s x c) z ∙ found_is_image s k no c (sym e ∙ f))
 
-      pub fold_found : Is (Found r)
-      fold_found = ap Found own ∙ sym (subst Three h three)
+      pub fold_found : Is (Ok r)
+      fold_found = ap Ok own ∙ sym (subst Three h three)
 
       pub fold_found_work : (w : List ℕ) → w ≡ work_of s k → Work w
-      fold_found_work w g = work_of_lem (Found r) w fold_found g
+      fold_found_work w g = work_of_lem (Ok r) w fold_found g

@@ -1,9 +1,8 @@
 -- What proving writes into the slice. Assumes nothing.
-use Rattle.std.specs.Prelude.{ℕ, ◌/◌, ◌≤◌, min, cond, List, [], ltb}
+use Rattle.std.specs.Prelude.{ℕ, ◌/◌, ◌≤◌, min, cond, List, [], ltb, Ok}
 use Rattle.rl_spec.specs.declared.Cause.TheVariants.{ReportsTooShort}
 use Rattle.rl_spec.specs.declared.Counts.{Counts}
-use Rattle.rl_spec.specs.declared.ProveAnswer.{ProveAnswer}
-use Rattle.rl_spec.specs.declared.ProveAnswer.TheVariants.{Proved, Refused}
+use Rattle.rl_spec.specs.Answers.{ProveAnswer, refused}
 use Rattle.rl_spec.specs.Image.{Image, text_of}
 use Rattle.rl_spec.specs.Records.{function_at}
 use Rattle.rl_spec.specs.Prove.{call_entries, all_entries}
@@ -28,4 +27,4 @@ ProvesAll im c l out r = Limited im c → Shown l [] 0 → Shown out (all_entrie
 
 -- for entries up to a place, the answer
 unfoldable pub fitting_at : ℕ → ℕ → ProveAnswer
-fitting_at room at = cond (ltb room at) (Refused ReportsTooShort 0) (Proved (at / 4))
+fitting_at room at = cond (ltb room at) (refused ReportsTooShort 0) (Ok (at / 4))

@@ -4,7 +4,8 @@ use Rattle.std.proofs.Common.{◌≡◌, ℕ, ◌+◌, ◌≤◌, true, List, []
 use mathlib.Core.Option.{some, map}
 use Rattle.rl_spec.specs.declared.Function.{Function}
 use Rattle.rl_spec.specs.declared.Param as decl
-use Rattle.rl_spec.specs.declared.ParamRefinement.TheVariants.{Unrefined, Refined}
+use Rattle.std.specs.Prelude.{None}
+use Rattle.rl_spec.specs.Answers.{refined}
 use Rattle.rl_spec.specs.declared.RefineOp as op
 use Rattle.rl_spec.specs.declared.RefineOperand as operand
 use Rattle.rl_spec.specs.declared.Violation.TheVariants.{Refinement}
@@ -208,16 +209,16 @@ module _ (image : Image) (f n : ℕ) (function : Function) (p : decl.Param) (e :
   unfolding param_of
   guard_is = ap (λ z. refinement_guard image z.name (refinement_of z.refinement)) (sym at_number)
 
-  pub unrefined_done : (im : Image) (s : State) → p.refinement ≡ Unrefined → Gathers im 0 (guard_in image f n) s s
+  pub unrefined_done : (im : Image) (s : State) → p.refinement ≡ None → Gathers im 0 (guard_in image f n) s s
   unrefined_done im s h = subst (λ m. Gathers im 0 m s s) (ap (λ z. refinement_guard image p.name (refinement_of z)) (sym h) ∙ sym guard_is) ([], does_none s)
 
-  default_is : (o : op.RefineOp) (x : operand.RefineOperand) → p.refinement ≡ Refined o x → default_text image f (Refinement n) ≡ refinement_text (text_of image p.name) (some (map_refinement (text_of image) (refined_as o x)))
+  default_is : (o : op.RefineOp) (x : operand.RefineOperand) → p.refinement ≡ refined o x → default_text image f (Refinement n) ≡ refinement_text (text_of image p.name) (some (map_refinement (text_of image) (refined_as o x)))
   unfolding param_of
   default_is o x h =
       ap (λ z. refinement_text (text_of image z.name) (map (map_refinement (text_of image)) (refinement_of z.refinement))) (sym at_number)
       ∙ ap (λ z. refinement_text (text_of image p.name) (map (map_refinement (text_of image)) (refinement_of z))) h
 
-  pub refinement_done : {im : Image} {s t : State} (o : op.RefineOp) (x : operand.RefineOperand) (room w text : List ℕ) (size : ℕ) → p.refinement ≡ Refined o x → 16385 ≤ length room →
+  pub refinement_done : {im : Image} {s t : State} (o : op.RefineOp) (x : operand.RefineOperand) (room w text : List ℕ) (size : ℕ) → p.refinement ≡ refined o x → 16385 ≤ length room →
       size ≡ after_text room 0 (default_text image f (Refinement n)) → w ≡ with_text room 0 (default_text image f (Refinement n)) → text ≡ take size (drop 0 w) →
       Gathers im 0 (refined_by image p.name (refined_as o x) text) s t → Gathers im 0 (guard_in image f n) s t
   refinement_done {im} {s} {t} o x room w text size h k a b c g = (

@@ -5,7 +5,7 @@ use Rattle.rl_spec.specs.declared.Section.TheVariants.{Statements}
 use Rattle.rl_spec.specs.declared.Interval.{Interval}
 use Rattle.rl_spec.specs.Schema.{sort_of, schema, fields_in, fields_of}
 use Rattle.rl_spec.specs.Image.{Field, num, pair, Rec, Image}
-use Rattle.rl_spec.specs.declared.Optional.TheVariants.{None}
+use Rattle.std.specs.Prelude.{None}
 use Rattle.rl_spec.specs.Ranges.{optional_field}
 use Rattle.rl_spec.specs.Make.{Make, ◌>>=◌, result_flag, append, made, new_text, new_list, stmt, new_stmt}
 use Rattle.rl_spec.specs.Lower.{ident, err_lit, unwrap_call, violation, only_if, declare, return_of}

@@ -1,14 +1,13 @@
 -- What C and Rust get, closed: words taken for values, the words of a fold and of runs, texts and messages by number.
 -- Assumes nothing.
-use Rattle.std.specs.Prelude.{◌≡◌, ℕ, true, false, List, [], ◌∷◌, ◌++◌, map, replicate, negsuc, from_bits, refl}
+use Rattle.std.specs.Prelude.{◌≡◌, ℕ, true, false, List, [], ◌∷◌, ◌++◌, map, replicate, negsuc, from_bits, refl, None, Some, Ok}
 use Rattle.std.specs.Float.{binary64}
 use Rattle.rl_spec.specs.declared.ConstVal.TheVariants.{Int, Float, Str, Bool}
-use Rattle.rl_spec.specs.declared.FoldAnswer.TheVariants.{Found}
-use Rattle.rl_spec.specs.declared.Folded.TheVariants as folded
 use Rattle.rl_spec.specs.declared.Outcome.TheVariants.{Returned, Stopped, Fault, Spent}
 use Rattle.rl_spec.specs.declared.Plain.TheVariants.{Const}
 use Rattle.rl_spec.specs.declared.Value.{Value}
-use Rattle.rl_spec.specs.declared.Value.TheVariants.{Plain, Ok, Err}
+use Rattle.rl_spec.specs.declared.Value.TheVariants.{Plain}
+use Rattle.rl_spec.specs.declared.Value.TheVariants as val
 use Rattle.rl_spec.specs.Words.{words_value}
 use Rattle.rl_spec.specs.Image.{encode, image_of, sections_in, records_in, record_in, next_at, end_at, fields_at, widths_of, heights, heights_from, tallest_child, tallest_entry}
 use Rattle.rl_spec.specs.Tree.{ascii}
@@ -68,7 +67,7 @@ strs = map (value_of_words 3) (0 ∷ 65534 ∷ 65535 ∷ 65536 ∷ 131072 ∷ []
 
 pub strs_so : strs
     ≡ Plain (Const (Str 0)) ∷ Plain (Const (Str 65534)) ∷ Plain (Const (Str 65535)) ∷ Plain (Const (Str 65535)) ∷ Plain (Const (Str 65535))
-    ∷ Ok (Const (Str 65535)) ∷ Err (Const (Str 65535)) ∷ []
+    ∷ val.Ok (Const (Str 65535)) ∷ val.Err (Const (Str 65535)) ∷ []
 unfolding bounding
 strs_so = refl
 
@@ -90,11 +89,11 @@ runs_so = refl
 
 -- ---- the four words of an outcome, and the words of a float and of truth values; -1.5 is 13832806255468478464 by its bits
 
-pub outcomes_so : outcome_words (Returned (Ok (Const (Int (negsuc 0))))) 7 ∷ outcome_words (Stopped (Const (Str 2))) 14 ∷ outcome_words (Fault 4) 5 ∷ outcome_words Spent 9 ∷ []
+pub outcomes_so : outcome_words (Returned (val.Ok (Const (Int (negsuc 0))))) 7 ∷ outcome_words (Stopped (Const (Str 2))) 14 ∷ outcome_words (Fault 4) 5 ∷ outcome_words Spent 9 ∷ []
     ≡ (1 ∷ 7 ∷ 9 ∷ 18446744073709551615 ∷ []) ∷ (2 ∷ 14 ∷ 3 ∷ 2 ∷ []) ∷ (3 ∷ 5 ∷ 4 ∷ 0 ∷ []) ∷ (4 ∷ 9 ∷ 0 ∷ 0 ∷ []) ∷ []
 outcomes_so = refl
 
-pub words_so : map fold_words (Found (folded.Value (Float (from_bits binary64 13832806255468478464))) ∷ Found (folded.Value (Bool true)) ∷ Found (folded.Value (Bool false)) ∷ Found folded.Nothing ∷ [])
+pub words_so : map fold_words (Ok (Some (Float (from_bits binary64 13832806255468478464))) ∷ Ok (Some (Bool true)) ∷ Ok (Some (Bool false)) ∷ Ok None ∷ [])
     ≡ (2 ∷ 13832806255468478464 ∷ []) ∷ (4 ∷ 1 ∷ []) ∷ (4 ∷ 0 ∷ []) ∷ (0 ∷ 0 ∷ []) ∷ []
 unfolding folding
 words_so = refl

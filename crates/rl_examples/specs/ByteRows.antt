@@ -1,8 +1,7 @@
 -- Rows of images in bytes, written down from 01 alone: what the reader says of each.
 -- Assumes nothing.
-use Rattle.std.specs.Prelude.{ℕ, ◌/◌, ◌%◌, List, [], ◌∷◌, ◌++◌, map}
-use Rattle.rl_spec.specs.declared.Answer.{Answer}
-use Rattle.rl_spec.specs.declared.Answer.TheVariants.{Accepted, Refused}
+use Rattle.std.specs.Prelude.{ℕ, ◌/◌, ◌%◌, List, [], ◌∷◌, ◌++◌, map, Ok, Err}
+use Rattle.rl_spec.specs.Answers.{Answer}
 use Rattle.rl_spec.specs.Schema.{limits, sections, in_section, sort_of, fields_of, fields_in, schema}
 use Rattle.rl_spec.specs.Utf8.{within, utf8_char, begins, width_by, char_width, octets, utf8, is_scalar}
 use Rattle.rl_spec.specs.Bytes.{num_at, u16_at, u32_at, past}
@@ -42,8 +41,8 @@ abbrev pub refused : ℕ → ℕ → List ℕ → Row
 refused n p s = record { bytes = s; number = n; place = p }
 
 abbrev pub said : Answer → ℕ × ℕ
-said (Accepted a c) = (0, 0)
-said (Refused c p) = (number_of c, p)
+said (Ok h) = (0, 0)
+said (Err r) = (number_of r.cause, r.place)
 
 abbrev pub actual : Row → ℕ × ℕ
 actual r = said (answer_of r.bytes 8192)

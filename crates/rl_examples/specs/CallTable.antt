@@ -6,8 +6,7 @@ use Rattle.rl_spec.specs.declared.Cause.TheVariants.{WrongValues}
 use Rattle.rl_spec.specs.declared.ConstVal.TheVariants.{Int}
 use Rattle.rl_spec.specs.declared.Outcome.TheVariants.{Returned}
 use Rattle.rl_spec.specs.declared.Plain.TheVariants.{Null, Const}
-use Rattle.rl_spec.specs.declared.RunAnswer.{RunAnswer}
-use Rattle.rl_spec.specs.declared.RunAnswer.TheVariants.{Ran, Refused}
+use Rattle.rl_spec.specs.Answers.{RunAnswer, ran, refused}
 use Rattle.rl_spec.specs.declared.Value.TheVariants.{Plain as Bare}
 use Rattle.rl_spec.specs.Image.{num, pair, Image, encode, image_of, sections_in, records_in, record_in, next_at, end_at, fields_at, widths_of}
 use Rattle.rl_spec.specs.Tree.{ascii}
@@ -137,13 +136,13 @@ run v =
 
 unfoldable pub values : List Values
 values =
-    of 0 16 0 (Ran (Returned (Bare (Const (Int (pos 16))))) 2)
-    ∷ of 0 15 19 (Refused WrongValues 0)
-    ∷ of 0 17 19 (Refused WrongValues 0)
-    ∷ of 1 17 19 (Refused WrongValues 0)
-    ∷ of 1 16 19 (Refused WrongValues 0)
-    ∷ of 2 0 0 (Ran (Returned (Bare Null)) 0)
-    ∷ of 2 1 19 (Refused WrongValues 0)
+    of 0 16 0 (ran (Returned (Bare (Const (Int (pos 16))))) 2)
+    ∷ of 0 15 19 (refused WrongValues 0)
+    ∷ of 0 17 19 (refused WrongValues 0)
+    ∷ of 1 17 19 (refused WrongValues 0)
+    ∷ of 1 16 19 (refused WrongValues 0)
+    ∷ of 2 0 0 (ran (Returned (Bare Null)) 0)
+    ∷ of 2 1 19 (refused WrongValues 0)
     ∷ []
 
 -- THEOREM: they are run so, or refused

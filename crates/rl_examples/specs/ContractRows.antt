@@ -1,14 +1,13 @@
 -- Rows of the tables of contracts: an image, and for each of its calls the texts of its reports and how the callee's contracts are read,
 -- which is how the lowered callee runs.
-use Rattle.std.specs.Prelude.{ℕ, ◌+◌, ◌-◌, true, false, List, [], ◌∷◌, map, pos, negsuc, from_bits}
+use Rattle.std.specs.Prelude.{ℕ, ◌+◌, ◌-◌, true, false, List, [], ◌∷◌, map, pos, negsuc, from_bits, Ok, Err}
 use Rattle.std.proofs.Math.Option.{Option, none, some}
 use Rattle.std.specs.Float.{binary64}
 use Rattle.rl_spec.specs.declared.Argument.{Argument}
 use Rattle.rl_spec.specs.declared.ConstVal.{ConstVal}
 use Rattle.rl_spec.specs.declared.ConstVal.TheVariants.{Int, Float, Str, Bool as Truth}
 use Rattle.rl_spec.specs.declared.Plain.TheVariants.{Const}
-use Rattle.rl_spec.specs.declared.RunAnswer.{RunAnswer}
-use Rattle.rl_spec.specs.declared.RunAnswer.TheVariants.{Ran, Refused}
+use Rattle.rl_spec.specs.Answers.{RunAnswer}
 use Rattle.rl_spec.specs.declared.Value.TheVariants.{Plain as Bare}
 use Rattle.rl_spec.specs.Image.{Rec, Image}
 use Rattle.rl_spec.specs.Records.{call_at}
@@ -68,8 +67,8 @@ abbrev pub read_as : Image → List Argument → ℕ → Ends
 read_as im vs budget = reading_in im 0 (values_of vs) budget
 
 abbrev ran_as : Image → RunAnswer → Ends
-ran_as im (Ran o n) = (outcome_in im o, n)
-ran_as im (Refused q n) = (fault 0, n)
+ran_as im (Ok h) = (outcome_in im h.outcome, h.steps)
+ran_as im (Err r) = (fault 0, r.place)
 
 abbrev pub lowered_as : Option Image → List Argument → ℕ → Ends
 lowered_as none vs budget = (fault 0, 0)

@@ -2,7 +2,7 @@
 -- that it stands for.
 -- Assumes nothing.
 use Rattle.std.specs.Prelude.{◌≡◌, ℕ, List, [], ◌∷◌, ◌++◌, map, replicate, refl}
-use Rattle.rl_spec.specs.declared.Answer.TheVariants.{Accepted}
+use Rattle.rl_spec.specs.Answers.{accepted}
 use Rattle.rl_spec.specs.declared.Section.TheVariants.{Expressions, Statements}
 use Rattle.rl_spec.specs.Read.{answer_of, work_of}
 use Rattle.rl_spec.specs.Image.{num, pair, Rec, Image, bytes_of, encode_fields, encode_record, encode_records, encode_sections, encode_counts, encode, image_of, sections_in, records_in, record_in, next_at, end_at, fields_at, widths_of, heights, heights_from, tallest_child, tallest_entry}
@@ -236,7 +236,7 @@ image =
 
 -- THEOREM: it is accepted, with its arena number and its counts
 pub answer_so : answer_of bytes 8192
-    ≡ Accepted (record { 0 = 0x04030201 })
+    ≡ accepted (record { 0 = 0x04030201 })
     (record { bytes = 5; texts = 3; lists = 11; expressions = 42; statements = 16; parameters = 5; clauses = 3; functions = 2; calls = 1 })
 unfolding reading bytes sections
 answer_so = refl

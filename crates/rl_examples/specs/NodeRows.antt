@@ -1,19 +1,18 @@
 -- Rows of the tables of operators, literals and floats: nodes, and what folding and running make of the last of them, a float by its
 -- bits, a text by its index.
-use Rattle.std.specs.Prelude.{ℕ, ◌-◌, ◌^◌, Bool, true, false, cond, List, [], ◌∷◌, ◌++◌, map, length, ℤ, pos, negsuc}
+use Rattle.std.specs.Prelude.{ℕ, ◌-◌, ◌^◌, Bool, true, false, cond, List, [], ◌∷◌, ◌++◌, map, length, ℤ, pos, negsuc, None, Some, Ok, Err}
 use Rattle.std.proofs.Math.Option.{Option, none, some}
 use Rattle.std.specs.Float.Ieee as F
 use Rattle.std.specs.Float.{binary64}
 use Rattle.rl_spec.specs.declared.ConstVal.{ConstVal}
 use Rattle.rl_spec.specs.declared.ConstVal.TheVariants.{Int, Float, Str, Bool as Truth}
-use Rattle.rl_spec.specs.declared.Folded.{Folded}
-use Rattle.rl_spec.specs.declared.Folded.TheVariants.{Value, Nothing}
+use Rattle.rl_spec.specs.Answers.{Folded, ran, RunAnswer}
+use Rattle.rl_spec.specs.declared.Outcome.{Outcome}
 use Rattle.rl_spec.specs.declared.Outcome.TheVariants.{Returned, Stopped, Fault, Spent}
 use Rattle.rl_spec.specs.declared.Plain.{Plain}
 use Rattle.rl_spec.specs.declared.Plain.TheVariants.{Null, Const}
-use Rattle.rl_spec.specs.declared.RunAnswer.{RunAnswer}
-use Rattle.rl_spec.specs.declared.RunAnswer.TheVariants.{Ran, Refused}
-use Rattle.rl_spec.specs.declared.Value.TheVariants.{Plain as Bare, Ok, Err}
+use Rattle.rl_spec.specs.declared.Value.TheVariants.{Plain as Bare}
+use Rattle.rl_spec.specs.declared.Value.TheVariants as val
 use Rattle.rl_spec.specs.Image.{num, pair, Rec, Image, text_of}
 use Rattle.rl_spec.specs.Values.{compare_values, compare_floats, compare_bools, less_text, same_text, arith_values, bang, negate}
 use Rattle.rl_spec.specs.Folded.{as_folded}
@@ -66,8 +65,8 @@ seen (Str t) = text t
 seen (Truth b) = truth b
 
 abbrev seen_folded : Folded → Option Seen
-seen_folded (Value v) = some (seen v)
-seen_folded Nothing = none
+seen_folded (Some v) = some (seen v)
+seen_folded None = none
 
 -- the last node
 abbrev pub folded_to : List Rec → Option Seen
@@ -77,14 +76,17 @@ abbrev seen_plain : Plain → Seen
 seen_plain Null = null
 seen_plain (Const v) = seen v
 
+abbrev ended : Outcome → Ended
+ended (Returned (Bare p)) = gives (seen_plain p)
+ended (Returned (val.Ok p)) = another
+ended (Returned (val.Err p)) = another
+ended (Stopped p) = another
+ended (Fault k) = faults k
+ended Spent = another
+
 abbrev seen_run : RunAnswer → Ended × ℕ
-seen_run (Ran (Returned (Bare p)) n) = (gives (seen_plain p), n)
-seen_run (Ran (Returned (Ok p)) n) = (another, n)
-seen_run (Ran (Returned (Err p)) n) = (another, n)
-seen_run (Ran (Stopped p) n) = (another, n)
-seen_run (Ran (Fault k) n) = (faults k, n)
-seen_run (Ran Spent n) = (another, n)
-seen_run (Refused q n) = (another, 0)
+seen_run (Ok h) = (ended h.outcome, h.steps)
+seen_run (Err r) = (another, 0)
 
 -- the function, with the steps
 abbrev pub ran_to : List Rec → Ended × ℕ

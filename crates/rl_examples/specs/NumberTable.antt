@@ -3,11 +3,12 @@
 use Rattle.std.specs.Prelude.{◌≡◌, true, false, List, [], ◌∷◌, map, pos, negsuc, refl}
 use Rattle.rl_spec.specs.declared.Cause.{Cause}
 use Rattle.rl_spec.specs.declared.Cause.TheVariants.{ImageTooLong, WorkTooShort, BytesEnd, WrongKind, CountOverLimit, BadText, BadValue, BadReference, TooHigh, BytesLeft, NoSuchFunction, HeightOverLimit, OutputTooShort, LimitPassed, OtherArena, NoSuchNode, NoSuchCall, ReportsTooShort, WrongValues, NoSuchText, BudgetOverLimit, PagesTooShort}
-use Rattle.rl_spec.specs.declared.Answer.TheVariants.{Refused}
+use Rattle.rl_spec.specs.Answers.{refused}
 use Rattle.rl_spec.specs.declared.ConstVal.TheVariants.{Int, Str, Bool}
 use Rattle.rl_spec.specs.declared.Plain.TheVariants.{Null, Const}
 use Rattle.rl_spec.specs.declared.Value.{Value}
-use Rattle.rl_spec.specs.declared.Value.TheVariants.{Plain, Ok, Err}
+use Rattle.rl_spec.specs.declared.Value.TheVariants.{Plain}
+use Rattle.rl_spec.specs.declared.Value.TheVariants as val
 use Rattle.rl_spec.specs.Read.{number_of, packed}
 use Rattle.rl_spec.specs.Tree.{ascii}
 use Rattle.rl_spec.specs.Ranges.{up_from}
@@ -51,7 +52,7 @@ pub numbers_so : map number_of causes
 numbers_so = refl
 
 -- 6 at the place 300: the number above the 32 low bits
-pub packed_so : packed (Refused BadText 300) ≡ 25769804076
+pub packed_so : packed (refused BadText 300) ≡ 25769804076
 packed_so = refl
 
 -- values with their two words: the sort, 0 Null, 1 Int, 3 Str, 4 Bool, 8 more in an Ok, 16 more in an Err; and the payload
@@ -63,9 +64,9 @@ values =
     ∷ Plain (Const (Str 7))
     ∷ Plain (Const (Bool true))
     ∷ Plain (Const (Bool false))
-    ∷ Ok Null
-    ∷ Ok (Const (Int (pos 5)))
-    ∷ Err (Const (Str 7)) ∷ []
+    ∷ val.Ok Null
+    ∷ val.Ok (Const (Int (pos 5)))
+    ∷ val.Err (Const (Str 7)) ∷ []
 
 pub sorts_so : map value_sort values ≡ 0 ∷ 1 ∷ 1 ∷ 3 ∷ 4 ∷ 4 ∷ 8 ∷ 9 ∷ 19 ∷ []
 sorts_so = refl

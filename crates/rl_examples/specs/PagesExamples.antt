@@ -1,8 +1,8 @@
 -- Reports on printed pages, by computation: the lines and the pages of images, and what is answered.
 -- Assumes nothing.
-use Rattle.std.specs.Prelude.{◌≡◌, ℕ, List, [], ◌∷◌, ◌++◌, map, replicate, refl}
+use Rattle.std.specs.Prelude.{◌≡◌, ℕ, List, [], ◌∷◌, ◌++◌, map, replicate, refl, Ok}
 use Rattle.rl_spec.specs.declared.Cause.TheVariants.{BytesLeft, PagesTooShort}
-use Rattle.rl_spec.specs.declared.PagesAnswer.TheVariants.{Written, Refused}
+use Rattle.rl_spec.specs.Answers.{refused}
 use Rattle.rl_spec.specs.Image.{encode, image_of, sections_in, records_in, record_in, next_at, end_at, fields_at, widths_of}
 use Rattle.rl_spec.specs.Tree.{ascii}
 use Rattle.rl_spec.specs.Printed.{joined}
@@ -52,12 +52,12 @@ flow_page_lem = refl
 -- a page slice just long enough, one byte short, without any; no report; bytes that are refused
 pub answers_so : pages_answer (encode flow) 8192 4380 ∷ pages_answer (encode flow) 8192 4379 ∷ pages_answer (encode flow) 8192 0
     ∷ pages_answer (encode returns_true) 8192 0 ∷ pages_answer (encode flow ++ 0 ∷ []) 8192 0 ∷ []
-    ≡ Written 4380 ∷ Refused PagesTooShort 0 ∷ Refused PagesTooShort 0 ∷ Written 0 ∷ Refused BytesLeft 213 ∷ []
+    ≡ Ok 4380 ∷ refused PagesTooShort 0 ∷ refused PagesTooShort 0 ∷ Ok 0 ∷ refused BytesLeft 213 ∷ []
 unfolding lowering decoding running folding proving imaging columning paging reporting
 answers_so = refl
 
 -- 22 stands above the place's 32 bits
-pub pages_packed_so : map pages_packed (Written 4380 ∷ Refused PagesTooShort 0 ∷ Refused BytesLeft 213 ∷ []) ≡ 4380 ∷ 94489280512 ∷ 42949673173 ∷ []
+pub pages_packed_so : map pages_packed (Ok 4380 ∷ refused PagesTooShort 0 ∷ refused BytesLeft 213 ∷ []) ≡ 4380 ∷ 94489280512 ∷ 42949673173 ∷ []
 pages_packed_so = refl
 
 -- the page slice: the page and then zeros; all zero where something is refused

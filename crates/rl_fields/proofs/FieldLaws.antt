@@ -16,8 +16,8 @@ use Rattle.rl_spec.specs.declared.Section.{Section}
 use Rattle.rl_spec.specs.declared.Section.TheVariants.{Expressions}
 use Rattle.rl_spec.specs.declared.Target.{Target}
 use Rattle.rl_spec.specs.declared.Target.TheVariants.{Text, Expression}
-use Rattle.rl_spec.specs.declared.Check.{Check}
-use Rattle.rl_spec.specs.declared.Check.TheVariants.{Holds, Fails}
+use Rattle.rl_spec.specs.Answers.{Check}
+use Rattle.std.specs.Prelude.{Ok, Err}
 use Rattle.rl_spec.specs.Bytes.{u16_at}
 use Rattle.rl_spec.specs.Schema.{text_bytes_at, count_of}
 use Rattle.rl_spec.specs.Utf8.{utf8}
@@ -34,23 +34,23 @@ ended n i h = omega arith
 
 -- ---- values
 
-pub unless_yes : (c : Cause) (b : Bool) (tall : ℕ) → b ≡ true → Holds tall ≡ unless c b tall
+pub unless_yes : (c : Cause) (b : Bool) (tall : ℕ) → b ≡ true → Ok tall ≡ unless c b tall
 unless_yes c b tall e = rw e refl
 
-pub unless_no : (c : Cause) (b : Bool) (tall : ℕ) → b ≡ false → Fails c ≡ unless c b tall
+pub unless_no : (c : Cause) (b : Bool) (tall : ℕ) → b ≡ false → Err c ≡ unless c b tall
 unless_no c b tall e = rw e refl
 
 module _ (low high b tall : ℕ) where
-  pub byte_low : b < low → Fails BadValue ≡ byte_in low high b tall
+  pub byte_low : b < low → Err BadValue ≡ byte_in low high b tall
   unfolding byte_in
   byte_low p = rw (lt-ltb b low p) refl
 
   module _ (p : low ≤ b) where
-    pub byte_good : b ≤ high → Holds tall ≡ byte_in low high b tall
+    pub byte_good : b ≤ high → Ok tall ≡ byte_in low high b tall
     unfolding byte_in
     byte_good q = rw (le-ltb b low p, le-leb b high q) refl
 
-    pub byte_high : high < b → Fails BadValue ≡ byte_in low high b tall
+    pub byte_high : high < b → Err BadValue ≡ byte_in low high b tall
     unfolding byte_in
     byte_high q = rw (le-ltb b low p, lt-leb b high q) refl
 
@@ -67,25 +67,25 @@ module _ (refinement b tall : ℕ) (r : Check) where
   sort_some p e = rw (ne_eqb refinement 0 p) e
 
 module _ (seen : Counts) (first count : ℕ) (o : Section) (tall most : ℕ) (e : most ≡ count_of seen o) where
-  pub range_in : first + count ≤ most → Holds tall ≡ range_of seen first count o tall
+  pub range_in : first + count ≤ most → Ok tall ≡ range_of seen first count o tall
   unfolding range_of
   range_in p = rw (← e, le-leb (first + count) most p) refl
 
-  pub range_out : most < first + count → Fails BadReference ≡ range_of seen first count o tall
+  pub range_out : most < first + count → Err BadReference ≡ range_of seen first count o tall
   unfolding range_of
   range_out p = rw (← e, lt-leb (first + count) most p) refl
 
 module _ (s : List ℕ) (seen : Counts) (offset size tall : ℕ) where
-  pub part_far : seen.bytes < offset + size → Fails BadText ≡ part_of s seen offset size tall
+  pub part_far : seen.bytes < offset + size → Err BadText ≡ part_of s seen offset size tall
   unfolding part_of
   part_far p = rw (lt-ltb seen.bytes (offset + size) p) refl
 
   module _ (p : offset + size ≤ seen.bytes) (t : List ℕ) (e : t ≡ take size (drop (text_bytes_at + offset) s)) (b : Bool) (f : b ≡ utf8 t) where
-    pub part_good : b ≡ true → Holds tall ≡ part_of s seen offset size tall
+    pub part_good : b ≡ true → Ok tall ≡ part_of s seen offset size tall
     unfolding part_of
     part_good q = rw (le-ltb seen.bytes (offset + size) p, ← e, ← f, q) refl
 
-    pub part_bad : b ≡ false → Fails BadText ≡ part_of s seen offset size tall
+    pub part_bad : b ≡ false → Err BadText ≡ part_of s seen offset size tall
     unfolding part_of
     part_bad q = rw (le-ltb seen.bytes (offset + size) p, ← e, ← f, q) refl
 
@@ -125,15 +125,15 @@ child_is w seen own k t n r e f = rw e f
 
 module _ (s w p : List ℕ) (seen : Counts) (own : Section) (t : Target) (n tall : ℕ) where
   module _ (b : Bool) (e : b ≡ allowed s p seen t n) where
-    pub refer_good : b ≡ true → (h : ℕ) → h ≡ child_height w seen own t n → (m : ℕ) → m ≡ max tall h → Holds m ≡ refer_to s w p seen own t n tall
+    pub refer_good : b ≡ true → (h : ℕ) → h ≡ child_height w seen own t n → (m : ℕ) → m ≡ max tall h → Ok m ≡ refer_to s w p seen own t n tall
     unfolding refer_to
     refer_good q h f m g = rw (g, f, ← e, q) refl
 
-    pub refer_bad : b ≡ false → Fails BadReference ≡ refer_to s w p seen own t n tall
+    pub refer_bad : b ≡ false → Err BadReference ≡ refer_to s w p seen own t n tall
     unfolding refer_to
     refer_bad q = rw (← e, q) refl
 
-  pub none_is : n ≡ 65535 → Holds tall ≡ refer_or_none s w p seen own t n tall
+  pub none_is : n ≡ 65535 → Ok tall ≡ refer_or_none s w p seen own t n tall
   unfolding refer_or_none
   none_is q = rw (eq-eqb n 65535 q) refl
 
@@ -166,7 +166,7 @@ zeros_start s at n =
     rw (a, b)
 
 module _ (s w p : List ℕ) (seen : Counts) (own : Section) (first count i tall : ℕ) (l r : Target) (whole : Check) (v : whole ≡ entries_from s w p seen own (count - i) (first + i) l r tall) where
-  pub entries_end : count ≤ i → Holds tall ≡ whole
+  pub entries_end : count ≤ i → Ok tall ≡ whole
   unfolding entries_from
   entries_end h = rw (v, ended count i h) refl
 
@@ -177,7 +177,7 @@ module _ (s w p : List ℕ) (seen : Counts) (own : Section) (first count i tall 
         let a : first + (i + 1) ≡ first + i + 1 = omega arith in
         rw (v, turn count i q, a, y, x, ← e, ← f, g) refl
 
-    pub entries_bad : b ≡ false → Fails BadReference ≡ whole
+    pub entries_bad : b ≡ false → Err BadReference ≡ whole
     unfolding entries_from
     entries_bad g = rw (v, turn count i q, ← e, ← f, g) refl
 
@@ -215,7 +215,7 @@ module _ (s : List ℕ) (seen : Counts) (first start : ℕ) (a : start ≡ 23 + 
         entries_more s w p seen Expressions first count i tall Expression Expression whole v q n (entry_here i n e) true
         (sym (node_in s p seen n x)) refl (get_or w n 0) (node_child w seen n) t y
 
-    pub nodes_bad : seen.expressions ≤ n → Fails BadReference ≡ whole
+    pub nodes_bad : seen.expressions ≤ n → Err BadReference ≡ whole
     nodes_bad x =
         entries_bad s w p seen Expressions first count i tall Expression Expression whole v q n (entry_here i n e) false
         (sym (node_out s p seen n x)) refl
@@ -226,7 +226,7 @@ nodes_are s w p seen own first count tall l r x e f g h = rw (e, f, g) h
 -- ---- a list, and an operand
 
 module _ (s w p : List ℕ) (seen : Counts) (own : Section) (first count step tall : ℕ) (l r : Target) where
-  pub list_far : seen.lists < first + count → Fails BadReference ≡ list_of s w p seen own first count l r step tall
+  pub list_far : seen.lists < first + count → Err BadReference ≡ list_of s w p seen own first count l r step tall
   unfolding list_of
   list_far q = rw (lt-ltb seen.lists (first + count) q) refl
 
@@ -235,7 +235,7 @@ module _ (s w p : List ℕ) (seen : Counts) (own : Section) (first count step ta
     unfolding list_of
     list_in f x g = rw (le-ltb seen.lists (first + count) q, ← e, f) g
 
-    pub list_odd : b ≡ false → Fails BadReference ≡ list_of s w p seen own first count l r step tall
+    pub list_odd : b ≡ false → Err BadReference ≡ list_of s w p seen own first count l r step tall
     unfolding list_of
     list_odd f = rw (le-ltb seen.lists (first + count) q, ← e, f) refl
 
@@ -252,7 +252,7 @@ module _ (s w p : List ℕ) (seen : Counts) (own : Section) (o at tall : ℕ) wh
   operand_none q b e r f = rw (eq-eqb o 0 q, ← e) f
 
   module _ (x : o ≡ 0 → ⊥) where
-    pub operand_integer : o ≡ 1 → Holds tall ≡ operand_of s w p seen own o at tall
+    pub operand_integer : o ≡ 1 → Ok tall ≡ operand_of s w p seen own o at tall
     unfolding operand_of
     operand_integer q = rw (ne_eqb o 0 x, eq-eqb o 1 q) refl
 
@@ -266,6 +266,6 @@ module _ (s w p : List ℕ) (seen : Counts) (own : Section) (o at tall : ℕ) wh
         unfolding operand_of
         operand_text q n f r g = rw (ne_eqb o 0 x, ne_eqb o 1 y, ne_eqb o 3 z, ← e, q, ← f) g
 
-        pub operand_left : b ≡ false → Fails BadValue ≡ operand_of s w p seen own o at tall
+        pub operand_left : b ≡ false → Err BadValue ≡ operand_of s w p seen own o at tall
         unfolding operand_of
         operand_left q = rw (ne_eqb o 0 x, ne_eqb o 1 y, ne_eqb o 3 z, ← e, q) refl

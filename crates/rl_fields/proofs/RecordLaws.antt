@@ -17,10 +17,8 @@ use Rattle.rl_spec.specs.declared.Target.{Target}
 use Rattle.rl_spec.specs.declared.Target.TheVariants.{Text, Expression}
 use Rattle.rl_spec.specs.declared.Sort.{Sort}
 use Rattle.rl_spec.specs.declared.Sort.TheVariants.{Raw, Byte, Scalar, Part, One, Maybe, Many, Range, OperandSort, Operand}
-use Rattle.rl_spec.specs.declared.Check.{Check}
-use Rattle.rl_spec.specs.declared.Check.TheVariants.{Holds, Fails}
-use Rattle.rl_spec.specs.declared.Step.{Step}
-use Rattle.rl_spec.specs.declared.Step.TheVariants.{Next, Stop}
+use Rattle.rl_spec.specs.Answers.{Check, goes_on, refused, Step}
+use Rattle.std.specs.Prelude.{Ok, Err}
 use Rattle.rl_spec.specs.Bytes.{u16_at, u32_at, past}
 use Rattle.rl_spec.specs.Schema.{raw4, raw8, node, text, sort_of, width_of, in_section, tallest}
 use Rattle.rl_spec.specs.Utf8.{is_scalar}
@@ -41,7 +39,7 @@ byte_there s at r e f = omega (arith, there s at 1 r e f)
 -- ---- a field
 
 module _ (s w p : List ℕ) (seen : Counts) (own : Section) (o : Sort) (at tall m : ℕ) (b : Bool) (e : m ≡ width_of o) (f : b ≡ past s at m) where
-  pub field_past : b ≡ true → Fails BytesEnd ≡ field_at s w p seen own o at tall
+  pub field_past : b ≡ true → Err BytesEnd ≡ field_at s w p seen own o at tall
   unfolding field_at
   field_past q = rw (← e, ← f, q) refl
 
@@ -50,9 +48,9 @@ module _ (s w p : List ℕ) (seen : Counts) (own : Section) (o : Sort) (at tall 
     unfolding field_at
     value k g v h = rw (← e, ← f, q, g) h
 
-    pub field_raw : (n : ℕ) → o ≡ Raw n → Holds tall ≡ field_at s w p seen own o at tall
+    pub field_raw : (n : ℕ) → o ≡ Raw n → Ok tall ≡ field_at s w p seen own o at tall
     unfolding value_of
-    field_raw n g = value (Raw n) g (Holds tall) refl
+    field_raw n g = value (Raw n) g (Ok tall) refl
 
     pub field_byte : (low high : ℕ) → o ≡ Byte low high → (x : ℕ) → x ≡ get_or s at 0 → (v : Check) → v ≡ byte_in low high x tall → v ≡ field_at s w p seen own o at tall
     unfolding value_of
@@ -96,14 +94,14 @@ module _ (s w p : List ℕ) (seen : Counts) (own : Section) (o : Sort) (at tall 
         field_range k g v j = value (Range k) g v (rw (← h, ← i) j)
 
 module _ (s : List ℕ) (n at tall : ℕ) (b : Bool) (f : b ≡ past s at n) where
-  pub raw_past : b ≡ true → Fails BytesEnd ≡ cond (past s at n) (Fails BytesEnd) (Holds tall)
+  pub raw_past : b ≡ true → Err BytesEnd ≡ cond (past s at n) (Err BytesEnd) (Ok tall)
   raw_past q = rw (← f, q) refl
 
-  pub raw_there : b ≡ false → Holds tall ≡ cond (past s at n) (Fails BytesEnd) (Holds tall)
+  pub raw_there : b ≡ false → Ok tall ≡ cond (past s at n) (Err BytesEnd) (Ok tall)
   raw_there q = rw (← f, q) refl
 
 module _ (s w p : List ℕ) (seen : Counts) (own : Section) (t : Target) (at tall : ℕ) (b : Bool) (f : b ≡ past s at 2) where
-  pub one_past : b ≡ true → Fails BytesEnd ≡ field_at s w p seen own (One t) at tall
+  pub one_past : b ≡ true → Err BytesEnd ≡ field_at s w p seen own (One t) at tall
   one_past q = field_past s w p seen own (One t) at tall 2 b refl f q
 
   pub one_there : b ≡ false → (x : ℕ) → x ≡ u16_at s at → (v : Check) → v ≡ refer_to s w p seen own t x tall → v ≡ field_at s w p seen own (One t) at tall
@@ -113,11 +111,11 @@ module _ (s w p : List ℕ) (seen : Counts) (own : Section) (code at tall : ℕ)
   coded : (k : ℕ) → code ≡ k → (v : Check) → v ≡ field_at s w p seen own (sort_of k) at tall → v ≡ field_at s w p seen own (sort_of code) at tall
   coded k e v f = rw e f
 
-  pub coded_raw4 : code ≡ raw4 → (v : Check) → v ≡ cond (past s at 4) (Fails BytesEnd) (Holds tall) → v ≡ field_at s w p seen own (sort_of code) at tall
+  pub coded_raw4 : code ≡ raw4 → (v : Check) → v ≡ cond (past s at 4) (Err BytesEnd) (Ok tall) → v ≡ field_at s w p seen own (sort_of code) at tall
   unfolding sort_of field_at value_of
   coded_raw4 e v f = rw e f
 
-  pub coded_raw8 : code ≡ raw8 → (v : Check) → v ≡ cond (past s at 8) (Fails BytesEnd) (Holds tall) → v ≡ field_at s w p seen own (sort_of code) at tall
+  pub coded_raw8 : code ≡ raw8 → (v : Check) → v ≡ cond (past s at 8) (Err BytesEnd) (Ok tall) → v ≡ field_at s w p seen own (sort_of code) at tall
   unfolding sort_of field_at value_of
   coded_raw8 e v f = rw e f
 
@@ -133,15 +131,15 @@ module _ (s w p : List ℕ) (seen : Counts) (own : Section) (code at tall : ℕ)
   coded_sort o e v f = rw (← e) f
 
 -- a field that holds is there
-pub field_there : (s w p : List ℕ) (seen : Counts) (own : Section) (o : Sort) (at tall : ℕ) (r : Check) → r ≡ field_at s w p seen own o at tall → (t : ℕ) → r ≡ Holds t → at + width_of o ≤ length s
+pub field_there : (s w p : List ℕ) (seen : Counts) (own : Section) (o : Sort) (at tall : ℕ) (r : Check) → r ≡ field_at s w p seen own o at tall → (t : ℕ) → r ≡ Ok t → at + width_of o ≤ length s
 unfolding field_at
 field_there s w p seen own o at tall r e t f = go (past s at (width_of o)) refl (sym e ∙ f)
   where
-    go : (b : Bool) → b ≡ past s at (width_of o) → cond b (Fails BytesEnd) (value_of s w p seen own o at tall) ≡ Holds t → at + width_of o ≤ length s
+    go : (b : Bool) → b ≡ past s at (width_of o) → cond b (Err BytesEnd) (value_of s w p seen own o at tall) ≡ Ok t → at + width_of o ≤ length s
     go true g h = let z : ◌≡◌ {A = ℕ} 0 1 = cc in absurd (omega arith)
     go false g h = there s at (width_of o) false g refl
 
-pub field_fits : (s w p : List ℕ) (seen : Counts) (own : Section) (o : Sort) (at tall : ℕ) (r : Check) → r ≡ field_at s w p seen own o at tall → (t : ℕ) → r ≡ Holds t → (q : Sort) → q ≡ o → (m : ℕ) → m ≡ width_of q → Fits w64 (length s) → Fits w64 (at + m)
+pub field_fits : (s w p : List ℕ) (seen : Counts) (own : Section) (o : Sort) (at tall : ℕ) (r : Check) → r ≡ field_at s w p seen own o at tall → (t : ℕ) → r ≡ Ok t → (q : Sort) → q ≡ o → (m : ℕ) → m ≡ width_of q → Fits w64 (length s) → Fits w64 (at + m)
 field_fits s w p seen own o at tall r e t f q i m g l =
     let h : m ≡ width_of o = g ∙ ap width_of i in
     omega (arith, field_there s w p seen own o at tall r e t f)
@@ -152,16 +150,16 @@ past_fits s at n r e f l = omega (arith, there s at n r e f)
 -- ---- the fields
 
 module _ (s w p : List ℕ) (seen : Counts) (own : Section) (rest at tall : ℕ) (whole : Step) (v : whole ≡ fields_from s w p seen own (codes rest) at tall) where
-  pub fields_end : rest ≡ 0 → Next at tall ≡ whole
+  pub fields_end : rest ≡ 0 → goes_on at tall ≡ whole
   unfolding fields_from
   fields_end q = rw (v, codes_none rest q) refl
 
   module _ (q : rest ≡ 0 → ⊥) (l : rest < 2 ^ 64) (r : Check) (f : r ≡ field_at s w p seen own (sort_of (rest % 256)) at tall) where
-    pub fields_more : (t : ℕ) → r ≡ Holds t → (o : Sort) → o ≡ sort_of (rest % 256) → (m : ℕ) → m ≡ width_of o → whole ≡ fields_from s w p seen own (codes (rest / 256)) (at + m) t
+    pub fields_more : (t : ℕ) → r ≡ Ok t → (o : Sort) → o ≡ sort_of (rest % 256) → (m : ℕ) → m ≡ width_of o → whole ≡ fields_from s w p seen own (codes (rest / 256)) (at + m) t
     unfolding fields_from
     fields_more t g o e m h = rw (v, codes_more rest l q, ← f, g, h, e) refl
 
-    pub fields_bad : (c : Cause) → r ≡ Fails c → Stop c at ≡ whole
+    pub fields_bad : (c : Cause) → r ≡ Err c → refused c at ≡ whole
     unfolding fields_from
     fields_bad c g = rw (v, codes_more rest l q, ← f, g) refl
 
@@ -176,23 +174,23 @@ module _ (s w p : List ℕ) (seen : Counts) (own : Section) (at row r : ℕ) (e 
   some_row : r ≡ 0 → ⊥
   some_row z = omega arith
 
-  field_is : (v : Check) → v ≡ cond (past s at 4) (Fails BytesEnd) (Holds 0) → v ≡ field_at s w p seen own (sort_of (r % 256)) at 0
+  field_is : (v : Check) → v ≡ cond (past s at 4) (Err BytesEnd) (Ok 0) → v ≡ field_at s w p seen own (sort_of (r % 256)) at 0
   field_is v g = coded_raw4 s w p seen own (r % 256) at 0 t v g
 
   row_is : fields_from s w p seen own (codes row) at 0 ≡ fields_from s w p seen own (codes r) at 0
   row_is = fields_start s w p seen own row r at e
 
-  pub span_past : b ≡ true → Stop BytesEnd at ≡ fields_from s w p seen own (codes row) at 0
+  pub span_past : b ≡ true → refused BytesEnd at ≡ fields_from s w p seen own (codes row) at 0
   span_past q =
-      fields_bad s w p seen own r at 0 (fields_from s w p seen own (codes row) at 0) row_is some_row l (Fails BytesEnd)
-      (field_is (Fails BytesEnd) (raw_past s 4 at 0 b f q)) BytesEnd refl
+      fields_bad s w p seen own r at 0 (fields_from s w p seen own (codes row) at 0) row_is some_row l (Err BytesEnd)
+      (field_is (Err BytesEnd) (raw_past s 4 at 0 b f q)) BytesEnd refl
 
   pub span_next : b ≡ false → (rest a : ℕ) → rest ≡ r / 256 → a ≡ at + 4 → fields_from s w p seen own (codes row) at 0 ≡ fields_from s w p seen own (codes rest) a 0
   unfolding sort_of
   span_next q rest a g h =
       rw (g, h)
-      (fields_more s w p seen own r at 0 (fields_from s w p seen own (codes row) at 0) row_is some_row l (Holds 0)
-      (field_is (Holds 0) (raw_there s 4 at 0 b f q)) 0 refl (sort_of (r % 256)) refl 4 four)
+      (fields_more s w p seen own r at 0 (fields_from s w p seen own (codes row) at 0) row_is some_row l (Ok 0)
+      (field_is (Ok 0) (raw_there s 4 at 0 b f q)) 0 refl (sort_of (r % 256)) refl 4 four)
     where
       four : 4 ≡ width_of (sort_of (r % 256))
       four = rw t refl
@@ -200,12 +198,12 @@ module _ (s w p : List ℕ) (seen : Counts) (own : Section) (at row r : ℕ) (e 
 -- ---- a record
 
 module _ (rows s w p : List ℕ) (seen : Counts) (own : Section) (at : ℕ) (b : Bool) (e : b ≡ past s at 1) where
-  pub record_past : b ≡ true → Stop BytesEnd at ≡ record_by rows s w p seen own at
+  pub record_past : b ≡ true → refused BytesEnd at ≡ record_by rows s w p seen own at
   unfolding record_by
   record_past q = rw (← e, q) refl
 
   module _ (q : b ≡ false) (k : Bool) (f : k ≡ in_section own (get_or s at 0)) where
-    pub record_kind : k ≡ false → Stop WrongKind at ≡ record_by rows s w p seen own at
+    pub record_kind : k ≡ false → refused WrongKind at ≡ record_by rows s w p seen own at
     unfolding record_by
     record_kind g = rw (← e, q, ← f, g) refl
 
@@ -214,14 +212,14 @@ module _ (rows s w p : List ℕ) (seen : Counts) (own : Section) (at : ℕ) (b :
       unfolding record_by
       rest_is = rw (← e, q, ← f, g, h) refl
 
-      pub record_stop : (c : Cause) (n : ℕ) → r ≡ Stop c n → Stop c n ≡ record_by rows s w p seen own at
+      pub record_stop : (c : Cause) (n : ℕ) → r ≡ refused c n → refused c n ≡ record_by rows s w p seen own at
       record_stop c n i = rw (← rest_is, i) refl
 
-      module _ (a t : ℕ) (i : r ≡ Next a t) (m : ℕ) (j : m ≡ tallest own) where
-        pub record_next : t < m → Next a (t + 1) ≡ record_by rows s w p seen own at
+      module _ (a t : ℕ) (i : r ≡ goes_on a t) (m : ℕ) (j : m ≡ tallest own) where
+        pub record_next : t < m → goes_on a (t + 1) ≡ record_by rows s w p seen own at
         record_next x = rw (← rest_is, i, ← j, lt-ltb t m x) refl
 
-        pub record_tall : m ≤ t → Stop TooHigh at ≡ record_by rows s w p seen own at
+        pub record_tall : m ≤ t → refused TooHigh at ≡ record_by rows s w p seen own at
         record_tall x = rw (← rest_is, i, ← j, le-ltb t m x) refl
 
 -- by the schema's table

@@ -7,8 +7,8 @@ use mathlib.Core.Option.{Option, none, some}
 use borrow.Author.Tests.{lt-ltb, le-ltb}
 use Rattle.rl_laws.specs.Tests.{by_ltb}
 use Rattle.rl_laws.specs.Descend.{tree_is}
-use Rattle.rl_spec.specs.declared.Folded.{Folded}
-use Rattle.rl_spec.specs.declared.Folded.TheVariants.{Value, Nothing}
+use Rattle.rl_spec.specs.Answers.{Folded}
+use Rattle.std.specs.Prelude.{None, Some}
 use Rattle.rl_spec.specs.declared.ConstVal.{ConstVal}
 use Rattle.rl_spec.specs.declared.ConstVal.TheVariants as kind
 use Rattle.rl_spec.specs.declared.Counts.{Counts}
@@ -20,8 +20,7 @@ use Rattle.rl_spec.specs.Folded.{as_const, as_folded, const_of, folded_of}
 use Rattle.rl_spec.specs.Tree.{other, below, form_of, tree_by, expr_tree}
 use Rattle.rl_spec.specs.Fold.{Binding, unary_folded, binary_folded, const_eval}
 use Rattle.rl_spec.specs.Found.{image_found}
-use Rattle.rl_memory.specs.declared.Recalled.{Recalled}
-use Rattle.rl_memory.specs.declared.Recalled.TheVariants.{Known}
+use Rattle.rl_memory.specs.Memory.{Recalled}
 use Rattle.rl_memory.specs.Memory.{recall_of, Right}
 use Rattle.rl_names.specs.Names.{lookup_in}
 use Rattle.rl_names.proofs.Laws.{walk_is}
@@ -38,8 +37,8 @@ const_back (kind.Str x) = refl
 const_back (kind.Bool x) = refl
 
 pub folded_back : (v : Folded) → as_folded (folded_of v) ≡ v
-folded_back (Value v) = ap Value (const_back v)
-folded_back Nothing = refl
+folded_back (Some v) = ap Some (const_back v)
+folded_back None = refl
 
 pub const_forth : (v : value.ConstVal ℕ) → const_of (as_const v) ≡ v
 const_forth (value.int x) = refl
@@ -132,7 +131,7 @@ module _ (im : Image) (env : List (Binding ℕ)) where
         (λ h. by_ltb r n (λ k. rw (lt-ltb l n h, lt-ltb r n k) refl) (λ k. rw (lt-ltb l n h, le-ltb r n k) (right_missing op (value_at l))))
         (λ h. rw (le-ltb l n h) refl)
       where
-        right_missing : (op : ℕ) (o : Option (value.ConstVal ℕ)) → Nothing ≡ as_folded (binary_folded (text_of im) op o none)
+        right_missing : (op : ℕ) (o : Option (value.ConstVal ℕ)) → None ≡ as_folded (binary_folded (text_of im) op o none)
         right_missing op none = refl
         right_missing op (some x) = refl
     head_means (form.Grouping e) =
@@ -155,7 +154,7 @@ abbrev Keeps : ℕ → ℕ → Folded → List ℕ → List ℕ → Type 0
 Keeps k n v m out = (f : ℕ → Folded) → Right f k m → v ≡ f n → Right f k out
 
 module _ (im : Image) (cs w : List ℕ) (count n : ℕ) (m : List ℕ) where
-  pub fold_known : (seen : Recalled) (v : Folded) → seen ≡ recall_of m count n → seen ≡ Known v → Folds im cs w count n m v m
+  pub fold_known : (seen : Recalled) (v : Folded) → seen ≡ recall_of m count n → seen ≡ Some v → Folds im cs w count n m v m
   fold_known seen v e q env nm right = (right.known n v (sym e ∙ q), right)
 
   module _ (f : Form) (g : f ≡ form_of im n) (h : Head) (e : h ≡ head_of cs w count n f) where

@@ -11,8 +11,8 @@ use borrow.Author.Tests.{lt-ltb, le-ltb}
 use Rattle.rl_spec.specs.declared.ConstVal.{ConstVal}
 use Rattle.rl_spec.specs.declared.ConstVal.TheVariants as kind
 use Rattle.rl_spec.specs.declared.Counts.{Counts}
-use Rattle.rl_spec.specs.declared.Folded.{Folded}
-use Rattle.rl_spec.specs.declared.Folded.TheVariants.{Value, Nothing}
+use Rattle.rl_spec.specs.Answers.{Folded}
+use Rattle.std.specs.Prelude.{None, Some}
 use Rattle.rl_spec.specs.declared.Form.{Form}
 use Rattle.rl_spec.specs.declared.Form.TheVariants as form
 use Rattle.rl_spec.specs.Image.{text_of}
@@ -46,11 +46,11 @@ module _ (s : List ℕ) (c : Counts) (v : ConstVal) (r : List ℕ) where
 
 -- ---- operators on folded values
 
-pub unary_some : (op : ℕ) (v : Folded) (x : ConstVal) (r : Option (value.ConstVal ℕ)) → v ≡ Value x → r ≡ unary_value op (const_of x) → r ≡ unary_folded op (folded_of v)
+pub unary_some : (op : ℕ) (v : Folded) (x : ConstVal) (r : Option (value.ConstVal ℕ)) → v ≡ Some x → r ≡ unary_value op (const_of x) → r ≡ unary_folded op (folded_of v)
 unfolding unary_folded
 unary_some op v x r e f = rw e f
 
-pub unary_none : (op : ℕ) (v : Folded) → v ≡ Nothing → none ≡ unary_folded op (folded_of v)
+pub unary_none : (op : ℕ) (v : Folded) → v ≡ None → none ≡ unary_folded op (folded_of v)
 unfolding unary_folded
 unary_none op v e = rw e refl
 
@@ -62,39 +62,39 @@ module _ (s : List ℕ) (c : Counts) (op : ℕ) where
     abbrev Both : Option (value.ConstVal ℕ) → Type 0
     Both o = (p : List ℕ) → o ≡ binary_folded (text_of (image_found s p c)) op (folded_of a) (folded_of b)
 
-    pub both_some : (x y : ConstVal) (o : Option (value.ConstVal ℕ)) → a ≡ Value x → b ≡ Value y → ((p : List ℕ) → o ≡ binary_value (text_of (image_found s p c)) op (const_of x) (const_of y)) → Both o
+    pub both_some : (x y : ConstVal) (o : Option (value.ConstVal ℕ)) → a ≡ Some x → b ≡ Some y → ((p : List ℕ) → o ≡ binary_value (text_of (image_found s p c)) op (const_of x) (const_of y)) → Both o
     unfolding binary_folded
     both_some x y o e f g p = rw (e, f) (g p)
 
-    pub right_none : (x : ConstVal) → a ≡ Value x → b ≡ Nothing → Both none
+    pub right_none : (x : ConstVal) → a ≡ Some x → b ≡ None → Both none
     unfolding binary_folded
     right_none x e f p = rw (e, f) refl
 
-    pub left_none : a ≡ Nothing → Both none
+    pub left_none : a ≡ None → Both none
     unfolding binary_folded
     left_none e p = rw e refl
 
 -- ---- heads
 
 module _ (n op e : ℕ) where
-  pub unary_late : n ≤ e → Done Nothing ≡ unary_head n op e
+  pub unary_late : n ≤ e → Done None ≡ unary_head n op e
   unary_late h = rw (le-ltb e n h) refl
 
   pub unary_early : e < n → Unary op e ≡ unary_head n op e
   unary_early h = rw (lt-ltb e n h) refl
 
 module _ (n e : ℕ) where
-  pub grouping_late : n ≤ e → Done Nothing ≡ grouping_head n e
+  pub grouping_late : n ≤ e → Done None ≡ grouping_head n e
   grouping_late h = rw (le-ltb e n h) refl
 
   pub grouping_early : e < n → Grouping e ≡ grouping_head n e
   grouping_early h = rw (lt-ltb e n h) refl
 
 module _ (n l op r : ℕ) where
-  pub left_late : n ≤ l → Done Nothing ≡ binary_head n l op r
+  pub left_late : n ≤ l → Done None ≡ binary_head n l op r
   left_late h = rw (le-ltb l n h) refl
 
-  pub right_late : l < n → n ≤ r → Done Nothing ≡ binary_head n l op r
+  pub right_late : l < n → n ≤ r → Done None ≡ binary_head n l op r
   right_late h k = rw (lt-ltb l n h, le-ltb r n k) refl
 
   pub binary_early : l < n → r < n → Binary l op r ≡ binary_head n l op r
@@ -124,30 +124,30 @@ module _ (cs w : List ℕ) (count n : ℕ) (f : Form) where
   unfolding head_of
   head_grouping e h q g = rw q g
 
-  pub head_null : f ≡ form.Null → Is (Done Nothing)
+  pub head_null : f ≡ form.Null → Is (Done None)
   unfolding head_of
   head_null q = rw q refl
 
-  pub head_assign : (x e : ℕ) → f ≡ form.Assign x e → Is (Done Nothing)
+  pub head_assign : (x e : ℕ) → f ≡ form.Assign x e → Is (Done None)
   unfolding head_of
   head_assign x e q = rw q refl
 
-  pub head_ok : (e : ℕ) → f ≡ form.OkLiteral e → Is (Done Nothing)
+  pub head_ok : (e : ℕ) → f ≡ form.OkLiteral e → Is (Done None)
   unfolding head_of
   head_ok e q = rw q refl
 
-  pub head_err : (e : ℕ) → f ≡ form.ErrLiteral e → Is (Done Nothing)
+  pub head_err : (e : ℕ) → f ≡ form.ErrLiteral e → Is (Done None)
   unfolding head_of
   head_err e q = rw q refl
 
-  pub head_is_err : (e : ℕ) → f ≡ form.IsErr e → Is (Done Nothing)
+  pub head_is_err : (e : ℕ) → f ≡ form.IsErr e → Is (Done None)
   unfolding head_of
   head_is_err e q = rw q refl
 
-  pub head_unwrap : (e : ℕ) → f ≡ form.ResultUnwrap e → Is (Done Nothing)
+  pub head_unwrap : (e : ℕ) → f ≡ form.ResultUnwrap e → Is (Done None)
   unfolding head_of
   head_unwrap e q = rw q refl
 
-  pub head_other : f ≡ form.Other → Is (Done Nothing)
+  pub head_other : f ≡ form.Other → Is (Done None)
   unfolding head_of
   head_other q = rw q refl

@@ -1,7 +1,6 @@
 -- What stands when a node is folded under names with a memory. Assumes nothing.
-use Rattle.std.specs.Prelude.{ℕ, ◌≡◌, cond, List, ltb, length}
-use Rattle.rl_spec.specs.declared.Folded.{Folded}
-use Rattle.rl_spec.specs.declared.Folded.TheVariants.{Nothing}
+use Rattle.std.specs.Prelude.{ℕ, ◌≡◌, cond, List, ltb, length, None}
+use Rattle.rl_spec.specs.Answers.{Folded}
 use Rattle.rl_spec.specs.declared.Form.{Form}
 use Rattle.rl_spec.specs.declared.Form.TheVariants as form
 use Rattle.rl_spec.specs.Image.{Image, text_of}
@@ -20,27 +19,27 @@ folded_at im env n = as_folded (const_eval (text_of im) env (expr_tree im n))
 -- ---- what folding a node needs, by its form; a part that is not before the node has no value
 
 abbrev pub unary_head : ℕ → ℕ → ℕ → Head
-unary_head n op e = cond (ltb e n) (Unary op e) (Done Nothing)
+unary_head n op e = cond (ltb e n) (Unary op e) (Done None)
 
 abbrev pub binary_head : ℕ → ℕ → ℕ → ℕ → Head
-binary_head n l op r = cond (ltb l n) (cond (ltb r n) (Binary l op r) (Done Nothing)) (Done Nothing)
+binary_head n l op r = cond (ltb l n) (cond (ltb r n) (Binary l op r) (Done None)) (Done None)
 
 abbrev pub grouping_head : ℕ → ℕ → Head
-grouping_head n e = cond (ltb e n) (Grouping e) (Done Nothing)
+grouping_head n e = cond (ltb e n) (Grouping e) (Done None)
 
 unfoldable pub head_of : List ℕ → List ℕ → ℕ → ℕ → Form → Head
-head_of cs w count n form.Null = Done Nothing
+head_of cs w count n form.Null = Done None
 head_of cs w count n (form.Literal v) = Done v
 head_of cs w count n (form.Identifier t) = Done (lookup_in cs w t count)
 head_of cs w count n (form.Unary op e) = unary_head n op e
 head_of cs w count n (form.Binary l op r) = binary_head n l op r
 head_of cs w count n (form.Grouping e) = grouping_head n e
-head_of cs w count n (form.Assign x e) = Done Nothing
-head_of cs w count n (form.OkLiteral e) = Done Nothing
-head_of cs w count n (form.ErrLiteral e) = Done Nothing
-head_of cs w count n (form.IsErr e) = Done Nothing
-head_of cs w count n (form.ResultUnwrap e) = Done Nothing
-head_of cs w count n form.Other = Done Nothing
+head_of cs w count n (form.Assign x e) = Done None
+head_of cs w count n (form.OkLiteral e) = Done None
+head_of cs w count n (form.ErrLiteral e) = Done None
+head_of cs w count n (form.IsErr e) = Done None
+head_of cs w count n (form.ResultUnwrap e) = Done None
+head_of cs w count n form.Other = Done None
 
 -- ---- folding
 

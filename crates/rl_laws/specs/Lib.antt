@@ -10,3 +10,4 @@ pub mod Descend
 pub mod Heights
 -- ---- the steps of a run
 pub mod Steps
+pub mod AnswerLaws

@@ -1,10 +1,9 @@
 -- An index or none: what holds of the index where there is one, and the field that has it.
 -- Assumes nothing.
-use Rattle.std.specs.Prelude.{ℕ, ◌<◌, ◌≡◌, refl, ◌⊎◌, Bool, true, false, cond, eqb}
+use Rattle.std.specs.Prelude.{ℕ, ◌<◌, ◌≡◌, refl, ◌⊎◌, Bool, true, false, cond, eqb, None, Some}
 use Rattle.std.proofs.Common.{ap, sym, subst, inl, inr, arith, ne_eqb}
 use Rattle.std.proofs.lemmas.Bool.{eqb-false}
-use Rattle.rl_spec.specs.declared.Optional.{Optional}
-use Rattle.rl_spec.specs.declared.Optional.TheVariants.{None, Some}
+use Rattle.rl_spec.specs.Answers.{Optional}
 use Rattle.rl_spec.specs.Image.{Field, first}
 use Rattle.rl_spec.specs.Ranges.{optional, optional_field}
 

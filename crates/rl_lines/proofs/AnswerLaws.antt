@@ -5,16 +5,12 @@ use mathlib.Core.List.{List, ◌++◌}
 use native.Mathlib.Omega.{arith}
 use lib.ListN.{length, replicate}
 use borrow.Author.Tests.{lt-ltb, le-ltb}
-use Rattle.rl_spec.specs.declared.Answer.{Answer}
-use Rattle.rl_spec.specs.declared.Answer.TheVariants as read
+use Rattle.rl_spec.specs.Answers.{Answer, accepted, refused, MessageAnswer, TextAnswer}
+use Rattle.std.specs.Prelude.{Ok}
 use Rattle.rl_spec.specs.declared.ArenaNo.{ArenaNo}
 use Rattle.rl_spec.specs.declared.Cause.{Cause}
 use Rattle.rl_spec.specs.declared.Cause.TheVariants.{NoSuchCall, NoSuchText}
 use Rattle.rl_spec.specs.declared.Counts.{Counts}
-use Rattle.rl_spec.specs.declared.MessageAnswer.{MessageAnswer}
-use Rattle.rl_spec.specs.declared.MessageAnswer.TheVariants as message
-use Rattle.rl_spec.specs.declared.TextAnswer.{TextAnswer}
-use Rattle.rl_spec.specs.declared.TextAnswer.TheVariants as text
 use Rattle.rl_spec.specs.declared.TextPart.{TextPart}
 use Rattle.rl_spec.specs.Read.{answer_of, work_of, starts_of}
 use Rattle.rl_spec.specs.Image.{Image, image_of}
@@ -36,31 +32,31 @@ module _ (s : List ℕ) (k : ℕ) (a : Answer) (e : a ≡ answer_of s k) where
     text_work : (x : TextAnswer) → text_for s k t ≡ x → (w : List ℕ) → w ≡ work_unless (text_number x) s k → w ≡ work_unless (text_number (text_for s k t)) s k
     text_work x f w g = g ∙ ap (λ y. work_unless (text_number y) s k) (sym f)
 
-    module _ (q : Cause) (n : ℕ) (f : a ≡ read.Refused q n) where
-      pub text_unread : text.Refused q n ≡ text_for s k t
-      text_unread = sym (text_by_lem (read.Refused q n) f)
+    module _ (q : Cause) (n : ℕ) (f : a ≡ refused q n) where
+      pub text_unread : refused q n ≡ text_for s k t
+      text_unread = sym (text_by_lem (refused q n) f)
 
       pub text_unread_work : (w : List ℕ) → w ≡ work_of s k → w ≡ work_unless (text_number (text_for s k t)) s k
-      text_unread_work w g = text_work (text.Refused q n) (text_by_lem _ f) w (g ∙ refused_work s k q n (sym e ∙ f) ∙ zeros_unless q s k)
+      text_unread_work w g = text_work (refused q n) (text_by_lem _ f) w (g ∙ refused_work s k q n (sym e ∙ f) ∙ zeros_unless q s k)
 
-    module _ (no : ArenaNo) (c : Counts) (f : a ≡ read.Accepted no c) where
+    module _ (no : ArenaNo) (c : Counts) (f : a ≡ accepted no c) where
       module _ (h : c.texts ≤ t) where
-        text_none : text_for s k t ≡ text.Refused NoSuchText 0
+        text_none : text_for s k t ≡ refused NoSuchText 0
         text_none = text_by_lem _ f ∙ rw (le-ltb t c.texts h) refl
 
-        pub text_missing : text.Refused NoSuchText 0 ≡ text_for s k t
+        pub text_missing : refused NoSuchText 0 ≡ text_for s k t
         text_missing = sym text_none
 
         pub text_missing_work : (v w : List ℕ) → length v ≡ k → w ≡ replicate (length v) 0 → w ≡ work_unless (text_number (text_for s k t)) s k
         text_missing_work v w n z = text_work _ text_none w (z ∙ ap (λ (i : ℕ). replicate i 0) n ∙ zeros_unless NoSuchText s k)
 
       module _ (h : t < c.texts) (part : TextPart) (g : (p : List ℕ) → part ≡ text_part (image_found s p c) t) where
-        text_some : text_for s k t ≡ text.Found part
+        text_some : text_for s k t ≡ Ok part
         text_some =
             text_by_lem _ f ∙ rw (lt-ltb t c.texts h)
-            (ap text.Found (sym (g (starts_of s k) ∙ ap (λ (im : Image). text_part im t) (found_is_image s k no c (sym e ∙ f)))))
+            (ap Ok (sym (g (starts_of s k) ∙ ap (λ (im : Image). text_part im t) (found_is_image s k no c (sym e ∙ f)))))
 
-        pub text_found : text.Found part ≡ text_for s k t
+        pub text_found : Ok part ≡ text_for s k t
         text_found = sym text_some
 
         pub text_found_work : (w : List ℕ) → w ≡ work_of s k → w ≡ work_unless (text_number (text_for s k t)) s k
@@ -81,9 +77,9 @@ module _ (s : List ℕ) (k : ℕ) (a : Answer) (e : a ≡ answer_of s k) where
       unfolding message_out
       message_bytes_lem o g = g ∙ ap (message_bytes s call number) (sym f)
 
-    module _ (q : Cause) (n : ℕ) (f : a ≡ read.Refused q n) where
-      pub message_unread : message.Refused q n ≡ message_answer s k call number
-      message_unread = sym (message_by_lem (read.Refused q n) f)
+    module _ (q : Cause) (n : ℕ) (f : a ≡ refused q n) where
+      pub message_unread : refused q n ≡ message_answer s k call number
+      message_unread = sym (message_by_lem (refused q n) f)
 
       pub message_unread_out : (m : ℕ) (o : List ℕ) → m ≡ 65535 → o ≡ replicate m 0 → o ≡ message_out s k call number
       message_unread_out m o l z = message_bytes_lem _ (message_by_lem _ f) o (z ∙ ap (λ (i : ℕ). replicate i 0) l)
@@ -91,12 +87,12 @@ module _ (s : List ℕ) (k : ℕ) (a : Answer) (e : a ≡ answer_of s k) where
       pub message_unread_work : (w : List ℕ) → w ≡ work_of s k → w ≡ work_unless (message_number (message_answer s k call number)) s k
       message_unread_work w g = message_work _ (message_by_lem _ f) w (g ∙ refused_work s k q n (sym e ∙ f) ∙ zeros_unless q s k)
 
-    module _ (no : ArenaNo) (c : Counts) (f : a ≡ read.Accepted no c) where
+    module _ (no : ArenaNo) (c : Counts) (f : a ≡ accepted no c) where
       module _ (h : c.calls ≤ call) where
-        message_none : message_answer s k call number ≡ message.Refused NoSuchCall 0
+        message_none : message_answer s k call number ≡ refused NoSuchCall 0
         message_none = message_by_lem _ f ∙ rw (le-ltb call c.calls h) refl
 
-        pub message_missing : message.Refused NoSuchCall 0 ≡ message_answer s k call number
+        pub message_missing : refused NoSuchCall 0 ≡ message_answer s k call number
         message_missing = sym message_none
 
         pub message_missing_out : (m : ℕ) (o : List ℕ) → m ≡ 65535 → o ≡ replicate m 0 → o ≡ message_out s k call number
@@ -106,10 +102,10 @@ module _ (s : List ℕ) (k : ℕ) (a : Answer) (e : a ≡ answer_of s k) where
         message_missing_work v w n z = message_work _ message_none w (z ∙ ap (λ (i : ℕ). replicate i 0) n ∙ zeros_unless NoSuchCall s k)
 
       module _ (h : call < c.calls) (n : ℕ) (g : n ≡ length (message_at (image_of s) call number)) where
-        message_some : message_answer s k call number ≡ message.Message n
+        message_some : message_answer s k call number ≡ Ok n
         message_some = message_by_lem _ f ∙ rw (lt-ltb call c.calls h, ← g) refl
 
-        pub message_found : message.Message n ≡ message_answer s k call number
+        pub message_found : Ok n ≡ message_answer s k call number
         message_found = sym message_some
 
         pub message_found_out : (o : List ℕ) → o ≡ padded 65535 (message_at (image_of s) call number) → o ≡ message_out s k call number

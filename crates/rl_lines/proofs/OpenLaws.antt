@@ -6,8 +6,7 @@ use native.Mathlib.Omega.{arith}
 use lib.ListN.{length, get_or}
 use mir.Syntax.{w8}
 use mir.Val.{Fits}
-use Rattle.rl_spec.specs.declared.Answer.{Answer}
-use Rattle.rl_spec.specs.declared.Answer.TheVariants.{Accepted, Refused}
+use Rattle.rl_spec.specs.Answers.{Answer, accepted}
 use Rattle.rl_spec.specs.declared.ArenaNo.{ArenaNo}
 use Rattle.rl_spec.specs.declared.Counts.{Counts}
 use Rattle.rl_spec.specs.declared.Section.TheVariants.{Texts}
@@ -25,7 +24,7 @@ module _ (s : List ℕ) (k : ℕ) (r : Answer) (e : r ≡ answer_of s k) where
   pub answered : (x : Answer) → r ≡ x → x ≡ answer_of s k
   answered x f = sym f ∙ e
 
-  module _ (bytes : (i : ℕ) → Fits w8 (get_or s i 0)) (a : ArenaNo) (c : Counts) (f : r ≡ Accepted a c) where
+  module _ (bytes : (i : ℕ) → Fits w8 (get_or s i 0)) (a : ArenaNo) (c : Counts) (f : r ≡ accepted a c) where
     pub accepted_well : WellFormed (image_of s)
     accepted_well = accepted_well_formed s k a c (all_bytes s (λ i. omega (arith, (bytes i).fits))) (sym e ∙ f)
 
@@ -40,14 +39,14 @@ module _ (s : List ℕ) (k : ℕ) (r : Answer) (e : r ≡ answer_of s k) where
     texts_few = subst (λ (n : ℕ). n ≤ 2048) (sizes_are_counts s k a c (sym e ∙ f) Texts) (texts_within (image_of s) accepted_well)
 
     pub opened_accepted : (p cs l m : List ℕ) → p ≡ starts_of s k → length l ≡ 2048 → length m ≡ 2048
-        → ((q : List ℕ) → c.texts ≤ length l → c.texts ≤ length m → Classes (text_of (image_found s q c)) cs) → Opened s p cs (Accepted a c)
+        → ((q : List ℕ) → c.texts ≤ length l → c.texts ≤ length m → Classes (text_of (image_found s q c)) cs) → Opened s p cs (accepted a c)
     opened_accepted p cs l m g x y d =
         let kn : Known s p c = accepted_known p g in
         (kn, subst (λ im. Classes (text_of im) cs) kn.found (d p (omega (arith, texts_few)) (omega (arith, texts_few))))
 
 -- what an accepted image is opened to
-module _ (s p cs : List ℕ) (r : Answer) (o : Opened s p cs r) (a : ArenaNo) (c : Counts) (f : r ≡ Accepted a c) where
-  both : Opened s p cs (Accepted a c)
+module _ (s p cs : List ℕ) (r : Answer) (o : Opened s p cs r) (a : ArenaNo) (c : Counts) (f : r ≡ accepted a c) where
+  both : Opened s p cs (accepted a c)
   both = subst (Opened s p cs) f o
 
   pub opened_known : Known s p c

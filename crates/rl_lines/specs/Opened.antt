@@ -1,7 +1,6 @@
 -- What opening an image leaves. Assumes nothing.
-use Rattle.std.specs.Prelude.{ℕ, ◌≡◌, List}
-use Rattle.rl_spec.specs.declared.Answer.{Answer}
-use Rattle.rl_spec.specs.declared.Answer.TheVariants.{Accepted, Refused}
+use Rattle.std.specs.Prelude.{ℕ, ◌≡◌, List, Ok, Err}
+use Rattle.rl_spec.specs.Answers.{Answer}
 use Rattle.rl_spec.specs.declared.Counts.{Counts}
 use Rattle.rl_spec.specs.Image.{text_of, image_of, WellFormed}
 use Rattle.rl_spec.specs.Found.{image_found}
@@ -13,5 +12,5 @@ pub record Known (s p : List ℕ) (c : Counts) : Type 0 where
   pub whole : WellFormed (image_of s)
 
 abbrev pub Opened : List ℕ → List ℕ → List ℕ → Answer → Type 0
-Opened s p cs (Accepted a c) = Known s p c × Classes (text_of (image_of s)) cs
-Opened s p cs (Refused q n) = Unit {0}
+Opened s p cs (Ok h) = Known s p h.counts × Classes (text_of (image_of s)) cs
+Opened s p cs (Err r) = Unit {0}

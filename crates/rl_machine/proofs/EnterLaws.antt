@@ -5,8 +5,8 @@ use mathlib.Core.Path.{◌≡◌, refl, sym, ◌∙◌}
 use mathlib.Core.Bool.{false}
 use native.Mathlib.Omega.{arith}
 use Rattle.rl_spec.specs.declared.ConstVal.{ConstVal}
-use Rattle.rl_spec.specs.declared.Folded.{Folded}
-use Rattle.rl_spec.specs.declared.Folded.TheVariants as fold
+use Rattle.rl_spec.specs.Answers.{Folded}
+use Rattle.std.specs.Prelude.{None, Some}
 use Rattle.rl_spec.specs.declared.Form.{Form}
 use Rattle.rl_spec.specs.declared.Form.TheVariants as form
 use Rattle.rl_spec.specs.declared.Outcome.TheVariants.{Fault}
@@ -32,10 +32,10 @@ IsFolded v r =
     ((im : Image) → Means im r (λ base rest k env n. and_then (or_fault 4 (folded_of v) env n) (λ w. k (folds w))))
     × ((im : Image) (bound t : ℕ) → Room im bound t r)
 
-pub folded_value : (v : Folded) (w : ConstVal) → v ≡ fold.Value w → IsFolded v (Give (Plain (Const w)))
+pub folded_value : (v : Folded) (w : ConstVal) → v ≡ Some w → IsFolded v (Give (Plain (Const w)))
 folded_value v w e = rw e (λ im base rest k env n. refl, λ im b t. tt)
 
-pub folded_nothing : (v : Folded) (r : State) → v ≡ fold.Nothing → r ≡ Ends (Over (Fault 4)) → IsFolded v r
+pub folded_nothing : (v : Folded) (r : State) → v ≡ None → r ≡ Ends (Over (Fault 4)) → IsFolded v r
 folded_nothing v r e f = rw (e, f) (λ im base rest k env n. refl, λ im b t. tt)
 
 -- ---- a form

@@ -10,8 +10,8 @@ use lib.Ieee.{Float}
 use Rattle.rl_spec.specs.declared.ConstVal.{ConstVal}
 use Rattle.rl_spec.specs.declared.ConstVal.TheVariants as kind
 use Rattle.rl_spec.specs.declared.Counts.{Counts}
-use Rattle.rl_spec.specs.declared.Folded.{Folded}
-use Rattle.rl_spec.specs.declared.Folded.TheVariants as fold
+use Rattle.rl_spec.specs.Answers.{Folded}
+use Rattle.std.specs.Prelude.{None, Some}
 use Rattle.rl_spec.specs.declared.Outcome.TheVariants.{Returned, Fault, Stopped}
 use Rattle.rl_spec.specs.declared.Plain.{Plain}
 use Rattle.rl_spec.specs.declared.Plain.TheVariants.{Const}
@@ -95,15 +95,15 @@ truth_by_lem (run.ok p) = refl
 truth_by_lem (run.err p) = refl
 
 module _ (v : Value) (x : Folded) (e : folded_of x ≡ operand (value_of v)) where
-  pub test_bool : (w : ConstVal) (b : Bool) → x ≡ fold.Value w → w ≡ kind.Bool b → Resumed Test v (Tested b)
+  pub test_bool : (w : ConstVal) (b : Bool) → x ≡ Some w → w ≡ kind.Bool b → Resumed Test v (Tested b)
   test_bool w b f g =
       (λ im base rest k env n. rw (truth_by_lem (value_of v), ← e, f, g) refl, λ im b t. tt)
 
   module _ (r : State) (f : r ≡ Ends (Over (Fault 2))) where
-    pub test_nothing : x ≡ fold.Nothing → Resumed Test v r
+    pub test_nothing : x ≡ None → Resumed Test v r
     test_nothing g = rw f (λ im base rest k env n. rw (truth_by_lem (value_of v), ← e, g) refl, λ im b t. tt)
 
-    module _ (w : ConstVal) (g : x ≡ fold.Value w) where
+    module _ (w : ConstVal) (g : x ≡ Some w) where
       pub test_int : (n : ℤ) → w ≡ kind.Int n → Resumed Test v r
       test_int n h = rw f (λ im base rest k env m. rw (truth_by_lem (value_of v), ← e, g, h) refl, λ im b t. tt)
 

@@ -9,30 +9,29 @@ use lib.Seq.{get_or-set_same, get_or-set_other}
 use borrow.Author.Tests.{lt-ltb, le-ltb, eq-eqb, ne_eqb}
 use Rattle.rl_laws.specs.Tests.{by_eqb}
 use Rattle.rl_spec.specs.declared.ConstVal.TheVariants as kind
-use Rattle.rl_spec.specs.declared.Folded.{Folded}
-use Rattle.rl_spec.specs.declared.Folded.TheVariants.{Value, Nothing}
+use Rattle.rl_spec.specs.Answers.{Folded}
+use Rattle.std.specs.Prelude.{None, Some}
 use Rattle.rl_spec.specs.Words.{sort_word_of, payload_word_of, words_value}
-use Rattle.rl_memory.specs.declared.Recalled.{Recalled}
-use Rattle.rl_memory.specs.declared.Recalled.TheVariants.{Known, Unknown}
+use Rattle.rl_memory.specs.Memory.{Recalled}
 use Rattle.rl_memory.specs.Memory.{recalled, recall_of, tag_word, remember_of, Right}
 
 -- ---- recalling
 
 module _ (k tag payload : ℕ) where
-  pub recalled_unknown : tag ≡ 0 → Unknown ≡ recalled k tag payload
+  pub recalled_unknown : tag ≡ 0 → None ≡ recalled k tag payload
   unfolding recalled
   recalled_unknown h = rw h refl
 
   module _ (z : tag ≡ 0 → ⊥) where
-    pub recalled_none : 4 < tag → tag ≡ 5 + k → Known Nothing ≡ recalled k tag payload
+    pub recalled_none : 4 < tag → tag ≡ 5 + k → Some None ≡ recalled k tag payload
     unfolding recalled
     recalled_none h e = rw (ne_eqb tag 0 z, lt-ltb 4 tag h, eq-eqb tag (5 + k) e) refl
 
-    pub recalled_stale : 4 < tag → (tag ≡ 5 + k → ⊥) → Unknown ≡ recalled k tag payload
+    pub recalled_stale : 4 < tag → (tag ≡ 5 + k → ⊥) → None ≡ recalled k tag payload
     unfolding recalled
     recalled_stale h d = rw (ne_eqb tag 0 z, lt-ltb 4 tag h, ne_eqb tag (5 + k) d) refl
 
-    pub recalled_value : tag ≤ 4 → (v : Folded) → v ≡ words_value tag payload → Known v ≡ recalled k tag payload
+    pub recalled_value : tag ≤ 4 → (v : Folded) → v ≡ words_value tag payload → Some v ≡ recalled k tag payload
     unfolding recalled
     recalled_value h v g = rw (ne_eqb tag 0 z, le-ltb 4 tag h, ← g) refl
 
@@ -43,38 +42,38 @@ recall_is m k n tag payload r e f g = g ∙ rw (e, f) refl
 -- ---- remembering
 
 pub tag_none : (k : ℕ) (v : Folded) (r : ℕ) → r ≡ sort_word_of v → r ≡ 0 → 5 + k ≡ tag_word k v
-tag_none k (Value (kind.Int x)) r e h = absurd (omega arith)
-tag_none k (Value (kind.Float x)) r e h = absurd (omega arith)
-tag_none k (Value (kind.Str x)) r e h = absurd (omega arith)
-tag_none k (Value (kind.Bool x)) r e h = absurd (omega arith)
-tag_none k Nothing r e h = refl
+tag_none k (Some (kind.Int x)) r e h = absurd (omega arith)
+tag_none k (Some (kind.Float x)) r e h = absurd (omega arith)
+tag_none k (Some (kind.Str x)) r e h = absurd (omega arith)
+tag_none k (Some (kind.Bool x)) r e h = absurd (omega arith)
+tag_none k None r e h = refl
 
 pub tag_some : (k : ℕ) (v : Folded) (r : ℕ) → r ≡ sort_word_of v → (r ≡ 0 → ⊥) → r ≡ tag_word k v
-tag_some k (Value v) r e h = e
-tag_some k Nothing r e h = absurd (h e)
+tag_some k (Some v) r e h = e
+tag_some k None r e h = absurd (h e)
 
 tag_early : (k : ℕ) (v : Folded) → tag_word k v ≤ 5 + k
-tag_early k (Value (kind.Int x)) = omega arith
-tag_early k (Value (kind.Float x)) = omega arith
-tag_early k (Value (kind.Str x)) = omega arith
-tag_early k (Value (kind.Bool x)) = omega arith
-tag_early k Nothing = omega arith
+tag_early k (Some (kind.Int x)) = omega arith
+tag_early k (Some (kind.Float x)) = omega arith
+tag_early k (Some (kind.Str x)) = omega arith
+tag_early k (Some (kind.Bool x)) = omega arith
+tag_early k None = omega arith
 
 -- the words of a value are known again
-tag_back : (k : ℕ) (v : Folded) (p : ℕ) → words_value (sort_word_of v) p ≡ v → recalled k (tag_word k v) p ≡ Known v
+tag_back : (k : ℕ) (v : Folded) (p : ℕ) → words_value (sort_word_of v) p ≡ v → recalled k (tag_word k v) p ≡ Some v
 unfolding recalled
-tag_back k (Value (kind.Int x)) p e = ap Known e
-tag_back k (Value (kind.Float x)) p e = ap Known e
-tag_back k (Value (kind.Str x)) p e = ap Known e
-tag_back k (Value (kind.Bool x)) p e = ap Known e
-tag_back k Nothing p e = rw (ne_eqb (5 + k) 0 (λ q. omega arith), lt-ltb 4 (5 + k) (omega arith), eq-eqb (5 + k) (5 + k) refl) refl
+tag_back k (Some (kind.Int x)) p e = ap Some e
+tag_back k (Some (kind.Float x)) p e = ap Some e
+tag_back k (Some (kind.Str x)) p e = ap Some e
+tag_back k (Some (kind.Bool x)) p e = ap Some e
+tag_back k None p e = rw (ne_eqb (5 + k) 0 (λ q. omega arith), lt-ltb 4 (5 + k) (omega arith), eq-eqb (5 + k) (5 + k) refl) refl
 
-pub known_is : (v w : Folded) → Known v ≡ Known w → v ≡ w
+pub known_is : (v w : Folded) → Some v ≡ Some w → v ≡ w
 known_is v w e = ap (λ r. value r) e
   where
     value : Recalled → Folded
-    value (Known x) = x
-    value Unknown = v
+    value (Some x) = x
+    value None = v
 
 -- a node whose two words changed, and the others
 module _ (m : List ℕ) (n sort payload : ℕ) (h : n * 2 + 1 < length m) where
@@ -111,13 +110,13 @@ module _ (m : List ℕ) (k n : ℕ) (v : Folded) where
 
     pub remember_keeps : words_value (sort_word_of v) payload ≡ v → Keeps (written m n sort payload h)
     remember_keeps b f r q =
-        let s : recalled k sort payload ≡ Known v = ap (λ (x : ℕ). recalled k x payload) e ∙ tag_back k v payload b in
+        let s : recalled k sort payload ≡ Some v = ap (λ (x : ℕ). recalled k x payload) e ∙ tag_back k v payload b in
         record {
           known =
               λ j w t.
               by_eqb j n
               (λ (p : j ≡ n).
-              let o : Known v ≡ Known w = sym s ∙ sym (own m n sort payload h k) ∙ subst (λ (i : ℕ). recall_of (written m n sort payload h) k i ≡ Known w) p t in
+              let o : Some v ≡ Some w = sym s ∙ sym (own m n sort payload h k) ∙ subst (λ (i : ℕ). recall_of (written m n sort payload h) k i ≡ Some w) p t in
               sym (known_is v w o) ∙ q ∙ ap f (sym p))
               (λ p. r.known j w (sym (others m n sort payload h k j p) ∙ t));
           early =

@@ -15,8 +15,8 @@ use borrow.Author.Tests.{ltb-true}
 use Rattle.rl_spec.specs.declared.Counts.{Counts}
 use Rattle.rl_spec.specs.declared.Function.{Function}
 use Rattle.rl_spec.specs.declared.Param.{Param}
-use Rattle.rl_spec.specs.declared.ParamRefinement.{ParamRefinement}
-use Rattle.rl_spec.specs.declared.ParamRefinement.TheVariants.{Unrefined, Refined}
+use Rattle.rl_spec.specs.Answers.{ParamRefinement, refined}
+use Rattle.std.specs.Prelude.{None}
 use Rattle.rl_spec.specs.declared.RefineOp.{RefineOp}
 use Rattle.rl_spec.specs.declared.RefineOp.TheVariants.{Gt, Ge, Lt, Le, Eq, Ne}
 use Rattle.rl_spec.specs.declared.RefineOperand.{RefineOperand}
@@ -135,10 +135,10 @@ module _ (s : List ℕ) (c : Counts) (out : List ℕ) (name : ℕ) (op : RefineO
   pub puts_refinement : (t w₁ w₂ w₃ w₄ w₅ w : List ℕ) (e₁ e₂ e₃ e₄ e₅ r : ℕ) → ((p : List ℕ) → t ≡ text_of (image_found s p c) name)
       → Puts out 0 (ascii "refinement failed: ") w₁ e₁ → Puts w₁ e₁ t w₂ e₂ → Puts w₂ e₂ (ascii " ") w₃ e₃
       → Puts w₃ e₃ (refine_op_str (op_of op)) w₄ e₄ → Puts w₄ e₄ (ascii " ") w₅ e₅ → PutsIn s c w₅ e₅ (λ im. operand_str (map_operand (text_of im) (operand_of o))) w r
-      → PutsIn s c out 0 (λ im. refinement_text (text_of im name) (map (map_refinement (text_of im)) (refinement_of (Refined op o)))) w r
+      → PutsIn s c out 0 (λ im. refinement_text (text_of im name) (map (map_refinement (text_of im)) (refinement_of (refined op o)))) w r
   puts_refinement t w₁ w₂ w₃ w₄ w₅ w e₁ e₂ e₃ e₄ e₅ r f a b d g h k = (λ p. (whole p).0, λ p. (whole p).1)
     where
-      whole : (p : List ℕ) → Puts out 0 (refinement_text (text_of (image_found s p c) name) (map (map_refinement (text_of (image_found s p c))) (refinement_of (Refined op o)))) w r
+      whole : (p : List ℕ) → Puts out 0 (refinement_text (text_of (image_found s p c) name) (map (map_refinement (text_of (image_found s p c))) (refinement_of (refined op o)))) w r
       whole p =
           puts_then out 0 _ _ w₅ w e₅ r
           (puts_then out 0 _ _ w₄ w₅ e₄ e₅
@@ -168,8 +168,8 @@ module _ (s : List ℕ) (c : Counts) (f : ℕ) where
       unfolding param_of
       by_param p = rw (e, ← g p, ← h) refl
 
-      pub puts_unrefined : x ≡ Unrefined → PutsIn s c out 0 default out 0
+      pub puts_unrefined : x ≡ None → PutsIn s c out 0 default out 0
       puts_unrefined u = puts_in s c out 0 default [] out 0 (puts_nothing out) (λ p. rw u at (by_param p))
 
-      pub puts_refined : (op : RefineOp) (o : RefineOperand) (w : List ℕ) (r : ℕ) → x ≡ Refined op o → PutsIn s c out 0 (λ im. refinement_text (text_of im q.name) (map (map_refinement (text_of im)) (refinement_of (Refined op o)))) w r → PutsIn s c out 0 default w r
+      pub puts_refined : (op : RefineOp) (o : RefineOperand) (w : List ℕ) (r : ℕ) → x ≡ refined op o → PutsIn s c out 0 (λ im. refinement_text (text_of im q.name) (map (map_refinement (text_of im)) (refinement_of (refined op o)))) w r → PutsIn s c out 0 default w r
       puts_refined op o w r u a = puts_same s c out 0 default text_of_lem w r (rw u a) by_param

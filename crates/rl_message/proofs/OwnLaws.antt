@@ -11,10 +11,8 @@ use Rattle.rl_spec.specs.declared.ConstVal.TheVariants as kind
 use Rattle.rl_spec.specs.contracts.ConstVal as const-val
 use Rattle.rl_spec.specs.declared.Counts.{Counts}
 use Rattle.rl_spec.specs.declared.Clause.{Clause}
-use Rattle.rl_spec.specs.declared.Optional.{Optional}
-use Rattle.rl_spec.specs.declared.Optional.TheVariants.{None, Some}
-use Rattle.rl_spec.specs.declared.Folded.{Folded}
-use Rattle.rl_spec.specs.declared.Folded.TheVariants.{Value, Nothing}
+use Rattle.rl_spec.specs.Answers.{Optional, Folded}
+use Rattle.std.specs.Prelude.{None, Some}
 use Rattle.rl_spec.specs.declared.Form.{Form}
 use Rattle.rl_spec.specs.declared.Form.TheVariants as form
 use Rattle.rl_spec.specs.contracts.Form as forms
@@ -50,17 +48,17 @@ no_literal (form.ResultUnwrap e) h im tree = refl
 no_literal form.Other h im tree = refl
 
 module _ (f : Form) (v : Folded) (e : f ≡ form.Literal v) where
-  pub no_value : v ≡ Nothing → StringOf f none
+  pub no_value : v ≡ None → StringOf f none
   no_value g im tree = rw (e, g) refl
 
   -- every value but a text
-  pub no_string : (x : ConstVal) → v ≡ Value x → OneOf (0 ∷ 1 ∷ 3 ∷ []) (tag_of const-val.the_type x) → StringOf f none
+  pub no_string : (x : ConstVal) → v ≡ Some x → OneOf (0 ∷ 1 ∷ 3 ∷ []) (tag_of const-val.the_type x) → StringOf f none
   no_string (kind.Int x) g h im tree = rw (e, g) refl
   no_string (kind.Float x) g h im tree = rw (e, g) refl
   no_string (kind.Str x) g h im tree = absurd (miss (0 ∷ 1 ∷ 3 ∷ []) 2 tt h)
   no_string (kind.Bool x) g h im tree = rw (e, g) refl
 
-  pub a_string_lem : (x : ConstVal) (t : ℕ) → v ≡ Value x → x ≡ kind.Str t → StringOf f (some t)
+  pub a_string_lem : (x : ConstVal) (t : ℕ) → v ≡ Some x → x ≡ kind.Str t → StringOf f (some t)
   a_string_lem x t g h im tree = rw (e, g, h) refl
 
 -- ---- the text of a message's node

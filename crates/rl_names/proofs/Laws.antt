@@ -9,8 +9,8 @@ use native.Mathlib.Omega.{arith}
 use lib.Dec.{eqb}
 use lib.ListN.{length, get_or, set}
 use borrow.Author.Tests.{eq-eqb, ne_eqb}
-use Rattle.rl_spec.specs.declared.Folded.{Folded}
-use Rattle.rl_spec.specs.declared.Folded.TheVariants.{Value, Nothing}
+use Rattle.rl_spec.specs.Answers.{Folded}
+use Rattle.std.specs.Prelude.{None, Some}
 use Rattle.rl_spec.specs.Folded.{as_const, as_folded}
 use Rattle.rl_spec.specs.Words.{sort_word_of, payload_word_of, words_value}
 use Rattle.rl_spec.specs.Fold.{Binding, lookup}
@@ -19,7 +19,7 @@ use Rattle.rl_names.specs.Names.{lookup_in, bind_in, Standing}
 -- ---- the walk; whole is what it has to answer
 
 module _ (cs w : List ℕ) (t k class : ℕ) (whole : Folded) (v : whole ≡ lookup_in cs w t k) (e : class ≡ get_or cs t 0) where
-  pub walk_end : k ≤ 0 → Nothing ≡ whole
+  pub walk_end : k ≤ 0 → None ≡ whole
   unfolding lookup_in
   walk_end h = let z : k ≡ 0 = omega arith in sym (v ∙ rw z refl)
 
@@ -53,6 +53,6 @@ module _ (bytes : ℕ → List ℕ) (cs w : List ℕ) (t : ℕ) where
   walk_is [] h = refl
   walk_is (b ∷ env) h = rw (h.0, h.1.0, walk_is env h.1.1.1, h.1.1.0 t) (either (eqb (get_or cs b.name 0) (get_or cs t 0)))
     where
-      either : (x : Bool) → cond x (Value (as_const b.value)) (as_folded (lookup bytes env t)) ≡ as_folded (cond x (some b.value) (lookup bytes env t))
+      either : (x : Bool) → cond x (Some (as_const b.value)) (as_folded (lookup bytes env t)) ≡ as_folded (cond x (some b.value) (lookup bytes env t))
       either true = refl
       either false = refl

@@ -1,8 +1,7 @@
 -- Names bound to values, three words a binding: the name's text, the value's sort and its payload; the latest binding is the last.
 -- Assumes nothing.
-use Rattle.std.specs.Prelude.{ℕ, zero, suc, ◌+◌, ◌*◌, ◌≡◌, cond, List, [], ◌∷◌, length, get_or, set, eqb}
-use Rattle.rl_spec.specs.declared.Folded.{Folded}
-use Rattle.rl_spec.specs.declared.Folded.TheVariants.{Value, Nothing}
+use Rattle.std.specs.Prelude.{ℕ, zero, suc, ◌+◌, ◌*◌, ◌≡◌, cond, List, [], ◌∷◌, length, get_or, set, eqb, None, Some}
+use Rattle.rl_spec.specs.Answers.{Folded}
 use Rattle.rl_spec.specs.Values.{same_text}
 use Rattle.rl_spec.specs.Folded.{as_const}
 use Rattle.rl_spec.specs.Words.{sort_word_of, payload_word_of, words_value}
@@ -14,7 +13,7 @@ Classes bytes cs = (a b : ℕ) → same_text (bytes a) (bytes b) ≡ eqb (get_or
 
 -- the backward walk over the first k bindings
 unfoldable pub lookup_in : List ℕ → List ℕ → ℕ → ℕ → Folded
-lookup_in cs w t zero = Nothing
+lookup_in cs w t zero = None
 lookup_in cs w t (suc k) =
     cond (eqb (get_or cs (get_or w (k * 3) 0) 0) (get_or cs t 0)) (words_value (get_or w (k * 3 + 1) 0) (get_or w (k * 3 + 2) 0))
     (lookup_in cs w t k)
@@ -28,6 +27,6 @@ abbrev pub Standing : (ℕ → List ℕ) → List ℕ → List ℕ → List (Bin
 Standing bytes cs w [] = Unit {0}
 Standing bytes cs w (b ∷ env) =
     (get_or w (length env * 3) 0 ≡ b.name)
-    × ((words_value (get_or w (length env * 3 + 1) 0) (get_or w (length env * 3 + 2) 0) ≡ Value (as_const b.value))
+    × ((words_value (get_or w (length env * 3 + 1) 0) (get_or w (length env * 3 + 2) 0) ≡ Some (as_const b.value))
     × (((t : ℕ) → same_text (bytes b.name) (bytes t) ≡ eqb (get_or cs b.name 0) (get_or cs t 0))
     × Standing bytes cs w env))

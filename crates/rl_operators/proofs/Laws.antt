@@ -8,8 +8,8 @@ use mathlib.Core.Option.{Option, none, some}
 use borrow.Author.Tests.{ne_eqb}
 use Rattle.rl_spec.specs.declared.ConstVal.{ConstVal}
 use Rattle.rl_spec.specs.declared.ConstVal.TheVariants.{Int, Float, Str, Bool}
-use Rattle.rl_spec.specs.declared.Verdict.{Verdict}
-use Rattle.rl_spec.specs.declared.Verdict.TheVariants.{Yes, No, Unknown}
+use Rattle.rl_spec.specs.Answers.{Verdict}
+use Rattle.std.specs.Prelude.{None, Some}
 use Rattle.rl_spec.specs.Values as value
 use Rattle.rl_spec.specs.Values.{RefineOp, gt, ge, lt, le, eq, ne, plus, minus, star, slash, compare_values, arith_values, bang, negate}
 use Rattle.rl_spec.specs.Folded.{const_of, with_text, verdict_of}
@@ -62,13 +62,13 @@ module _ (a b : ConstVal) (l r : List ℕ) (op : RefineOp) (v : Verdict) (e : ve
   by_verdict : (out : Option (value.ConstVal ℕ)) → out ≡ boolean (verdict_of v) → Compares a b l r op out
   by_verdict out f = λ bytes h k. f ∙ ap boolean (e ∙ compare_at bytes op a b l r h k)
 
-  pub compare_yes : v ≡ Yes → Compares a b l r op (some (value.bool true))
+  pub compare_yes : v ≡ (Some true) → Compares a b l r op (some (value.bool true))
   compare_yes f = by_verdict (some (value.bool true)) (rw f refl)
 
-  pub compare_no : v ≡ No → Compares a b l r op (some (value.bool false))
+  pub compare_no : v ≡ (Some false) → Compares a b l r op (some (value.bool false))
   compare_no f = by_verdict (some (value.bool false)) (rw f refl)
 
-  pub compare_unknown : v ≡ Unknown → Compares a b l r op none
+  pub compare_unknown : v ≡ None → Compares a b l r op none
   compare_unknown f = by_verdict none (rw f refl)
 
 -- ---- binary operators

@@ -6,14 +6,12 @@ use mathlib.Core.List.{List, []}
 use native.Mathlib.Omega.{arith}
 use lib.ListN.{length, replicate, length-replicate}
 use borrow.Author.Tests.{lt-ltb, le-ltb}
-use Rattle.rl_spec.specs.declared.Answer.{Answer}
-use Rattle.rl_spec.specs.declared.Answer.TheVariants as read
+use Rattle.rl_spec.specs.Answers.{Answer, accepted, refused, PagesAnswer}
+use Rattle.std.specs.Prelude.{Ok}
 use Rattle.rl_spec.specs.declared.ArenaNo.{ArenaNo}
 use Rattle.rl_spec.specs.declared.Cause.{Cause}
 use Rattle.rl_spec.specs.declared.Cause.TheVariants.{PagesTooShort}
 use Rattle.rl_spec.specs.declared.Counts.{Counts}
-use Rattle.rl_spec.specs.declared.PagesAnswer.{PagesAnswer}
-use Rattle.rl_spec.specs.declared.PagesAnswer.TheVariants.{Written, Refused}
 use Rattle.rl_spec.specs.declared.Section.TheVariants.{Calls}
 use Rattle.rl_spec.specs.Read.{counts_of, answer_of, work_of}
 use Rattle.rl_spec.specs.Image.{image_of}
@@ -28,11 +26,11 @@ use Rattle.rl_pages.specs.Added.{Adds, answer_at}
 
 -- ---- the answer by the place after the bytes
 
-pub answered_short : (room at : ℕ) → room < at → Refused PagesTooShort 0 ≡ answer_at room at
+pub answered_short : (room at : ℕ) → room < at → refused PagesTooShort 0 ≡ answer_at room at
 unfolding answer_at
 answered_short room at h = rw (lt-ltb room at h) refl
 
-pub answered_all : (room at : ℕ) → at ≤ room → Written at ≡ answer_at room at
+pub answered_all : (room at : ℕ) → at ≤ room → Ok at ≡ answer_at room at
 unfolding answer_at
 answered_all room at h = rw (le-ltb room at h) refl
 
@@ -51,9 +49,9 @@ module _ (s : List ℕ) (k room : ℕ) (a : Answer) (e : a ≡ answer_of s k) wh
 
   -- ---- the image is refused
 
-  module _ (q : Cause) (n : ℕ) (f : a ≡ read.Refused q n) where
-    pub unread : Refused q n ≡ pages_answer s k room
-    unread = sym (pages_by_lem (read.Refused q n) f)
+  module _ (q : Cause) (n : ℕ) (f : a ≡ refused q n) where
+    pub unread : refused q n ≡ pages_answer s k room
+    unread = sym (pages_by_lem (refused q n) f)
 
     pub unread_out : (o : List ℕ) → o ≡ replicate room 0 → o ≡ pages_out s k room
     unread_out o z = out_by _ (pages_by_lem _ f) o z
@@ -63,7 +61,7 @@ module _ (s : List ℕ) (k room : ℕ) (a : Answer) (e : a ≡ answer_of s k) wh
 
   -- ---- the pages are put into a slice of zeros
 
-  module _ (no : ArenaNo) (c : Counts) (f : a ≡ read.Accepted no c) (l : List ℕ) (z : l ≡ replicate room 0)
+  module _ (no : ArenaNo) (c : Counts) (f : a ≡ accepted no c) (l : List ℕ) (z : l ≡ replicate room 0)
       (out : List ℕ) (at : ℕ) (adds : Adds l 0 (pages_of (image_of s) c.calls) out at) (n : length out ≡ length l) where
     abbrev bytes : List ℕ
     bytes = pages_of (image_of s) c.calls
@@ -77,10 +75,10 @@ module _ (s : List ℕ) (k room : ℕ) (a : Answer) (e : a ≡ answer_of s k) wh
     own_calls : (counts_of s).calls ≡ c.calls
     own_calls = sym (section_size s Calls) ∙ sizes_are_counts s k no c (sym e ∙ f) Calls
 
-    long : room < length bytes → pages_answer s k room ≡ Refused PagesTooShort 0
+    long : room < length bytes → pages_answer s k room ≡ refused PagesTooShort 0
     long h = pages_by_lem _ f ∙ rw (lt-ltb room (length bytes) h) refl
 
-    fits : length bytes ≤ room → pages_answer s k room ≡ Written (length bytes)
+    fits : length bytes ≤ room → pages_answer s k room ≡ Ok (length bytes)
     fits h = pages_by_lem _ f ∙ rw (le-ltb room (length bytes) h) refl
 
     place : length bytes ≡ at

@@ -1,8 +1,7 @@
 -- Bytes behind bytes in a slice, and the bytes of a report's line. Assumes nothing.
-use Rattle.std.specs.Prelude.{ℕ, cond, List, [], ◌++◌, ltb, get_or}
+use Rattle.std.specs.Prelude.{ℕ, cond, List, [], ◌++◌, ltb, get_or, Ok}
 use Rattle.rl_spec.specs.declared.Cause.TheVariants.{PagesTooShort}
-use Rattle.rl_spec.specs.declared.PagesAnswer.{PagesAnswer}
-use Rattle.rl_spec.specs.declared.PagesAnswer.TheVariants.{Written, Refused}
+use Rattle.rl_spec.specs.Answers.{PagesAnswer, refused}
 use Rattle.rl_spec.specs.Utf8.{encode_text}
 use Rattle.rl_spec.specs.Image.{Image}
 use Rattle.rl_spec.specs.Pages.{report_lines, ended}
@@ -18,4 +17,4 @@ line_bytes im call number = encode_text (ended (get_or (report_lines im call) nu
 
 -- the answer for bytes up to a place
 unfoldable pub answer_at : ℕ → ℕ → PagesAnswer
-answer_at room at = cond (ltb room at) (Refused PagesTooShort 0) (Written at)
+answer_at room at = cond (ltb room at) (refused PagesTooShort 0) (Ok at)

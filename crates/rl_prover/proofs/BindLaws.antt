@@ -7,8 +7,8 @@ use native.Mathlib.Omega.{arith}
 use lib.ListN.{length, get_or, set, replicate, length-set}
 use lib.Seq.{get_or-set_same, get_or-set_other}
 use Rattle.rl_spec.specs.declared.ConstVal.{ConstVal}
-use Rattle.rl_spec.specs.declared.Folded.{Folded}
-use Rattle.rl_spec.specs.declared.Folded.TheVariants.{Value, Nothing}
+use Rattle.rl_spec.specs.Answers.{Folded}
+use Rattle.std.specs.Prelude.{None, Some}
 use Rattle.rl_spec.specs.Image.{Image, text_of}
 use Rattle.rl_spec.specs.Values as value
 use Rattle.rl_spec.specs.Folded.{as_folded, const_of, folded_of}
@@ -27,10 +27,10 @@ use Rattle.rl_prover.proofs.Monotone.{value_stays}
 
 -- ---- forgetting
 
-pub forget_value : (m : List ℕ) (old : Folded) (v : ConstVal) (out : List ℕ) → old ≡ Value v → out ≡ replicate (length m) 0 → out ≡ forget_for m old
+pub forget_value : (m : List ℕ) (old : Folded) (v : ConstVal) (out : List ℕ) → old ≡ Some v → out ≡ replicate (length m) 0 → out ≡ forget_for m old
 forget_value m old v out e f = rw e f
 
-pub forget_none : (m : List ℕ) (old : Folded) → old ≡ Nothing → m ≡ forget_for m old
+pub forget_none : (m : List ℕ) (old : Folded) → old ≡ None → m ≡ forget_for m old
 forget_none m old e = rw e refl
 
 -- ---- the words of the bindings
@@ -85,20 +85,20 @@ module _ (w : List ℕ) (k t : ℕ) (v : Folded) (h : (k + 1) * 3 ≤ length w) 
 
 -- ---- a binding more
 
-module _ (im : Image) (env : List (Binding ℕ)) (cs w : List ℕ) (count : ℕ) (m : List ℕ) (t : ℕ) (v : ConstVal) (cl : Classes (text_of im) cs) (h : (count + 1) * 3 ≤ length w) (p : Passing im env cs w count m) (back : words_value (sort_word_of (Value v)) (payload_word_of (Value v)) ≡ Value v) where
+module _ (im : Image) (env : List (Binding ℕ)) (cs w : List ℕ) (count : ℕ) (m : List ℕ) (t : ℕ) (v : ConstVal) (cl : Classes (text_of im) cs) (h : (count + 1) * 3 ≤ length w) (p : Passing im env cs w count m) (back : words_value (sort_word_of (Some v)) (payload_word_of (Some v)) ≡ Some v) where
   abbrev b : Binding ℕ
   b = record { name = t; value = const_of v }
 
-  names_more : Names im (b ∷ env) cs (bind_in w count t (Value v)) (count + 1)
+  names_more : Names im (b ∷ env) cs (bind_in w count t (Some v)) (count + 1)
   names_more =
       let n = p.names.counted in
       let q : length env * 3 ≡ count * 3 = rw n refl in
       record {
         standing = (
-          ap (λ (i : ℕ). get_or (bind_in w count t (Value v)) i 0) q ∙ bound_name w count t (Value v) h,
+          ap (λ (i : ℕ). get_or (bind_in w count t (Some v)) i 0) q ∙ bound_name w count t (Some v) h,
           (
-            rw (n, bound_sort w count t (Value v) h, bound_payload w count t (Value v) h) (back ∙ ap Value (sym (const_back v))),
-            (cl t, kept (text_of im) cs w (bind_in w count t (Value v)) env count (omega arith) (bound_before w count t (Value v) h) p.names.standing),
+            rw (n, bound_sort w count t (Some v) h, bound_payload w count t (Some v) h) (back ∙ ap Some (sym (const_back v))),
+            (cl t, kept (text_of im) cs w (bind_in w count t (Some v)) env count (omega arith) (bound_before w count t (Some v) h) p.names.standing),
           ),
         );
         counted = omega (arith, n);
@@ -106,14 +106,14 @@ module _ (im : Image) (env : List (Binding ℕ)) (cs w : List ℕ) (count : ℕ)
 
   -- by the value that the name had
   right_more : (old : Folded) → old ≡ as_folded (lookup (text_of im) env t) → Right (folded_at im (b ∷ env)) (count + 1) (forget_for m old)
-  right_more (Value x) e = cleared_right (folded_at im (b ∷ env)) (count + 1) (length m)
-  right_more Nothing e =
+  right_more (Some x) e = cleared_right (folded_at im (b ∷ env)) (count + 1) (length m)
+  right_more None e =
       more_right (folded_at im env) (folded_at im (b ∷ env)) count m p.right
       (λ n x q.
-      let stays = value_stays (text_of im) env b (sym (from_forth Nothing (lookup (text_of im) env t) e)) (expr_tree im n) (const_of x) (sym (from_forth (Value x) (const_eval (text_of im) env (expr_tree im n)) (sym q))) in
-      sym (from_back (Value x) (const_eval (text_of im) (b ∷ env) (expr_tree im n)) (sym stays)))
+      let stays = value_stays (text_of im) env b (sym (from_forth None (lookup (text_of im) env t) e)) (expr_tree im n) (const_of x) (sym (from_forth (Some x) (const_eval (text_of im) env (expr_tree im n)) (sym q))) in
+      sym (from_back (Some x) (const_eval (text_of im) (b ∷ env) (expr_tree im n)) (sym stays)))
 
-  passing_more : (old : Folded) → old ≡ lookup_in cs w t count → Passing im (b ∷ env) cs (bind_in w count t (Value v)) (count + 1) (forget_for m old)
+  passing_more : (old : Folded) → old ≡ lookup_in cs w t count → Passing im (b ∷ env) cs (bind_in w count t (Some v)) (count + 1) (forget_for m old)
   passing_more old e =
       record {
         names = names_more;
@@ -123,12 +123,12 @@ module _ (im : Image) (env : List (Binding ℕ)) (cs w : List ℕ) (count : ℕ)
 -- ---- the ways out
 
 module _ (cs w : List ℕ) (count : ℕ) (m : List ℕ) (t : ℕ) (v : Folded) where
-  pub bind_nothing : v ≡ Nothing → Binds cs w count m t v w count m
+  pub bind_nothing : v ≡ None → Binds cs w count m t v w count m
   bind_nothing e im env cl h p = subst (λ (x : Folded). Passing im (bound t (folded_of x) env) cs w count m) (sym e) p
 
-  pub bind_some : (x : ConstVal) → v ≡ Value x → (old : Folded) (rest out : List ℕ) → old ≡ lookup_in cs w t count → rest ≡ forget_for m old → out ≡ bind_in w count t (Value x) → words_value (sort_word_of (Value x)) (payload_word_of (Value x)) ≡ Value x → Binds cs w count m t v out (count + 1) rest
+  pub bind_some : (x : ConstVal) → v ≡ Some x → (old : Folded) (rest out : List ℕ) → old ≡ lookup_in cs w t count → rest ≡ forget_for m old → out ≡ bind_in w count t (Some x) → words_value (sort_word_of (Some x)) (payload_word_of (Some x)) ≡ Some x → Binds cs w count m t v out (count + 1) rest
   bind_some x q old rest out e f g back im env cl h p =
       subst (λ (y : List ℕ). Passing im (bound t (folded_of v) env) cs out (count + 1) y) (sym f)
       (subst (λ (y : List ℕ). Passing im (bound t (folded_of v) env) cs y (count + 1) (forget_for m old)) (sym g)
-      (subst (λ (y : Folded). Passing im (bound t (folded_of y) env) cs (bind_in w count t (Value x)) (count + 1) (forget_for m old)) (sym q)
+      (subst (λ (y : Folded). Passing im (bound t (folded_of y) env) cs (bind_in w count t (Some x)) (count + 1) (forget_for m old)) (sym q)
       (passing_more im env cs w count m t x cl h p back old e)))

@@ -23,7 +23,7 @@ use Rattle.rl_memory.proofs.Names.{cleared_right}
 use Rattle.rl_names.specs.Names.{Classes}
 use Rattle.rl_fold.specs.Folding.{folded_at}
 use Rattle.rl_prover.specs.declared.callee.Callee.{Callee}
-use Rattle.rl_prover.specs.declared.callee.Callee.TheVariants.{Found, Missing}
+use Rattle.std.specs.Prelude.{None, Some}
 use Rattle.rl_prover.specs.Callees.{callee_in}
 use Rattle.rl_prover.specs.Passes.{BindsAll, params_in, args_in, clauses_in}
 use Rattle.rl_prover.specs.Reports.{Shown}
@@ -76,11 +76,11 @@ module _ (s p : List ℕ) (c : Counts) (cs : List ℕ) (call : ℕ) (w l : List 
         (a p cl ∙ ap (λ (x : Call). callee_among (image_found s p c) (text_of (image_found s p c) x.callee) c.functions) (q p)
         ∙ ap (λ (n : ℕ). callee_among (image_found s p c) (text_of (image_found s p c) (call_at (image_found s p c) call).callee) n) (sym (size_found s p c Functions)))
 
-    pub call_missing : y ≡ Missing → ProvesCall (image_found s p c) cs call w l start l start
+    pub call_missing : y ≡ None → ProvesCall (image_found s p c) cs call w l start l start
     unfolding violations_of report_entries
     call_missing z near cl room e sh = rw (found cl, z, append-nil e) sh
 
-    pub call_found : (f : ℕ) → y ≡ Found f → (out : List ℕ) (r : ℕ) → ProvesCallee (image_found s p c) cs f k.args call k.span w l start out r → ProvesCall (image_found s p c) cs call w l start out r
+    pub call_found : (f : ℕ) → y ≡ Some f → (out : List ℕ) (r : ℕ) → ProvesCallee (image_found s p c) cs f k.args call k.span w l start out r → ProvesCall (image_found s p c) cs call w l start out r
     unfolding violations_of arguments_of
     call_found f z out r x near cl room e sh =
         rw (found cl, z, ← q p) (x cl room e sh)

@@ -12,8 +12,8 @@ use borrow.Author.Tests.{eq-eqb, ne_eqb}
 use Rattle.rl_spec.specs.declared.Counts.{Counts}
 use Rattle.rl_spec.specs.declared.Function.{Function}
 use Rattle.rl_spec.specs.declared.Param.{Param}
-use Rattle.rl_spec.specs.declared.ParamRefinement.{ParamRefinement}
-use Rattle.rl_spec.specs.declared.ParamRefinement.TheVariants.{Unrefined, Refined}
+use Rattle.rl_spec.specs.Answers.{ParamRefinement}
+use Rattle.std.specs.Prelude.{None, Some}
 use Rattle.rl_spec.specs.Image.{Image, text_of}
 use Rattle.rl_spec.specs.Values.{same_text}
 use Rattle.rl_spec.specs.Found.{image_found}
@@ -22,15 +22,14 @@ use Rattle.rl_spec.specs.Ranges.{up_from, numbers_in}
 use Rattle.rl_spec.specs.FnContracts.{param_of, clause_of, refinement_of, is_some, any_refined, contracts_of, record_fn_contracts, is_callee, callee_among}
 use Rattle.rl_names.specs.Names.{Classes}
 use Rattle.rl_prover.specs.declared.callee.Callee.{Callee}
-use Rattle.rl_prover.specs.declared.callee.Callee.TheVariants.{Found, Missing}
 use Rattle.rl_prover.specs.Callees.{is_refined, recorded, callee_in}
 use Rattle.rl_prover.proofs.ListLaws.{from_start, from_end, from_next, empty_is}
 
 -- ---- a refinement among parameters
 
 some_is : (r : ParamRefinement) → is_some (refinement_of r) ≡ is_refined r
-some_is Unrefined = refl
-some_is (Refined op x) = refl
+some_is None = refl
+some_is (Some r) = refl
 
 module _ (s : List ℕ) (c : Counts) (first count : ℕ) where
   -- what is left to look at from the i-th parameter on
@@ -104,7 +103,7 @@ module _ (s : List ℕ) (c : Counts) (cs : List ℕ) (name most : ℕ) where
   seeks_start p k = refl
 
   module _ (n : ℕ) (l : Seeks n) where
-    pub seeks_end : n ≤ 0 → Among Missing
+    pub seeks_end : n ≤ 0 → Among None
     unfolding callee_among
     seeks_end h p k = let z : n ≡ 0 = omega arith in sym (l p k ∙ rw z refl)
 
@@ -115,7 +114,7 @@ module _ (s : List ℕ) (c : Counts) (cs : List ℕ) (name most : ℕ) where
           let z : n ≡ suc (n - 1) = omega arith in
           l p k ∙ ap (callee_among (image_found s p c) (text_of (image_found s p c) name)) z ∙ rw (← g p k) refl
 
-      pub seeks_found : r ≡ true → Among (Found (n - 1))
+      pub seeks_found : r ≡ true → Among (Some (n - 1))
       seeks_found t p k = sym (step_back p k ∙ rw t refl)
 
       pub seeks_on : r ≡ false → Seeks (n - 1)

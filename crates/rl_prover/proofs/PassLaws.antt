@@ -7,7 +7,7 @@ use native.Mathlib.Omega.{arith}
 use lib.ListN.{length}
 use Rattle.rl_laws.specs.Tests.{by_ltb}
 use Rattle.rl_spec.specs.declared.Counts.{Counts}
-use Rattle.rl_spec.specs.declared.Folded.{Folded}
+use Rattle.rl_spec.specs.Answers.{Folded}
 use Rattle.rl_spec.specs.declared.Interval.{Interval}
 use Rattle.rl_spec.specs.declared.Param as declared
 use Rattle.rl_spec.specs.Image.{Image, text_of, entry_of}

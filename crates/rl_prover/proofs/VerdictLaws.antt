@@ -9,15 +9,11 @@ use lib.IntN.{ℤ}
 use Rattle.rl_spec.specs.declared.ConstVal.{ConstVal}
 use Rattle.rl_spec.specs.declared.ConstVal.TheVariants as kind
 use Rattle.rl_spec.specs.declared.Counts.{Counts}
-use Rattle.rl_spec.specs.declared.Folded.{Folded}
-use Rattle.rl_spec.specs.declared.Folded.TheVariants.{Value, Nothing}
-use Rattle.rl_spec.specs.declared.ParamRefinement.{ParamRefinement}
-use Rattle.rl_spec.specs.declared.ParamRefinement.TheVariants.{Unrefined, Refined}
+use Rattle.rl_spec.specs.Answers.{Folded, refined, ParamRefinement, Verdict}
+use Rattle.std.specs.Prelude.{None, Some}
 use Rattle.rl_spec.specs.declared.RefineOp.{RefineOp}
 use Rattle.rl_spec.specs.declared.RefineOperand.{RefineOperand}
 use Rattle.rl_spec.specs.declared.RefineOperand.TheVariants.{Integer, Str, Bool as Truth, Param as Named}
-use Rattle.rl_spec.specs.declared.Verdict.{Verdict}
-use Rattle.rl_spec.specs.declared.Verdict.TheVariants.{Yes, No, Unknown}
 use Rattle.rl_spec.specs.Image.{Image, text_of}
 use Rattle.rl_spec.specs.Values as value
 use Rattle.rl_spec.specs.Values.{compare_values}
@@ -45,28 +41,28 @@ module _ (s : List ℕ) (c : Counts) (op : RefineOp) where
     said : (p : List ℕ) → verdict_of v ≡ compare_values (text_of (image_found s p c)) (op_of op) (const_of a) (const_of b)
     said p = e ∙ compare_at (text_of (image_found s p c)) (op_of op) a b l r (x p) (y p)
 
-    pub by_yes : v ≡ Yes → By false
+    pub by_yes : v ≡ (Some true) → By false
     by_yes q p = rw (← said p, q) refl
 
-    pub by_no : v ≡ No → By true
+    pub by_no : v ≡ (Some false) → By true
     by_no q p = rw (← said p, q) refl
 
-    pub by_unknown : v ≡ Unknown → By false
+    pub by_unknown : v ≡ None → By false
     by_unknown q p = rw (← said p, q) refl
 
   module _ (a b : Folded) where
     abbrev Refuted : Bool → Type 0
     Refuted o = (p : List ℕ) → o ≡ refutes (text_of (image_found s p c)) (op_of op) (folded_of a) (folded_of b)
 
-    pub refuted_both : (x y : ConstVal) (o : Bool) → a ≡ Value x → b ≡ Value y → ((p : List ℕ) → o ≡ is_no (compare_values (text_of (image_found s p c)) (op_of op) (const_of x) (const_of y))) → Refuted o
+    pub refuted_both : (x y : ConstVal) (o : Bool) → a ≡ Some x → b ≡ Some y → ((p : List ℕ) → o ≡ is_no (compare_values (text_of (image_found s p c)) (op_of op) (const_of x) (const_of y))) → Refuted o
     unfolding refutes
     refuted_both x y o e f g p = rw (e, f) (g p)
 
-    pub refuted_right : (x : ConstVal) → a ≡ Value x → b ≡ Nothing → Refuted false
+    pub refuted_right : (x : ConstVal) → a ≡ Some x → b ≡ None → Refuted false
     unfolding refutes
     refuted_right x e f p = rw (e, f) refl
 
-    pub refuted_left : a ≡ Nothing → Refuted false
+    pub refuted_left : a ≡ None → Refuted false
     unfolding refutes
     refuted_left e p = rw e refl
 
@@ -95,11 +91,11 @@ module _ (cs w : List ℕ) (count : ℕ) (o : RefineOperand) where
 -- ---- a refinement, a clause
 
 module _ (im : Image) (cs w : List ℕ) (count : ℕ) (m : List ℕ) where
-  pub fails_unrefined : (q : ParamRefinement) (arg : ℕ) → q ≡ Unrefined → FailsRefinement im cs w count m q arg false m
+  pub fails_unrefined : (q : ParamRefinement) (arg : ℕ) → q ≡ None → FailsRefinement im cs w count m q arg false m
   unfolding fails_at
   fails_unrefined q arg e env p = (rw e refl, p)
 
-  fails_refined_at : (q : ParamRefinement) (arg : ℕ) (op : RefineOp) (x : RefineOperand) (v u : Folded) (r : Bool) (out : List ℕ) → q ≡ Refined op x → Folds im cs w count arg m v out → Bound cs w count x (folded_of u) → r ≡ refutes (text_of im) (op_of op) (folded_of v) (folded_of u) → FailsRefinement im cs w count m q arg r out
+  fails_refined_at : (q : ParamRefinement) (arg : ℕ) (op : RefineOp) (x : RefineOperand) (v u : Folded) (r : Bool) (out : List ℕ) → q ≡ refined op x → Folds im cs w count arg m v out → Bound cs w count x (folded_of u) → r ≡ refutes (text_of im) (op_of op) (folded_of v) (folded_of u) → FailsRefinement im cs w count m q arg r out
   unfolding fails_at
   fails_refined_at q arg op x v u r out e f g h env p =
       let folded = f env p.names p.right in
@@ -113,11 +109,11 @@ module _ (im : Image) (cs w : List ℕ) (count : ℕ) (m : List ℕ) where
       (g ∙ ap is_false found, record { names = p.names; right = folded.1 })
 
 module _ (s p : List ℕ) (c : Counts) (cs w : List ℕ) (count : ℕ) (m : List ℕ) where
-  pub fails_refined : (q : ParamRefinement) (arg : ℕ) (op : RefineOp) (x : RefineOperand) (v u : Folded) (r : Bool) (out : List ℕ) → q ≡ Refined op x → Folds (image_found s p c) cs w count arg m v out → Bound cs w count x (folded_of u) → Refuted s c op v u r → FailsRefinement (image_found s p c) cs w count m q arg r out
+  pub fails_refined : (q : ParamRefinement) (arg : ℕ) (op : RefineOp) (x : RefineOperand) (v u : Folded) (r : Bool) (out : List ℕ) → q ≡ refined op x → Folds (image_found s p c) cs w count arg m v out → Bound cs w count x (folded_of u) → Refuted s c op v u r → FailsRefinement (image_found s p c) cs w count m q arg r out
   fails_refined q arg op x v u r out e f g h = fails_refined_at (image_found s p c) cs w count m q arg op x v u r out e f g (h p)
 
 -- ---- a value that is false
 
-pub false_bool : (v : Folded) (w : ConstVal) (b : Bool) → v ≡ Value w → w ≡ kind.Bool b → not b ≡ is_false (folded_of v)
+pub false_bool : (v : Folded) (w : ConstVal) (b : Bool) → v ≡ Some w → w ≡ kind.Bool b → not b ≡ is_false (folded_of v)
 false_bool v w true e f = rw (e, f) refl
 false_bool v w false e f = rw (e, f) refl

@@ -1,7 +1,6 @@
 -- What stands in the passes over arguments and parameters. Assumes nothing.
-use Rattle.std.specs.Prelude.{ℕ, ◌+◌, ◌*◌, ◌≤◌, List, [], map, length, replicate}
-use Rattle.rl_spec.specs.declared.Folded.{Folded}
-use Rattle.rl_spec.specs.declared.Folded.TheVariants.{Value, Nothing}
+use Rattle.std.specs.Prelude.{ℕ, ◌+◌, ◌*◌, ◌≤◌, List, [], map, length, replicate, None, Some}
+use Rattle.rl_spec.specs.Answers.{Folded}
 use Rattle.rl_spec.specs.declared.Interval.{Interval}
 use Rattle.rl_spec.specs.Image.{Image, text_of, entry_of}
 use Rattle.rl_spec.specs.Folded.{folded_of}
@@ -15,8 +14,8 @@ use Rattle.rl_names.specs.Names.{Classes}
 use Rattle.rl_fold.specs.Folding.{folded_at, Names}
 
 abbrev pub forget_for : List ℕ → Folded → List ℕ
-forget_for m (Value v) = replicate (length m) 0
-forget_for m Nothing = m
+forget_for m (Some v) = replicate (length m) 0
+forget_for m None = m
 
 -- w has the words of the bindings env, of which there are `count`, and the memory m is right for them
 pub record Passing (im : Image) (env : List (Binding ℕ)) (cs w : List ℕ) (count : ℕ) (m : List ℕ) : Type 0 where

@@ -1,7 +1,7 @@
 -- What the second pass finds where the names stand and the memory is right. Assumes nothing.
 use Rattle.std.specs.Prelude.{ℕ, ◌≡◌, Bool, List, ◌++◌}
 use Rattle.rl_spec.specs.declared.Interval.{Interval}
-use Rattle.rl_spec.specs.declared.ParamRefinement.{ParamRefinement}
+use Rattle.rl_spec.specs.Answers.{ParamRefinement}
 use Rattle.rl_spec.specs.Image.{Image, text_of}
 use Rattle.rl_spec.specs.Tree.{expr_tree}
 use Rattle.rl_spec.specs.Fold.{Binding, const_eval}

@@ -7,11 +7,9 @@ use Rattle.rl_spec.specs.declared.RefineOp.{RefineOp}
 use Rattle.rl_spec.specs.declared.RefineOp.TheVariants.{Gt, Ge, Lt, Le, Eq, Ne}
 use Rattle.rl_spec.specs.declared.RefineOperand.{RefineOperand}
 use Rattle.rl_spec.specs.declared.RefineOperand.TheVariants.{Integer, Str, Bool, Param as Named}
-use Rattle.rl_spec.specs.declared.ParamRefinement.{ParamRefinement}
-use Rattle.rl_spec.specs.declared.ParamRefinement.TheVariants.{Unrefined, Refined}
+use Rattle.rl_spec.specs.Answers.{ParamRefinement, refined, Optional}
+use Rattle.std.specs.Prelude.{None, Some}
 use Rattle.rl_spec.specs.declared.Interval.{Interval}
-use Rattle.rl_spec.specs.declared.Optional.{Optional}
-use Rattle.rl_spec.specs.declared.Optional.TheVariants.{Some}
 use Rattle.rl_spec.specs.Bytes.{num_at, u16_at, u32_at}
 use Rattle.rl_spec.specs.Schema.{sort_of, schema, fields_in, fields_of}
 use Rattle.rl_spec.specs.Image.{num, pair, fields_at}
@@ -57,16 +55,16 @@ module _ (sort x : ℕ) where
   operand_param a b c = rw (ne_eqb sort 1 a, ne_eqb sort 2 b, ne_eqb sort 3 c) refl
 
 module _ (n sort x : ℕ) where
-  pub unrefined : n ≡ 0 → Unrefined ≡ refinement_by n sort x
+  pub unrefined : n ≡ 0 → None ≡ refinement_by n sort x
   unrefined e = rw e refl
 
-  pub refined : (n ≡ 0 → ⊥) → (op : RefineOp) (operand : RefineOperand) → op ≡ refine_op n → operand ≡ refine_operand sort x → Refined op operand ≡ refinement_by n sort x
-  refined h op operand e f = rw (ne_eqb n 0 h, e, f) refl
+  pub with_refinement : (n ≡ 0 → ⊥) → (op : RefineOp) (operand : RefineOperand) → op ≡ refine_op n → operand ≡ refine_operand sort x → refined op operand ≡ refinement_by n sort x
+  with_refinement h op operand e f = rw (ne_eqb n 0 h, e, f) refl
 
 -- ---- the records
 
 module _ (s : List ℕ) (c : Counts) (i : ℕ) where
-  pub param_none : c.parameters ≤ i → (p : List ℕ) → record { name = 0; refinement = Unrefined } ≡ param_at (image_found s p c) i
+  pub param_none : c.parameters ≤ i → (p : List ℕ) → record { name = 0; refinement = None } ≡ param_at (image_found s p c) i
   unfolding param_at
   param_none h p = rw (record_missing s p c Parameters i h) refl
 

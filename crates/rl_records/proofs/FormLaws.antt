@@ -7,8 +7,8 @@ use Rattle.rl_spec.specs.declared.Counts.{Counts}
 use Rattle.rl_spec.specs.declared.Interval.{Interval}
 use Rattle.rl_spec.specs.declared.Section.TheVariants.{Expressions}
 use Rattle.rl_spec.specs.declared.ConstVal.TheVariants.{Int, Float as Real, Str, Bool as Truth}
-use Rattle.rl_spec.specs.declared.Folded.{Folded}
-use Rattle.rl_spec.specs.declared.Folded.TheVariants.{Value}
+use Rattle.rl_spec.specs.Answers.{Folded}
+use Rattle.std.specs.Prelude.{Some}
 use Rattle.rl_spec.specs.declared.Form.{Form}
 use Rattle.rl_spec.specs.declared.Form.TheVariants.{Null, Literal, Identifier, Unary, Binary, Grouping, Assign, OkLiteral, ErrLiteral, IsErr, ResultUnwrap, Other}
 use Rattle.rl_spec.specs.Bytes.{num_at, u16_at, u32_at}
@@ -105,17 +105,17 @@ module _ (s : List ℕ) (c : Counts) where
 
     -- the form of a whole number
     abbrev whole : ℤ → Form
-    whole v = Literal (Value (Int v))
+    whole v = Literal (Some (Int v))
 
     pub form_null : k ≡ 16 → (p : List ℕ) → Null ≡ form p
     unfolding form_by record_as
     form_null q p = rw (← e, q) refl
 
-    pub form_int : k ≡ 17 → (n : ℕ) → n ≡ num_at s at 8 → (v : ℤ) → v ≡ signed 64 n → SFits w64 v → (r : Form) → r ≡ Literal (Value (Int (to_z w64 (of_z w64 v)))) → (p : List ℕ) → r ≡ form p
+    pub form_int : k ≡ 17 → (n : ℕ) → n ≡ num_at s at 8 → (v : ℤ) → v ≡ signed 64 n → SFits w64 v → (r : Form) → r ≡ Literal (Some (Int (to_z w64 (of_z w64 v)))) → (p : List ℕ) → r ≡ form p
     unfolding form_by record_as fields_at fields_of fields_in schema sort_of
     form_int q n f v g h r i p = rw (← e, q, ← f, ← g) (i ∙ rw (to_z-of_z h) refl)
 
-    pub form_sint : k ≡ 18 → (n : ℕ) → n ≡ u32_at s at → (v : ℤ) → v ≡ signed 32 n → SFits w64 v → (r : Form) → r ≡ Literal (Value (Int (to_z w64 (of_z w64 v)))) → (p : List ℕ) → r ≡ form p
+    pub form_sint : k ≡ 18 → (n : ℕ) → n ≡ u32_at s at → (v : ℤ) → v ≡ signed 32 n → SFits w64 v → (r : Form) → r ≡ Literal (Some (Int (to_z w64 (of_z w64 v)))) → (p : List ℕ) → r ≡ form p
     unfolding form_by record_as fields_at fields_of fields_in schema sort_of
     form_sint q n f v g h r i p = rw (← e, q, ← four s at, ← f, ← g) (i ∙ rw (to_z-of_z h) refl)
 
@@ -123,39 +123,39 @@ module _ (s : List ℕ) (c : Counts) where
     unfolding form_by record_as fields_at fields_of fields_in schema sort_of
     form_uint q n f v g p = rw (← e, q, ← f, ← g) refl
 
-    pub form_suint : k ≡ 20 → (n : ℕ) → n ≡ u32_at s at → Fits w32 n → (r : Form) → r ≡ Literal (Value (Int (to_z w64 n))) → (p : List ℕ) → r ≡ form p
+    pub form_suint : k ≡ 20 → (n : ℕ) → n ≡ u32_at s at → Fits w32 n → (r : Form) → r ≡ Literal (Some (Int (to_z w64 n))) → (p : List ℕ) → r ≡ form p
     unfolding form_by record_as fields_at fields_of fields_in schema sort_of
     form_suint q n f h r i p = rw (← e, q, ← four s at, ← f) (i ∙ ap whole (to_z_pos w64 (omega (arith, h.fits))))
 
-    pub form_byte : k ≡ 21 → (n : ℕ) → n ≡ get_or s at 0 → Fits w8 n → (r : Form) → r ≡ Literal (Value (Int (to_z w64 n))) → (p : List ℕ) → r ≡ form p
+    pub form_byte : k ≡ 21 → (n : ℕ) → n ≡ get_or s at 0 → Fits w8 n → (r : Form) → r ≡ Literal (Some (Int (to_z w64 n))) → (p : List ℕ) → r ≡ form p
     unfolding form_by record_as fields_at fields_of fields_in schema sort_of
     form_byte q n f h r i p = rw (← e, q, ← one s at, ← f) (i ∙ ap whole (to_z_pos w64 (omega (arith, h.fits))))
 
-    pub form_bbyte : k ≡ 23 → (n : ℕ) → n ≡ u16_at s at → Fits w16 n → (r : Form) → r ≡ Literal (Value (Int (to_z w64 n))) → (p : List ℕ) → r ≡ form p
+    pub form_bbyte : k ≡ 23 → (n : ℕ) → n ≡ u16_at s at → Fits w16 n → (r : Form) → r ≡ Literal (Some (Int (to_z w64 n))) → (p : List ℕ) → r ≡ form p
     unfolding form_by record_as fields_at fields_of fields_in schema sort_of
     form_bbyte q n f h r i p = rw (← e, q, ← two s at, ← f) (i ∙ ap whole (to_z_pos w64 (omega (arith, h.fits))))
 
-    pub form_sbyte : k ≡ 22 → (n : ℕ) → n ≡ get_or s at 0 → (v : ℤ) → v ≡ signed 8 n → SFits w64 v → (r : Form) → r ≡ Literal (Value (Int (to_z w64 (of_z w64 v)))) → (p : List ℕ) → r ≡ form p
+    pub form_sbyte : k ≡ 22 → (n : ℕ) → n ≡ get_or s at 0 → (v : ℤ) → v ≡ signed 8 n → SFits w64 v → (r : Form) → r ≡ Literal (Some (Int (to_z w64 (of_z w64 v)))) → (p : List ℕ) → r ≡ form p
     unfolding form_by record_as fields_at fields_of fields_in schema sort_of
     form_sbyte q n f v g h r i p = rw (← e, q, ← one s at, ← f, ← g) (i ∙ rw (to_z-of_z h) refl)
 
-    pub form_bsbyte : k ≡ 24 → (n : ℕ) → n ≡ u16_at s at → (v : ℤ) → v ≡ signed 16 n → SFits w64 v → (r : Form) → r ≡ Literal (Value (Int (to_z w64 (of_z w64 v)))) → (p : List ℕ) → r ≡ form p
+    pub form_bsbyte : k ≡ 24 → (n : ℕ) → n ≡ u16_at s at → (v : ℤ) → v ≡ signed 16 n → SFits w64 v → (r : Form) → r ≡ Literal (Some (Int (to_z w64 (of_z w64 v)))) → (p : List ℕ) → r ≡ form p
     unfolding form_by record_as fields_at fields_of fields_in schema sort_of
     form_bsbyte q n f v g h r i p = rw (← e, q, ← two s at, ← f, ← g) (i ∙ rw (to_z-of_z h) refl)
 
-    pub form_str : k ≡ 25 → (n : ℕ) → n ≡ u16_at s at → (r : Form) → r ≡ Literal (Value (Str n)) → (p : List ℕ) → r ≡ form p
+    pub form_str : k ≡ 25 → (n : ℕ) → n ≡ u16_at s at → (r : Form) → r ≡ Literal (Some (Str n)) → (p : List ℕ) → r ≡ form p
     unfolding form_by record_as fields_at fields_of fields_in schema sort_of
     form_str q n f r i p = rw (← e, q, ← two s at, ← f) i
 
-    pub form_bool : k ≡ 26 → (n : ℕ) → n ≡ get_or s at 0 → (r : Form) → r ≡ Literal (Value (Truth (eqb n 1))) → (p : List ℕ) → r ≡ form p
+    pub form_bool : k ≡ 26 → (n : ℕ) → n ≡ get_or s at 0 → (r : Form) → r ≡ Literal (Some (Truth (eqb n 1))) → (p : List ℕ) → r ≡ form p
     unfolding form_by record_as fields_at fields_of fields_in schema sort_of
     form_bool q n f r i p = rw (← e, q, ← one s at, ← f) i
 
-    pub form_float : k ≡ 27 → (n : ℕ) → n ≡ num_at s at 8 → (x : Float) → x ≡ of_bits binary64 n → (r : Form) → r ≡ Literal (Value (Real x)) → (p : List ℕ) → r ≡ form p
+    pub form_float : k ≡ 27 → (n : ℕ) → n ≡ num_at s at 8 → (x : Float) → x ≡ of_bits binary64 n → (r : Form) → r ≡ Literal (Some (Real x)) → (p : List ℕ) → r ≡ form p
     unfolding form_by record_as fields_at fields_of fields_in schema sort_of
     form_float q n f x g r i p = rw (← e, q, ← f, ← g) i
 
-    pub form_sfloat : k ≡ 28 → (n : ℕ) → n ≡ u32_at s at → (x : Float) → x ≡ of_bits binary32 n → (r : Form) → r ≡ Literal (Value (Real x)) → (p : List ℕ) → r ≡ form p
+    pub form_sfloat : k ≡ 28 → (n : ℕ) → n ≡ u32_at s at → (x : Float) → x ≡ of_bits binary32 n → (r : Form) → r ≡ Literal (Some (Real x)) → (p : List ℕ) → r ≡ form p
     unfolding form_by record_as fields_at fields_of fields_in schema sort_of
     form_sfloat q n f x g r i p = rw (← e, q, ← four s at, ← f, ← g) i
 

@@ -3,7 +3,7 @@
 use Rattle.std.proofs.Common.{◌≡◌, ℕ, ◌+◌, ◌<◌, ◌≤◌, List, get_or, refl, ne_eqb}
 use Rattle.rl_spec.specs.declared.Counts.{Counts}
 use Rattle.rl_spec.specs.declared.Interval.{Interval}
-use Rattle.rl_spec.specs.declared.Optional.{Optional}
+use Rattle.rl_spec.specs.Answers.{Optional}
 use Rattle.rl_spec.specs.declared.Section.TheVariants.{Statements}
 use Rattle.rl_spec.specs.declared.StatementForm.{StatementForm}
 use Rattle.rl_spec.specs.declared.StatementForm.TheVariants.{Declaration, Expression, Return, ReturnAlone, Conditional, Branch, While, Loop, Break, Continue, Other}

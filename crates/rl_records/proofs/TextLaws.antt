@@ -2,7 +2,7 @@
 -- Assumes nothing.
 use Rattle.std.proofs.Common.{◌≡◌, ℕ, ◌+◌, ◌*◌, ◌<◌, ◌≤◌, List, take, drop, sym, refl, ◌∙◌, ne_eqb}
 use Rattle.rl_spec.specs.declared.Counts.{Counts}
-use Rattle.rl_spec.specs.declared.Optional.TheVariants.{None, Some}
+use Rattle.std.specs.Prelude.{None, Some}
 use Rattle.rl_spec.specs.Bytes.{u16_at}
 use Rattle.rl_spec.specs.Image.{num, pair, entry_of, text_of}
 use Rattle.rl_spec.specs.Ranges.{interval, optional}

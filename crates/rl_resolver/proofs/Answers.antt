@@ -12,14 +12,12 @@ use lib.Seq.{take_at, drop_at}
 use mir.Syntax.{w8}
 use mir.Val.{Fits}
 use borrow.Author.Tests.{ltb-true, ltb-false}
-use Rattle.rl_spec.specs.declared.Answer.{Answer}
-use Rattle.rl_spec.specs.declared.Answer.TheVariants as read
+use Rattle.rl_spec.specs.Answers.{Answer, accepted, refused, LowerAnswer}
+use Rattle.std.specs.Prelude.{None, Some, Ok}
 use Rattle.rl_spec.specs.declared.ArenaNo.{ArenaNo}
 use Rattle.rl_spec.specs.declared.Cause.{Cause}
 use Rattle.rl_spec.specs.declared.Cause.TheVariants.{NoSuchFunction, HeightOverLimit, OutputTooShort, LimitPassed}
 use Rattle.rl_spec.specs.declared.Counts.{Counts}
-use Rattle.rl_spec.specs.declared.LowerAnswer.{LowerAnswer}
-use Rattle.rl_spec.specs.declared.LowerAnswer.TheVariants as answer
 use Rattle.rl_spec.specs.declared.Section.{Section}
 use Rattle.rl_spec.specs.declared.Section.TheVariants.{Expressions, Statements}
 use Rattle.rl_spec.specs.Schema.{count_of}
@@ -28,7 +26,7 @@ use Rattle.rl_spec.specs.Image.{Image, records_of, encode, image_of, heights, Al
 use Rattle.rl_spec.specs.Fold.{work_unless}
 use Rattle.rl_spec.specs.Found.{image_found}
 use Rattle.rl_spec.specs.Lower.{lowered}
-use Rattle.rl_spec.specs.Lowerer.{Lowering, made, refused, any_over, too_tall, or_limit, lower_by, lower_of, lower_answer, lower_number, lower_out}
+use Rattle.rl_spec.specs.Lowerer.{Lowering, any_over, too_tall, or_limit, lower_by, lower_of, lower_answer, lower_number, lower_out}
 use Rattle.rl_images.specs.Encoding.Accepted.{accepted_work}
 use Rattle.rl_images.specs.Reading.Filled.{drop_replicate}
 use Rattle.rl_images.specs.Reading.Found.{found_is_image}
@@ -43,7 +41,6 @@ use Rattle.rl_admission.specs.declared.Admission.{Admission}
 use Rattle.rl_admission.specs.declared.Admission.TheVariants.{Admitted, Refused}
 use Rattle.rl_admission.specs.Lowering.{tall_in, lowering_admission, lowering_or}
 use Rattle.rl_assemble.specs.declared.Assembled.{Assembled}
-use Rattle.rl_assemble.specs.declared.Assembled.TheVariants.{Length, PastLimit}
 use Rattle.rl_assemble.specs.Written.{Written}
 
 -- ---- what an admission says
@@ -82,7 +79,7 @@ module _ (s : List ℕ) (k f room : ℕ) (out : List ℕ) (cleared : out ≡ rep
   ends x d o w p q =
       (ap lower_answer (sym d), (p ∙ ap (lower_out room) (sym d), q ∙ ap (λ y. work_unless (lower_number y) s k) (sym d)))
 
-  ends_refused : (q : Cause) (n : ℕ) → lowering ≡ refused q n → (o w : List ℕ) → o ≡ replicate room 0 → w ≡ replicate k 0 → Ends (answer.Refused q n) o w
+  ends_refused : (q : Cause) (n : ℕ) → lowering ≡ refused q n → (o w : List ℕ) → o ≡ replicate room 0 → w ≡ replicate k 0 → Ends (refused q n) o w
   ends_refused q n d o w p v = ends (refused q n) d o w p (v ∙ zeros_unless q s k)
 
   cleared_work : (m : ℕ) (w : List ℕ) → m ≡ k → w ≡ replicate m 0 → w ≡ replicate k 0
@@ -90,17 +87,17 @@ module _ (s : List ℕ) (k f room : ℕ) (out : List ℕ) (cleared : out ≡ rep
 
   -- ---- reading refuses
 
-  unread_is : (q : Cause) (n : ℕ) → a ≡ read.Refused q n → lowering ≡ refused q n
+  unread_is : (q : Cause) (n : ℕ) → a ≡ refused q n → lowering ≡ refused q n
   unfolding lower_of
   unread_is q n h = ap (lower_by s f room) (sym e ∙ h)
 
-  pub unread : (q : Cause) (n : ℕ) → a ≡ read.Refused q n → (w : List ℕ) → w ≡ work_of s k → Ends (answer.Refused q n) out w
+  pub unread : (q : Cause) (n : ℕ) → a ≡ refused q n → (w : List ℕ) → w ≡ work_of s k → Ends (refused q n) out w
   unread q n h w v = ends_refused q n (unread_is q n h) out w cleared (v ∙ refused_work s k q n (sym e ∙ h))
 
   -- ---- reading accepts
 
-  module _ (no : ArenaNo) (c : Counts) (h : a ≡ read.Accepted no c) (bytes : (i : ℕ) → Fits w8 (get_or s i 0)) where
-    accepted : answer_of s k ≡ read.Accepted no c
+  module _ (no : ArenaNo) (c : Counts) (h : a ≡ accepted no c) (bytes : (i : ℕ) → Fits w8 (get_or s i 0)) where
+    accepted : answer_of s k ≡ accepted no c
     accepted = sym e ∙ h
 
     own : AllBytes s
@@ -148,7 +145,7 @@ module _ (s : List ℕ) (k f room : ℕ) (out : List ℕ) (cleared : out ≡ rep
           ∙ sym (λ i. lowering_or (Checked (not (ltb f c.functions)) (tall_is i) (ltb (room_is i) 65535)) result)
           ∙ ap (λ y. lowering_or y result) (sym g)
 
-      pub refused_by : (q : Cause) → x ≡ Refused q → (m : ℕ) (w : List ℕ) → m ≡ k → w ≡ replicate m 0 → Ends (answer.Refused q 0) out w
+      pub refused_by : (q : Cause) → x ≡ Refused q → (m : ℕ) (w : List ℕ) → m ≡ k → w ≡ replicate m 0 → Ends (refused q 0) out w
       refused_by q d m w n v = ends_refused q 0 (by_admission ∙ ap (λ y. lowering_or y result) d) out w cleared (cleared_work m w n v)
 
       module _ (d : x ≡ Admitted) where
@@ -179,21 +176,21 @@ module _ (s : List ℕ) (k f room : ℕ) (out : List ℕ) (cleared : out ≡ rep
             there : Written (lowered (image_of s) f) (replicate room 0) r o
             there = subst (λ l. Written (lowered (image_of s) f) l r o) cleared (subst (λ (im : Image). Written (lowered im f) out r o) same_image written)
 
-            none_made : (y : Option Image) → lowered (image_of s) f ≡ y → Written y (replicate room 0) r o → r ≡ PastLimit → (w : List ℕ) → w ≡ replicate k 0 →
-                Ends (answer.Refused LimitPassed 0) o w
+            none_made : (y : Option Image) → lowered (image_of s) f ≡ y → Written y (replicate room 0) r o → r ≡ None → (w : List ℕ) → w ≡ replicate k 0 →
+                Ends (refused LimitPassed 0) o w
             none_made none q t b w v = ends_refused LimitPassed 0 (result_is none q) o w t.bytes v
             none_made (some im) q t b w v = absurd (subst IsPast (sym b ∙ t.number) tt)
 
-            one_made : (y : Option Image) → lowered (image_of s) f ≡ y → Written y (replicate room 0) r o → (n : ℕ) → r ≡ Length n → (w : List ℕ) → w ≡ work_of s k →
-                Ends (answer.Lowered n) o w
+            one_made : (y : Option Image) → lowered (image_of s) f ≡ y → Written y (replicate room 0) r o → (n : ℕ) → r ≡ Some n → (w : List ℕ) → w ≡ work_of s k →
+                Ends (Ok n) o w
             one_made none q t n b w v = absurd (subst IsPast (sym t.number ∙ b) tt)
             one_made (some im) q t n b w v =
-                subst (λ (m : ℕ). Ends (answer.Lowered m) o w) (ap length_in (sym t.number ∙ b))
-                (ends (made im) (result_is (some im) q) o w
+                subst (λ (m : ℕ). Ends (Ok m) o w) (ap length_in (sym t.number ∙ b))
+                (ends (Ok im) (result_is (some im) q) o w
                 (t.bytes ∙ ap (λ (l : List ℕ). encode im ++ l) (drop_replicate (length (encode im)) room 0)) v)
 
-            pub limit_passed : r ≡ PastLimit → (m : ℕ) (w : List ℕ) → m ≡ k → w ≡ replicate m 0 → Ends (answer.Refused LimitPassed 0) o w
+            pub limit_passed : r ≡ None → (m : ℕ) (w : List ℕ) → m ≡ k → w ≡ replicate m 0 → Ends (refused LimitPassed 0) o w
             limit_passed b m w i v = none_made (lowered (image_of s) f) refl there b w (cleared_work m w i v)
 
-            pub image_made : (n : ℕ) → r ≡ Length n → (w : List ℕ) → w ≡ work_of s k → Ends (answer.Lowered n) o w
+            pub image_made : (n : ℕ) → r ≡ Some n → (w : List ℕ) → w ≡ work_of s k → Ends (Ok n) o w
             image_made n b w v = one_made (lowered (image_of s) f) refl there n b w v

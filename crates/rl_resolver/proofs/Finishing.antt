@@ -26,7 +26,7 @@ use Rattle.rl_context.proofs.Composed.{ends_live}
 use Rattle.rl_images.specs.Lowering.Adds.{adds_later}
 use Rattle.rl_images.specs.Lowering.AddsLower.{adds_desugar}
 use Rattle.rl_assemble.specs.declared.Assembled.{Assembled}
-use Rattle.rl_assemble.specs.declared.Assembled.TheVariants.{Length, PastLimit}
+use Rattle.std.specs.Prelude.{None, Some}
 use Rattle.rl_assemble.specs.Pieces.{Source}
 use Rattle.rl_assemble.specs.Written.{Written}
 use Rattle.rl_assemble.proofs.Laws.{after_front, with_front, written_none, written_all}
@@ -69,9 +69,9 @@ module _ (s p : List ℕ) (c : Counts) (f : ℕ) (src : Source (image_found s p 
         (subst (λ (x : Ctx). Ends im 0 nothing [] (some (tt, start im f)) tt (at x (replicate 186496 0) (replicate 4096 0))) (sym (is p))
         (ends_live refl (live_begun s p c f src)))
 
-    pub body_full : ctx.full ≡ true → Finishes PastLimit out
+    pub body_full : ctx.full ≡ true → Finishes None out
     body_full e =
-        subst (λ o. Written (finished true f o) out PastLimit out)
+        subst (λ o. Written (finished true f o) out None out)
         (sym (none_of (ends.full e) (λ a x q o. given_is (within_limit im f (eight_sections im src.well_formed)) q o)))
         (written_none out)
 
@@ -96,7 +96,7 @@ module _ (s p : List ℕ) (c : Counts) (f : ℕ) (src : Source (image_found s p 
     unfolding lowered_by
     lowered_body t n end w = rw (← e p, t) w
 
-    pub lowered_same : b ≡ false → (n : ℕ) (end : List ℕ) → n ≡ after_text out 0 s → end ≡ with_text out 0 s → Written (lowered im f) out (Length n) end
+    pub lowered_same : b ≡ false → (n : ℕ) (end : List ℕ) → n ≡ after_text out 0 s → end ≡ with_text out 0 s → Written (lowered im f) out (Some n) end
     unfolding lowered_by
     lowered_same t n end h g =
         let few : length s ≤ 65535 = omega (arith, ap length src.bytes, src.well_formed.size) in

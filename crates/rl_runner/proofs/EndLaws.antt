@@ -12,15 +12,16 @@ use Rattle.rl_spec.specs.declared.ConstVal.{ConstVal}
 use Rattle.rl_spec.specs.declared.ConstVal.TheVariants.{Int, Float, Str, Bool as Truth}
 use Rattle.rl_spec.specs.declared.Counts.{Counts}
 use Rattle.rl_spec.specs.declared.Interval.{Interval}
-use Rattle.rl_spec.specs.declared.Optional.TheVariants.{None}
+use Rattle.std.specs.Prelude.{None}
+use Rattle.rl_spec.specs.Answers.{ran}
 use Rattle.rl_spec.specs.declared.Outcome.{Outcome}
 use Rattle.rl_spec.specs.declared.Outcome.TheVariants.{Returned, Stopped, Fault, Spent}
 use Rattle.rl_spec.specs.declared.Plain.{Plain}
 use Rattle.rl_spec.specs.declared.Plain.TheVariants.{Null, Const}
 use Rattle.rl_spec.specs.declared.Function.{Function}
-use Rattle.rl_spec.specs.declared.RunAnswer.TheVariants.{Ran as Answered}
 use Rattle.rl_spec.specs.declared.Value.{Value}
-use Rattle.rl_spec.specs.declared.Value.TheVariants.{Plain as Bare, Ok, Err}
+use Rattle.rl_spec.specs.declared.Value.TheVariants.{Plain as Bare}
+use Rattle.rl_spec.specs.declared.Value.TheVariants as val
 use Rattle.rl_spec.specs.Bytes.{u16_at}
 use Rattle.rl_spec.specs.Image.{Image, entry_of, text_of}
 use Rattle.rl_spec.specs.Found.{image_found}
@@ -66,8 +67,8 @@ same_plain (Const v) = ap Const (same_const v)
 
 same_value : (v : Value) → as_value (value_of v) ≡ v
 same_value (Bare p) = ap Bare (same_plain p)
-same_value (Ok p) = ap Ok (same_plain p)
-same_value (Err p) = ap Err (same_plain p)
+same_value (val.Ok p) = ap val.Ok (same_plain p)
+same_value (val.Err p) = ap val.Err (same_plain p)
 
 same_outcome : (o : Outcome) → as_outcome (outcome_of o) ≡ o
 same_outcome (Returned v) = ap Returned (same_value v)
@@ -201,10 +202,10 @@ module _ (s p : List ℕ) (c : Counts) (bytes : (i : ℕ) → Fits w8 (get_or s 
       → ((q : List ℕ) → x ≡ function_at (image_found s q c) f) → args.count ≤ 16 → args.count ≡ (function_at im f).params.count
       → ((q : List ℕ) → args.count ≤ 16 → x.params.count ≤ args.count → BindsAll (image_found s q c) x.params args e)
       → Runs (list_run im 65536 true false None x.body) e budget r → o ≡ outcome_after r.flow
-      → Answered o (budget - r.left) ≡ ran_in im f (given args) budget
+      → ran o (budget - r.left) ≡ ran_in im f (given args) budget
   unfolding ran_in run_function plain_function
   function_ran f x args budget e r o k l m b h d =
-      ap (λ z. Answered z (budget - r.left)) (d ∙ sym (same_outcome (outcome_after r.flow)))
+      ap (λ z. ran z (budget - r.left)) (d ∙ sym (same_outcome (outcome_after r.flow)))
       ∙ sym
       (ap (λ z. ran_of (finish budget (and_then (bind_all (param_names im z.params) (values_of (given args)) [] budget) (λ _. top (text_of im) plainly (body_tree im z.body))))) (sym (k p))
       ∙ ap (λ z. ran_of (finish budget (and_then z (λ _. top (text_of im) plainly (body_tree im x.body))))) (b p l (omega (arith, m, ap (λ z. z.params.count) (k p))) budget)

@@ -9,15 +9,12 @@ use lib.ListN.{get_or, replicate}
 use mir.Syntax.{w8}
 use mir.Val.{Fits}
 use borrow.Author.Tests.{ltb-true, ltb-false, eqb-true}
-use Rattle.rl_spec.specs.declared.Answer.{Answer}
-use Rattle.rl_spec.specs.declared.Answer.TheVariants as read
+use Rattle.rl_spec.specs.Answers.{Answer, accepted, refused, RunAnswer}
 use Rattle.rl_spec.specs.declared.ArenaNo.{ArenaNo}
 use Rattle.rl_spec.specs.declared.Arguments.{Arguments}
 use Rattle.rl_spec.specs.declared.Cause.{Cause}
 use Rattle.rl_spec.specs.declared.Cause.TheVariants.{NoSuchFunction, WrongValues, NoSuchText, BudgetOverLimit}
 use Rattle.rl_spec.specs.declared.Counts.{Counts}
-use Rattle.rl_spec.specs.declared.RunAnswer.{RunAnswer}
-use Rattle.rl_spec.specs.declared.RunAnswer.TheVariants as answer
 use Rattle.rl_spec.specs.declared.Section.TheVariants.{Texts}
 use Rattle.rl_spec.specs.Read.{answer_of, work_of, starts_of}
 use Rattle.rl_spec.specs.Image.{Image, image_of}
@@ -48,7 +45,7 @@ Checked b c d e =
 
 as_checked : (b c d e : Bool) (r : RunAnswer) →
     run_or (Checked b c d e) r
-    ≡ cond b (answer.Refused NoSuchFunction 0) (cond c (answer.Refused WrongValues 0) (cond d (answer.Refused NoSuchText 0) (cond e (answer.Refused BudgetOverLimit 0) r)))
+    ≡ cond b (refused NoSuchFunction 0) (cond c (refused WrongValues 0) (cond d (refused NoSuchText 0) (cond e (refused BudgetOverLimit 0) r)))
 as_checked true c d e r = refl
 as_checked false true d e r = refl
 as_checked false false true e r = refl
@@ -117,15 +114,15 @@ module _ (s : List ℕ) (k f : ℕ) (args : Arguments) (budget : ℕ) (a : Answe
   work_of_lem : (r : RunAnswer) (w : List ℕ) → Is r → w ≡ work_unless (run_number r) s k → Work w
   work_of_lem r w h g = g ∙ ap (λ x. work_unless (run_number x) s k) h
 
-  module _ (q : Cause) (n : ℕ) (h : a ≡ read.Refused q n) where
-    pub run_unread : Is (answer.Refused q n)
+  module _ (q : Cause) (n : ℕ) (h : a ≡ refused q n) where
+    pub run_unread : Is (refused q n)
     unfolding run_of
     run_unread = rw (← e, h) refl
 
     pub run_unread_work : (w : List ℕ) → w ≡ work_of s k → Work w
-    run_unread_work w g = work_of_lem (answer.Refused q n) w run_unread (g ∙ refused_work s k q n (sym e ∙ h) ∙ zeros_unless q s k)
+    run_unread_work w g = work_of_lem (refused q n) w run_unread (g ∙ refused_work s k q n (sym e ∙ h) ∙ zeros_unless q s k)
 
-  module _ (no : ArenaNo) (c : Counts) (h : a ≡ read.Accepted no c) (p : List ℕ) (z : p ≡ starts_of s k) (x : Admission)
+  module _ (no : ArenaNo) (c : Counts) (h : a ≡ accepted no c) (p : List ℕ) (z : p ≡ starts_of s k) (x : Admission)
       (g : (q : List ℕ) → x ≡ run_admission (image_found s q c) c f args budget) where
     same_image : image_found s p c ≡ image_of s
     same_image = ap (λ (y : List ℕ). image_found s y c) z ∙ found_is_image s k no c (sym e ∙ h)
@@ -140,11 +137,11 @@ module _ (s : List ℕ) (k f : ℕ) (args : Arguments) (budget : ℕ) (a : Answe
         (sym (as_checked (not (ltb f c.functions)) (not (is_for args.count (function_at (image_of s) f).params.count)) (not (all_have c (given args))) (ltb 1000000 budget) (ran_in (image_of s) f (given args) budget)))
         ∙ ap (λ y. run_or y (ran_in (image_of s) f (given args) budget)) (sym own)
 
-    pub run_refused : (q : Cause) → x ≡ Refused q → Is (answer.Refused q 0)
+    pub run_refused : (q : Cause) → x ≡ Refused q → Is (refused q 0)
     run_refused q d = sym (by_admission ∙ ap (λ y. run_or y (ran_in (image_of s) f (given args) budget)) d)
 
     pub run_refused_work : (q : Cause) → x ≡ Refused q → (m : ℕ) (w : List ℕ) → m ≡ k → w ≡ replicate m 0 → Work w
-    run_refused_work q d m w n y = work_of_lem (answer.Refused q 0) w (run_refused q d) (y ∙ ap (λ (i : ℕ). replicate i 0) n ∙ zeros_unless q s k)
+    run_refused_work q d m w n y = work_of_lem (refused q 0) w (run_refused q d) (y ∙ ap (λ (i : ℕ). replicate i 0) n ∙ zeros_unless q s k)
 
     module _ (d : x ≡ Admitted) where
       pub run_admitted : (r : RunAnswer) → r ≡ ran_in (image_found s p c) f (given args) budget → Is r

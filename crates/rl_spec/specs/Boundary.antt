@@ -1,24 +1,11 @@
 -- What C and Rust are answered: numbers, and words in lent arrays. The high 32 bits of an answer are the refusal's number, 0 without one.
-use Rattle.std.specs.Prelude.{ℕ, ◌+◌, ◌-◌, ◌*◌, ◌/◌, ◌^◌, min, Bool, true, false, cond, ◌&&◌, List, [], ◌∷◌, map, length, ◌==◌, nat_lt, slice_index}
+use Rattle.std.specs.Prelude.{ℕ, ◌+◌, ◌-◌, ◌*◌, ◌/◌, ◌^◌, min, Bool, true, false, cond, ◌&&◌, List, [], ◌∷◌, map, length, ◌==◌, nat_lt, slice_index, Ok, Err}
 use Rattle.rl_spec.specs.declared.Argument.{Argument}
 use Rattle.rl_spec.specs.declared.Arguments.{Arguments}
-use Rattle.rl_spec.specs.declared.FoldAnswer.{FoldAnswer}
-use Rattle.rl_spec.specs.declared.FoldAnswer.TheVariants as fold
+use Rattle.rl_spec.specs.Answers.{FoldAnswer, LowerAnswer, MessageAnswer, PagesAnswer, ProveAnswer, RunAnswer, TextAnswer}
 use Rattle.rl_spec.specs.declared.Id.{Id}
-use Rattle.rl_spec.specs.declared.LowerAnswer.{LowerAnswer}
-use Rattle.rl_spec.specs.declared.LowerAnswer.TheVariants as lower
-use Rattle.rl_spec.specs.declared.MessageAnswer.{MessageAnswer}
-use Rattle.rl_spec.specs.declared.MessageAnswer.TheVariants as message
 use Rattle.rl_spec.specs.declared.Outcome.{Outcome}
 use Rattle.rl_spec.specs.declared.Outcome.TheVariants as outcome
-use Rattle.rl_spec.specs.declared.PagesAnswer.{PagesAnswer}
-use Rattle.rl_spec.specs.declared.PagesAnswer.TheVariants as pages
-use Rattle.rl_spec.specs.declared.ProveAnswer.{ProveAnswer}
-use Rattle.rl_spec.specs.declared.ProveAnswer.TheVariants as prove
-use Rattle.rl_spec.specs.declared.RunAnswer.{RunAnswer}
-use Rattle.rl_spec.specs.declared.RunAnswer.TheVariants as run
-use Rattle.rl_spec.specs.declared.TextAnswer.{TextAnswer}
-use Rattle.rl_spec.specs.declared.TextAnswer.TheVariants as text
 use Rattle.rl_spec.specs.declared.Value.TheVariants.{Plain as Bare}
 use Rattle.rl_spec.specs.Read.{number_of}
 use Rattle.rl_spec.specs.Ranges.{up_from}
@@ -33,57 +20,57 @@ above number low = number * 2 ^ 32 + low
 
 -- proving: how many reports there are
 abbrev pub prove_packed : ProveAnswer → ℕ
-prove_packed (prove.Proved n) = n
-prove_packed (prove.Refused q n) = above (number_of q) n
+prove_packed (Ok n) = n
+prove_packed (Err r) = above (number_of r.cause) r.place
 
 -- lowering: the length of the image written
 abbrev pub lower_packed : LowerAnswer → ℕ
-lower_packed (lower.Lowered n) = n
-lower_packed (lower.Refused q n) = above (number_of q) n
+lower_packed (Ok n) = n
+lower_packed (Err r) = above (number_of r.cause) r.place
 
 abbrev pub fold_packed : FoldAnswer → ℕ
-fold_packed (fold.Found v) = 0
-fold_packed (fold.Refused q n) = above (number_of q) n
+fold_packed (Ok v) = 0
+fold_packed (Err r) = above (number_of r.cause) r.place
 
 abbrev pub run_packed : RunAnswer → ℕ
-run_packed (run.Ran o n) = 0
-run_packed (run.Refused q n) = above (number_of q) n
+run_packed (Ok h) = 0
+run_packed (Err r) = above (number_of r.cause) r.place
 
 -- a text: the place of its first byte in 16 bits, and above them how many bytes it has
 abbrev pub text_packed : TextAnswer → ℕ
-text_packed (text.Found part) = part.start + part.length * 2 ^ 16
-text_packed (text.Refused q n) = above (number_of q) n
+text_packed (Ok part) = part.start + part.length * 2 ^ 16
+text_packed (Err r) = above (number_of r.cause) r.place
 
 -- a message: its length
 abbrev pub message_packed : MessageAnswer → ℕ
-message_packed (message.Message n) = n
-message_packed (message.Refused q n) = above (number_of q) n
+message_packed (Ok n) = n
+message_packed (Err r) = above (number_of r.cause) r.place
 
 -- pages: how many bytes are written
 abbrev pub pages_packed : PagesAnswer → ℕ
-pages_packed (pages.Written n) = n
-pages_packed (pages.Refused q n) = above (number_of q) n
+pages_packed (Ok n) = n
+pages_packed (Err r) = above (number_of r.cause) r.place
 
 -- the places of refusals
 abbrev pub proved_place : ProveAnswer → ℕ
-proved_place (prove.Proved n) = 0
-proved_place (prove.Refused q n) = n
+proved_place (Ok n) = 0
+proved_place (Err r) = r.place
 
 abbrev pub lowered_place : LowerAnswer → ℕ
-lowered_place (lower.Lowered n) = 0
-lowered_place (lower.Refused q n) = n
+lowered_place (Ok n) = 0
+lowered_place (Err r) = r.place
 
 abbrev pub text_place : TextAnswer → ℕ
-text_place (text.Found part) = 0
-text_place (text.Refused q n) = n
+text_place (Ok part) = 0
+text_place (Err r) = r.place
 
 abbrev pub message_place : MessageAnswer → ℕ
-message_place (message.Message n) = 0
-message_place (message.Refused q n) = n
+message_place (Ok n) = 0
+message_place (Err r) = r.place
 
 abbrev pub pages_place : PagesAnswer → ℕ
-pages_place (pages.Written n) = 0
-pages_place (pages.Refused q n) = n
+pages_place (Ok n) = 0
+pages_place (Err r) = r.place
 
 -- ---- the two words of a folded value: its sort and its payload
 
@@ -91,8 +78,8 @@ abbrev pub id_of : ℕ → ℕ → Id
 id_of arena node = record { arena = record { 0 = arena }; node = record { 0 = node } }
 
 abbrev pub fold_words : FoldAnswer → List ℕ
-fold_words (fold.Found v) = sort_word_of v ∷ payload_word_of v ∷ []
-fold_words (fold.Refused q n) = 0 ∷ 0 ∷ []
+fold_words (Ok v) = sort_word_of v ∷ payload_word_of v ∷ []
+fold_words (Err r) = 0 ∷ 0 ∷ []
 
 -- ---- the values of a run, two words each
 
@@ -132,5 +119,5 @@ outcome_words (outcome.Fault k) n = 3 ∷ n ∷ k ∷ 0 ∷ []
 outcome_words outcome.Spent n = 4 ∷ n ∷ 0 ∷ 0 ∷ []
 
 abbrev pub run_words : RunAnswer → List ℕ
-run_words (run.Ran o n) = outcome_words o n
-run_words (run.Refused q n) = 0 ∷ 0 ∷ 0 ∷ 0 ∷ []
+run_words (Ok h) = outcome_words h.outcome h.steps
+run_words (Err r) = 0 ∷ 0 ∷ 0 ∷ 0 ∷ []

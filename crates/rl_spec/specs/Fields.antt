@@ -1,5 +1,5 @@
 -- What the reader checks of one record.
-use Rattle.std.specs.Prelude.{ℕ, zero, suc, ◌+◌, ◌-◌, ◌*◌, ◌%◌, max, Bool, true, false, cond, not, List, [], ◌∷◌, take, drop, ◌==◌, nat_le, nat_lt, slice_index}
+use Rattle.std.specs.Prelude.{ℕ, zero, suc, ◌+◌, ◌-◌, ◌*◌, ◌%◌, max, Bool, true, false, cond, not, List, [], ◌∷◌, take, drop, ◌==◌, nat_le, nat_lt, slice_index, Ok, Err}
 use Rattle.rl_spec.specs.declared.Counts.{Counts}
 use Rattle.rl_spec.specs.declared.Cause.{Cause}
 use Rattle.rl_spec.specs.declared.Cause.TheVariants.{BytesEnd, WrongKind, BadText, BadValue, BadReference, TooHigh}
@@ -9,17 +9,14 @@ use Rattle.rl_spec.specs.declared.Target.{Target}
 use Rattle.rl_spec.specs.declared.Target.TheVariants.{Text, Expression, Statement, Branch, ElseBranch, Arm}
 use Rattle.rl_spec.specs.declared.Sort.{Sort}
 use Rattle.rl_spec.specs.declared.Sort.TheVariants.{Raw, Byte, Scalar, Part, One, Maybe, Many, Range, OperandSort, Operand}
-use Rattle.rl_spec.specs.declared.Check.{Check}
-use Rattle.rl_spec.specs.declared.Check.TheVariants.{Holds, Fails}
-use Rattle.rl_spec.specs.declared.Step.{Step}
-use Rattle.rl_spec.specs.declared.Step.TheVariants.{Next, Stop}
+use Rattle.rl_spec.specs.Answers.{Check, goes_on, refused, Step}
 use Rattle.rl_spec.specs.Bytes.{u16_at, u32_at, past}
 use Rattle.rl_spec.specs.Schema.{text_bytes_at, count_of, in_section, tallest, sort_of, width_of, fields_of}
 use Rattle.rl_spec.specs.Utf8.{utf8, is_scalar}
 
 -- a check that refuses for one cause unless a test holds
 abbrev pub unless : Cause → Bool → ℕ → Check
-unless c b tall = cond b (Holds tall) (Fails c)
+unless c b tall = cond b (Ok tall) (Err c)
 
 -- whether a reference may find a statement of this kind
 abbrev pub takes : Target → ℕ → Bool
@@ -98,11 +95,11 @@ range_of seen first count o tall = unless BadReference (nat_le (first + count) (
 -- a text: a part of the text bytes that is UTF-8
 unfoldable pub part_of : List ℕ → Counts → ℕ → ℕ → ℕ → Check
 part_of s seen offset size tall =
-    cond (nat_lt seen.bytes (offset + size)) (Fails BadText)
+    cond (nat_lt seen.bytes (offset + size)) (Err BadText)
     (unless BadText (utf8 (take size (drop (text_bytes_at + offset) s))) tall)
 
 unfoldable pub byte_in : ℕ → ℕ → ℕ → ℕ → Check
-byte_in low high b tall = cond (nat_lt b low) (Fails BadValue) (unless BadValue (nat_le b high) tall)
+byte_in low high b tall = cond (nat_lt b low) (Err BadValue) (unless BadValue (nat_le b high) tall)
 
 -- the operand's sort: 0 exactly where the refinement is 0
 unfoldable pub operand_sort_of : ℕ → ℕ → ℕ → Check
@@ -111,13 +108,13 @@ operand_sort_of refinement b tall =
 
 -- a refusal is at the field's first byte
 abbrev pub checked : Check → ℕ → (ℕ → Step) → Step
-checked (Holds tall) at f = f tall
-checked (Fails c) at f = Stop c at
+checked (Ok tall) at f = f tall
+checked (Err c) at f = refused c at
 
 -- the height is checked after the record, and refused at its kind
 abbrev pub height_step : Section → ℕ → Step → Step
-height_step own at (Next a tall) = cond (nat_lt tall (tallest own)) (Next a (tall + 1)) (Stop TooHigh at)
-height_step own at (Stop c q) = Stop c q
+height_step own at (Ok s) = cond (nat_lt s.tall (tallest own)) (goes_on s.at (s.tall + 1)) (refused TooHigh at)
+height_step own at (Err r) = Err r
 
 -- ---- a record of the section `own`
 
@@ -126,32 +123,32 @@ module _ (s w p : List ℕ) (seen : Counts) (own : Section) where
   refer_to t n tall = unless BadReference (allowed s p seen t n) (max tall (child_height w seen own t n))
 
   unfoldable pub refer_or_none : Target → ℕ → ℕ → Check
-  refer_or_none t n tall = cond (n == 65535) (Holds tall) (refer_to t n tall)
+  refer_or_none t n tall = cond (n == 65535) (Ok tall) (refer_to t n tall)
 
   -- n list entries from the k-th on, by turns a left and a right
   unfoldable pub entries_from : ℕ → ℕ → Target → Target → ℕ → Check
-  entries_from zero k left right tall = Holds tall
+  entries_from zero k left right tall = Ok tall
   entries_from (suc n) k left right tall =
       cond (allowed s p seen left (entry_at s seen k))
-      (entries_from n (k + 1) right left (max tall (child_height w seen own left (entry_at s seen k)))) (Fails BadReference)
+      (entries_from n (k + 1) right left (max tall (child_height w seen own left (entry_at s seen k)))) (Err BadReference)
 
   -- a list: its first entry and its count
   unfoldable pub list_of : ℕ → ℕ → Target → Target → ℕ → ℕ → Check
   list_of first count left right step tall =
-      cond (nat_lt seen.lists (first + count)) (Fails BadReference)
-      (cond (count % step == 0) (entries_from count first left right tall) (Fails BadReference))
+      cond (nat_lt seen.lists (first + count)) (Err BadReference)
+      (cond (count % step == 0) (entries_from count first left right tall) (Err BadReference))
 
   -- the operand, by its sort: none, Integer, Str, Bool, Param; the bytes that are left unused are 0
   unfoldable pub operand_of : ℕ → ℕ → ℕ → Check
   operand_of b at tall =
       cond (b == 0) (unless BadValue (zeros s at 8) tall)
-      (cond (b == 1) (Holds tall)
+      (cond (b == 1) (Ok tall)
       (cond (b == 3) (unless BadValue (cond (nat_le (slice_index s at) 1) (zeros s (at + 1) 7) false) tall)
-      (cond (zeros s (at + 2) 6) (refer_to Text (u16_at s at) tall) (Fails BadValue))))
+      (cond (zeros s (at + 2) 6) (refer_to Text (u16_at s at) tall) (Err BadValue))))
 
   -- a field's value, once its bytes are there. An operand's sort follows its refinement, and an operand its sort.
   unfoldable pub value_of : Sort → ℕ → ℕ → Check
-  value_of (Raw n) at tall = Holds tall
+  value_of (Raw n) at tall = Ok tall
   value_of (Byte low high) at tall = byte_in low high (slice_index s at) tall
   value_of Scalar at tall = unless BadValue (is_scalar (u32_at s at)) tall
   value_of Part at tall = part_of s seen (u16_at s at) (u16_at s (at + 2)) tall
@@ -164,15 +161,15 @@ module _ (s w p : List ℕ) (seen : Counts) (own : Section) where
 
   -- ONE FIELD
   unfoldable pub field_at : Sort → ℕ → ℕ → Check
-  field_at o at tall = cond (past s at (width_of o)) (Fails BytesEnd) (value_of o at tall)
+  field_at o at tall = cond (past s at (width_of o)) (Err BytesEnd) (value_of o at tall)
 
   -- THE FIELDS, left to right
   unfoldable pub fields_from : List ℕ → ℕ → ℕ → Step
-  fields_from [] at tall = Next at tall
+  fields_from [] at tall = goes_on at tall
   fields_from (o ∷ os) at tall = checked (field_at (sort_of o) at tall) at (λ t. fields_from os (at + width_of (sort_of o)) t)
 
   -- ONE RECORD: its kind, its fields, its height
   unfoldable pub record_at : ℕ → Step
   record_at at =
-      cond (past s at 1) (Stop BytesEnd at)
-      (cond (in_section own (slice_index s at)) (height_step own at (fields_from (fields_of (slice_index s at)) (at + 1) 0)) (Stop WrongKind at))
+      cond (past s at 1) (refused BytesEnd at)
+      (cond (in_section own (slice_index s at)) (height_step own at (fields_from (fields_of (slice_index s at)) (at + 1) 0)) (refused WrongKind at))

@@ -1,11 +1,10 @@
 -- The contracts of a function, under the names of rl-ast's statements.rs, and the callee of a call. T is the type of texts.
-use Rattle.std.specs.Prelude.{ℕ, zero, suc, Bool, true, false, cond, not, ◌&&◌, ◌||◌, List, [], ◌∷◌, map, ℤ}
+use Rattle.std.specs.Prelude.{ℕ, zero, suc, Bool, true, false, cond, not, ◌&&◌, ◌||◌, List, [], ◌∷◌, map, ℤ, None, Some}
 use Rattle.std.proofs.Math.Option.{Option, none, some}
 use Rattle.rl_spec.specs.declared.Section.TheVariants.{Functions}
 use Rattle.rl_spec.specs.declared.RefineOperand as operand
 use Rattle.rl_spec.specs.declared.RefineOperand.TheVariants.{Integer, Str, Bool as Truth, Param as Named}
-use Rattle.rl_spec.specs.declared.ParamRefinement as refinement
-use Rattle.rl_spec.specs.declared.ParamRefinement.TheVariants.{Unrefined, Refined}
+use Rattle.rl_spec.specs.Answers as declared
 use Rattle.rl_spec.specs.Image.{Image, size_of, entry_of, text_of}
 use Rattle.rl_spec.specs.Values.{RefineOp, same_text}
 use Rattle.rl_spec.specs.Folded.{op_of}
@@ -43,9 +42,9 @@ operand_of (Str t) = str t
 operand_of (Truth b) = bool b
 operand_of (Named t) = param t
 
-abbrev pub refinement_of : refinement.ParamRefinement → Option (ParamRefinement ℕ)
-refinement_of Unrefined = none
-refinement_of (Refined o x) = some (record { op = op_of o; operand = operand_of x })
+abbrev pub refinement_of : declared.ParamRefinement → Option (ParamRefinement ℕ)
+refinement_of None = none
+refinement_of (Some r) = some (record { op = op_of r.op; operand = operand_of r.operand })
 
 unfoldable pub param_of : Image → ℕ → Param ℕ
 param_of im i = record { name = (param_at im i).name; refinement = refinement_of (param_at im i).refinement }

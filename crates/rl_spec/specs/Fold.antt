@@ -1,12 +1,9 @@
 -- `const_eval` of rl-checker's contracts.rs on trees, and what folding answers.
-use Rattle.std.specs.Prelude.{ℕ, Bool, cond, List, [], ◌∷◌, replicate, ◌==◌, nat_lt}
+use Rattle.std.specs.Prelude.{ℕ, Bool, cond, List, [], ◌∷◌, replicate, ◌==◌, nat_lt, Ok, Err}
 use Rattle.std.proofs.Math.Option.{Option, none, some}
 use Rattle.rl_spec.specs.declared.Id.{Id}
-use Rattle.rl_spec.specs.declared.Answer.{Answer}
-use Rattle.rl_spec.specs.declared.Answer.TheVariants as read
+use Rattle.rl_spec.specs.Answers.{Answer, refused, FoldAnswer}
 use Rattle.rl_spec.specs.declared.Cause.TheVariants.{OtherArena, NoSuchNode}
-use Rattle.rl_spec.specs.declared.FoldAnswer.{FoldAnswer}
-use Rattle.rl_spec.specs.declared.FoldAnswer.TheVariants.{Found, Refused}
 use Rattle.rl_spec.specs.Read.{number_of, answer_of, work_of}
 use Rattle.rl_spec.specs.Image.{text_of, image_of}
 use Rattle.rl_spec.specs.Values.{ConstVal, bool, gt, ge, lt, le, eq, ne, plus, minus, star, slash, same_text, compare_values, arith_values, bang, negate}
@@ -75,20 +72,20 @@ module _ {T : Type 0} (bytes : T → List ℕ) where
 -- ---- THE ANSWER: reading first, then 15 another arena, 16 no such node; folding alone knows no names
 
 abbrev pub fold_by : List ℕ → Id → Answer → FoldAnswer
-fold_by s id (read.Accepted a c) =
-    cond (id.arena.0 == a.0)
-    (cond (nat_lt id.node.0 c.expressions)
-    (Found (as_folded (const_eval (text_of (image_of s)) [] (expr_tree (image_of s) id.node.0))))
-    (Refused NoSuchNode 0))
-    (Refused OtherArena 0)
-fold_by s id (read.Refused q n) = Refused q n
+fold_by s id (Ok h) =
+    cond (id.arena.0 == h.arena.0)
+    (cond (nat_lt id.node.0 h.counts.expressions)
+    (Ok (as_folded (const_eval (text_of (image_of s)) [] (expr_tree (image_of s) id.node.0))))
+    (refused NoSuchNode 0))
+    (refused OtherArena 0)
+fold_by s id (Err r) = Err r
 
 unfoldable pub fold_of : List ℕ → ℕ → Id → FoldAnswer
 fold_of s k id = fold_by s id (answer_of s k)
 
 abbrev pub fold_number : FoldAnswer → ℕ
-fold_number (Found v) = 0
-fold_number (Refused q n) = number_of q
+fold_number (Ok v) = 0
+fold_number (Err r) = number_of r.cause
 
 -- the work slice: as reading leaves it, and zero where something is refused by a number
 abbrev pub work_unless : ℕ → List ℕ → ℕ → List ℕ

@@ -1,5 +1,5 @@
 -- The declared types of values and operators, as those of the definitions.
-use Rattle.std.specs.Prelude.{ℕ, Bool, true, false, List}
+use Rattle.std.specs.Prelude.{ℕ, Bool, true, false, List, None, Some}
 use Rattle.std.proofs.Math.Option.{Option, none, some}
 use Rattle.rl_spec.specs.Values as defined
 use Rattle.rl_spec.specs.declared.ConstVal.{ConstVal}
@@ -8,10 +8,7 @@ use Rattle.rl_spec.specs.declared.RefineOp.{RefineOp}
 use Rattle.rl_spec.specs.declared.RefineOp.TheVariants.{Gt, Ge, Lt, Le, Eq, Ne}
 use Rattle.rl_spec.specs.declared.ArithOp.{ArithOp}
 use Rattle.rl_spec.specs.declared.ArithOp.TheVariants.{Plus, Minus, Star, Slash}
-use Rattle.rl_spec.specs.declared.Folded.{Folded}
-use Rattle.rl_spec.specs.declared.Folded.TheVariants.{Value, Nothing}
-use Rattle.rl_spec.specs.declared.Verdict.{Verdict}
-use Rattle.rl_spec.specs.declared.Verdict.TheVariants.{Yes, No, Unknown}
+use Rattle.rl_spec.specs.Answers.{Folded, Verdict}
 
 -- a text as t of its index
 abbrev pub value_by : {T : Type 0} → (ℕ → T) → ConstVal → defined.ConstVal T
@@ -42,8 +39,8 @@ arith_of Star = defined.star
 arith_of Slash = defined.slash
 
 abbrev pub folded_of : Folded → Option (defined.ConstVal ℕ)
-folded_of (Value v) = some (const_of v)
-folded_of Nothing = none
+folded_of (Some v) = some (const_of v)
+folded_of None = none
 
 -- the same from the definitions' side
 abbrev pub as_const : defined.ConstVal ℕ → ConstVal
@@ -53,10 +50,9 @@ as_const (defined.str n) = kind.Str n
 as_const (defined.bool x) = kind.Bool x
 
 abbrev pub as_folded : Option (defined.ConstVal ℕ) → Folded
-as_folded (some v) = Value (as_const v)
-as_folded none = Nothing
+as_folded (some v) = Some (as_const v)
+as_folded none = None
 
 abbrev pub verdict_of : Verdict → Option Bool
-verdict_of Yes = some true
-verdict_of No = some false
-verdict_of Unknown = none
+verdict_of (Some b) = some b
+verdict_of None = none

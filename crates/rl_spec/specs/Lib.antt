@@ -1,5 +1,6 @@
 -- The definitions, in the order in which they use one another.
 -- ---- bytes, text, the format, and what the reader answers
+pub mod Answers
 pub mod Utf8
 pub mod Bytes
 pub mod Schema

@@ -1,14 +1,13 @@
 -- Lowering on records: rl-resolver's contracts.rs, function by function. What is made is appended to the image, in the order in which
 -- the Rust makes it; a statement is made when the Rust has finished it, after all that stands inside it.
-use Rattle.std.specs.Prelude.{ℕ, ◌-◌, Bool, true, false, cond, not, ◌&&◌, ◌||◌, List, [], ◌∷◌, ◌++◌, map, length, take, ◌==◌, nat_lt, slice_index, slice_set}
+use Rattle.std.specs.Prelude.{ℕ, ◌-◌, Bool, true, false, cond, not, ◌&&◌, ◌||◌, List, [], ◌∷◌, ◌++◌, map, length, take, ◌==◌, nat_lt, slice_index, slice_set, None, Some}
 use Rattle.std.proofs.Math.Option.{Option, none, some}
 use Rattle.rl_spec.specs.declared.Section.TheVariants.{Expressions, Statements, Functions}
 use Rattle.rl_spec.specs.declared.Target.{Target}
 use Rattle.rl_spec.specs.declared.Target.TheVariants.{Text, Expression, Statement, Branch, ElseBranch, Arm}
 use Rattle.rl_spec.specs.declared.Sort.{Sort}
 use Rattle.rl_spec.specs.declared.Sort.TheVariants.{Raw, Byte, Scalar, Part, One, Maybe, Many, Range, OperandSort, Operand}
-use Rattle.rl_spec.specs.declared.Optional.{Optional}
-use Rattle.rl_spec.specs.declared.Optional.TheVariants.{None, Some}
+use Rattle.rl_spec.specs.Answers.{Optional}
 use Rattle.rl_spec.specs.declared.Clause.{Clause}
 use Rattle.rl_spec.specs.Schema.{sort_of, fields_of}
 use Rattle.rl_spec.specs.Image.{Field, num, Rec, Image, records_of, record_of, field_of, first, entry_of, text_of, encode}

@@ -1,11 +1,8 @@
 -- 02's [3]: the reports of all calls in order, one a line, on pages of 60 lines of 72 columns. All is in Unicode scalars; only `lines_bytes`
 -- makes bytes of them, their UTF-8.
-use Rattle.std.specs.Prelude.{ℕ, zero, suc, ◌-◌, cond, List, [], ◌∷◌, ◌++◌, map, length, take, drop, replicate, nat_lt}
-use Rattle.rl_spec.specs.declared.Answer.{Answer}
-use Rattle.rl_spec.specs.declared.Answer.TheVariants as read
+use Rattle.std.specs.Prelude.{ℕ, zero, suc, ◌-◌, cond, List, [], ◌∷◌, ◌++◌, map, length, take, drop, replicate, nat_lt, Ok, Err}
+use Rattle.rl_spec.specs.Answers.{Answer, refused, PagesAnswer}
 use Rattle.rl_spec.specs.declared.Cause.TheVariants.{PagesTooShort}
-use Rattle.rl_spec.specs.declared.PagesAnswer.{PagesAnswer}
-use Rattle.rl_spec.specs.declared.PagesAnswer.TheVariants.{Written, Refused}
 use Rattle.rl_spec.specs.declared.Violation.{Violation}
 use Rattle.rl_spec.specs.Utf8.{encode_text, scalars_of}
 use Rattle.rl_spec.specs.Read.{number_of, counts_of, answer_of}
@@ -94,21 +91,21 @@ pages_of im n = lines_bytes (joined (on_pages (all_report_lines im n)))
 -- ---- THE ANSWER: reading first, then 22 where the slice is shorter than the pages
 
 abbrev pub pages_from : List ℕ → ℕ → Answer → PagesAnswer
-pages_from s room (read.Accepted a c) =
-    cond (nat_lt room (length (pages_of (image_of s) c.calls))) (Refused PagesTooShort 0) (Written (length (pages_of (image_of s) c.calls)))
-pages_from s room (read.Refused q n) = Refused q n
+pages_from s room (Ok h) =
+    cond (nat_lt room (length (pages_of (image_of s) h.counts.calls))) (refused PagesTooShort 0) (Ok (length (pages_of (image_of s) h.counts.calls)))
+pages_from s room (Err r) = Err r
 
 unfoldable pub pages_answer : List ℕ → ℕ → ℕ → PagesAnswer
 pages_answer s k room = pages_from s room (answer_of s k)
 
 -- the slice: the pages, then zeros; all zero where something is refused
 abbrev pub pages_slice : List ℕ → ℕ → PagesAnswer → List ℕ
-pages_slice s room (Written n) = pages_of (image_of s) (counts_of s).calls ++ replicate (room - n) 0
-pages_slice s room (Refused q n) = replicate room 0
+pages_slice s room (Ok n) = pages_of (image_of s) (counts_of s).calls ++ replicate (room - n) 0
+pages_slice s room (Err r) = replicate room 0
 
 unfoldable pub pages_out : List ℕ → ℕ → ℕ → List ℕ
 pages_out s k room = pages_slice s room (pages_answer s k room)
 
 abbrev pub pages_number : PagesAnswer → ℕ
-pages_number (Written n) = 0
-pages_number (Refused q n) = number_of q
+pages_number (Ok n) = 0
+pages_number (Err r) = number_of r.cause

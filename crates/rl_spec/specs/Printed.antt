@@ -1,8 +1,7 @@
 -- What the printer writes: a line per report, in the order of the calls, or the one line of a refusal.
-use Rattle.std.specs.Prelude.{ℕ, zero, suc, ◌+◌, List, [], ◌∷◌, ◌++◌, map, slice_index_or}
+use Rattle.std.specs.Prelude.{ℕ, zero, suc, ◌+◌, List, [], ◌∷◌, ◌++◌, map, slice_index_or, Ok, Err}
 use Rattle.std.proofs.Math.Option.{Option, none, some}
-use Rattle.rl_spec.specs.declared.Answer.{Answer}
-use Rattle.rl_spec.specs.declared.Answer.TheVariants.{Accepted, Refused}
+use Rattle.rl_spec.specs.Answers.{Answer, refused}
 use Rattle.rl_spec.specs.declared.Cause.{Cause}
 use Rattle.rl_spec.specs.declared.Violation.{Violation}
 use Rattle.rl_spec.specs.Read.{number_of, answer_of}
@@ -49,8 +48,8 @@ all_lines im (suc n) k = call_lines im k ++ all_lines im n (k + 1)
 -- ---- ALL THAT IT WRITES, for these bytes on standard input. Its work slice has 8,192 entries
 
 abbrev pub lines_from : List ℕ → Answer → List (List ℕ)
-lines_from s (Accepted a c) = all_lines (image_of s) c.calls 0
-lines_from s (Refused q place) = refused_line q place ∷ []
+lines_from s (Ok h) = all_lines (image_of s) h.counts.calls 0
+lines_from s (Err r) = refused_line r.cause r.place ∷ []
 
 unfoldable pub lines_of : List ℕ → List (List ℕ)
 lines_of s = lines_from s (answer_of s 8192)

@@ -1,11 +1,8 @@
 -- `prove_call` of rl-checker's contracts.rs, and what proving answers. T is the type of texts, and `bytes` gives a text's bytes.
-use Rattle.std.specs.Prelude.{ℕ, zero, suc, ◌+◌, ◌-◌, ◌/◌, Bool, true, false, cond, List, [], ◌∷◌, ◌++◌, length, replicate, nat_lt}
+use Rattle.std.specs.Prelude.{ℕ, zero, suc, ◌+◌, ◌-◌, ◌/◌, Bool, true, false, cond, List, [], ◌∷◌, ◌++◌, length, replicate, nat_lt, Ok, Err}
 use Rattle.std.proofs.Math.Option.{Option, none, some}
-use Rattle.rl_spec.specs.declared.Answer.{Answer}
-use Rattle.rl_spec.specs.declared.Answer.TheVariants as read
+use Rattle.rl_spec.specs.Answers.{Answer, refused, ProveAnswer}
 use Rattle.rl_spec.specs.declared.Cause.TheVariants.{NoSuchCall, ReportsTooShort}
-use Rattle.rl_spec.specs.declared.ProveAnswer.{ProveAnswer}
-use Rattle.rl_spec.specs.declared.ProveAnswer.TheVariants.{Proved, Refused}
 use Rattle.rl_spec.specs.declared.Violation.{Violation}
 use Rattle.rl_spec.specs.declared.Violation.TheVariants.{Refinement, Requires}
 use Rattle.rl_spec.specs.Read.{number_of, counts_of, answer_of}
@@ -112,18 +109,18 @@ all_entries im (suc n) k = call_entries im k ++ all_entries im n (k + 1)
 
 -- the answer for the entries e and a slice of so many
 abbrev pub fitting : ℕ → List ℕ → ProveAnswer
-fitting room e = cond (nat_lt room (length e)) (Refused ReportsTooShort 0) (Proved (length e / 4))
+fitting room e = cond (nat_lt room (length e)) (refused ReportsTooShort 0) (Ok (length e / 4))
 
 -- the slice: the entries, then zeros; all zero where something is refused
 abbrev pub slice_by : ℕ → List ℕ → ProveAnswer → List ℕ
-slice_by room e (Proved n) = e ++ replicate (room - length e) 0
-slice_by room e (Refused q n) = replicate room 0
+slice_by room e (Ok n) = e ++ replicate (room - length e) 0
+slice_by room e (Err r) = replicate room 0
 
 -- one call
 abbrev pub prove_from : List ℕ → ℕ → ℕ → Answer → ProveAnswer
-prove_from s call room (read.Accepted a c) =
-    cond (nat_lt call c.calls) (fitting room (call_entries (image_of s) call)) (Refused NoSuchCall 0)
-prove_from s call room (read.Refused q n) = Refused q n
+prove_from s call room (Ok h) =
+    cond (nat_lt call h.counts.calls) (fitting room (call_entries (image_of s) call)) (refused NoSuchCall 0)
+prove_from s call room (Err r) = Err r
 
 unfoldable pub prove_of : List ℕ → ℕ → ℕ → ℕ → ProveAnswer
 prove_of s k call room = prove_from s call room (answer_of s k)
@@ -133,8 +130,8 @@ reports_of s k call room = slice_by room (call_entries (image_of s) call) (prove
 
 -- all calls, in order
 abbrev pub prove_all_from : List ℕ → ℕ → Answer → ProveAnswer
-prove_all_from s room (read.Accepted a c) = fitting room (all_entries (image_of s) c.calls 0)
-prove_all_from s room (read.Refused q n) = Refused q n
+prove_all_from s room (Ok h) = fitting room (all_entries (image_of s) h.counts.calls 0)
+prove_all_from s room (Err r) = Err r
 
 unfoldable pub prove_all_of : List ℕ → ℕ → ℕ → ProveAnswer
 prove_all_of s k room = prove_all_from s room (answer_of s k)
@@ -143,5 +140,5 @@ unfoldable pub all_reports_of : List ℕ → ℕ → ℕ → List ℕ
 all_reports_of s k room = slice_by room (all_entries (image_of s) (counts_of s).calls 0) (prove_all_of s k room)
 
 abbrev pub prove_number : ProveAnswer → ℕ
-prove_number (Proved n) = 0
-prove_number (Refused q n) = number_of q
+prove_number (Ok n) = 0
+prove_number (Err r) = number_of r.cause

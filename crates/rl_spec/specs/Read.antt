@@ -1,14 +1,11 @@
 -- What the reader answers for every image and length of the work slice, and what it leaves there.
-use Rattle.std.specs.Prelude.{ℕ, zero, suc, ◌+◌, ◌*◌, ◌^◌, cond, List, [], ◌∷◌, length, replicate, ◌==◌, nat_lt, slice_index, slice_set}
+use Rattle.std.specs.Prelude.{ℕ, zero, suc, ◌+◌, ◌*◌, ◌^◌, cond, List, [], ◌∷◌, length, replicate, ◌==◌, nat_lt, slice_index, slice_set, Ok, Err}
 use Rattle.rl_spec.specs.declared.Counts.{Counts}
 use Rattle.rl_spec.specs.declared.Cause.{Cause}
 use Rattle.rl_spec.specs.declared.Cause.TheVariants.{ImageTooLong, WorkTooShort, BytesEnd, WrongKind, CountOverLimit, BadText, BadValue, BadReference, TooHigh, BytesLeft, OtherArena, NoSuchNode, NoSuchCall, ReportsTooShort, NoSuchFunction, HeightOverLimit, OutputTooShort, LimitPassed, WrongValues, NoSuchText, BudgetOverLimit, PagesTooShort}
-use Rattle.rl_spec.specs.declared.Answer.{Answer}
-use Rattle.rl_spec.specs.declared.Answer.TheVariants.{Accepted, Refused}
+use Rattle.rl_spec.specs.Answers.{Answer, accepted, goes_on, refused, Step}
 use Rattle.rl_spec.specs.declared.Section.{Section}
 use Rattle.rl_spec.specs.declared.Section.TheVariants.{Texts, Lists, Expressions, Statements, Parameters, Clauses, Functions, Calls}
-use Rattle.rl_spec.specs.declared.Step.{Step}
-use Rattle.rl_spec.specs.declared.Step.TheVariants.{Next, Stop}
 use Rattle.rl_spec.specs.Bytes.{u16_at, u32_at, past}
 use Rattle.rl_spec.specs.Schema.{limits, text_bytes_at, sections, count_of}
 use Rattle.rl_spec.specs.Fields.{record_at}
@@ -40,8 +37,8 @@ number_of PagesTooShort = 22
 
 -- a step, and then what follows it
 abbrev pub after : {A : Type 0} → Step → (ℕ → ℕ → A) → (Cause → ℕ → A) → A
-after (Next at tall) f g = f at tall
-after (Stop c q) f g = g c q
+after (Ok s) f g = f s.at s.tall
+after (Err r) f g = g r.cause r.place
 
 -- ---- the header
 
@@ -60,15 +57,15 @@ counts_of s =
     }
 
 unfoldable pub counts_from : List ℕ → List ℕ → ℕ → Step
-counts_from s [] at = Next at 0
+counts_from s [] at = goes_on at 0
 counts_from s (most ∷ ms) at =
-    cond (past s at 2) (Stop BytesEnd at)
-    (cond (nat_lt most (u16_at s at)) (Stop CountOverLimit at) (counts_from s ms (at + 2)))
+    cond (past s at 2) (refused BytesEnd at)
+    (cond (nat_lt most (u16_at s at)) (refused CountOverLimit at) (counts_from s ms (at + 2)))
 
 unfoldable pub header_of : List ℕ → Step
 header_of s =
-    cond (past s 0 1) (Stop BytesEnd 0)
-    (cond (slice_index s 0 == 1) (cond (past s 1 4) (Stop BytesEnd 1) (counts_from s limits 5)) (Stop WrongKind 0))
+    cond (past s 0 1) (refused BytesEnd 0)
+    (cond (slice_index s 0 == 1) (cond (past s 1 4) (refused BytesEnd 1) (counts_from s limits 5)) (refused WrongKind 0))
 
 -- ---- the sections
 
@@ -78,8 +75,8 @@ pub data Out : Type 0 where
   bad : Cause → ℕ → Out
 
 abbrev pub out_of : Step → List ℕ → List ℕ → Out
-out_of (Next at tall) w p = good at w p
-out_of (Stop c q) w p = bad c q
+out_of (Ok s) w p = good s.at w p
+out_of (Err r) w p = bad r.cause r.place
 
 -- what the i-th record of a section may refer to; those of the other sections name none of their own
 abbrev pub seen_by : Counts → Section → ℕ → Counts
@@ -170,8 +167,8 @@ read_of s k =
     (content_of s (replicate k 0) (replicate most_starts 0)))
 
 abbrev pub answer_by : List ℕ → Out → Answer
-answer_by s (good at w p) = Accepted (record { 0 = u32_at s 1 }) (counts_of s)
-answer_by s (bad c q) = Refused c q
+answer_by s (good at w p) = accepted (record { 0 = u32_at s 1 }) (counts_of s)
+answer_by s (bad c q) = refused c q
 
 abbrev pub work_by : ℕ → Out → List ℕ
 work_by k (good at w p) = w
@@ -193,12 +190,12 @@ starts_of s k = starts_by (read_of s k)
 
 -- the number and the place of an answer, both 0 where the image is accepted
 abbrev pub number_in : Answer → ℕ
-number_in (Accepted a c) = 0
-number_in (Refused c q) = number_of c
+number_in (Ok h) = 0
+number_in (Err r) = number_of r.cause
 
 abbrev pub place_in : Answer → ℕ
-place_in (Accepted a c) = 0
-place_in (Refused c q) = q
+place_in (Ok h) = 0
+place_in (Err r) = r.place
 
 -- both in one number: the number above the 32 low bits, the place in them
 abbrev pub packed : Answer → ℕ

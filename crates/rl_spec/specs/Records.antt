@@ -1,12 +1,11 @@
 -- What the records of parameters, clauses, functions and calls say.
-use Rattle.std.specs.Prelude.{ℕ, ◌%◌, cond, ◌==◌}
+use Rattle.std.specs.Prelude.{ℕ, ◌%◌, cond, ◌==◌, None}
 use Rattle.rl_spec.specs.declared.Section.TheVariants.{Parameters, Clauses, Functions, Calls}
 use Rattle.rl_spec.specs.declared.RefineOp.{RefineOp}
 use Rattle.rl_spec.specs.declared.RefineOp.TheVariants.{Gt, Ge, Lt, Le, Eq, Ne}
 use Rattle.rl_spec.specs.declared.RefineOperand.{RefineOperand}
 use Rattle.rl_spec.specs.declared.RefineOperand.TheVariants.{Integer, Str, Bool, Param as Named}
-use Rattle.rl_spec.specs.declared.ParamRefinement.{ParamRefinement}
-use Rattle.rl_spec.specs.declared.ParamRefinement.TheVariants.{Unrefined, Refined}
+use Rattle.rl_spec.specs.Answers.{ParamRefinement, refined}
 use Rattle.rl_spec.specs.declared.Param.{Param}
 use Rattle.rl_spec.specs.declared.Clause.{Clause}
 use Rattle.rl_spec.specs.declared.Function.{Function}
@@ -26,7 +25,7 @@ refine_operand sort x =
     cond (sort == 1) (Integer (signed 64 x)) (cond (sort == 2) (Str (x % 65536)) (cond (sort == 3) (Bool (x == 1)) (Named (x % 65536))))
 
 abbrev pub refinement_by : ℕ → ℕ → ℕ → ParamRefinement
-refinement_by refinement sort x = cond (refinement == 0) Unrefined (Refined (refine_op refinement) (refine_operand sort x))
+refinement_by refinement sort x = cond (refinement == 0) None (refined (refine_op refinement) (refine_operand sort x))
 
 -- name, type, refinement, operand's sort, operand
 abbrev pub param_by : Rec → Param

@@ -1,23 +1,19 @@
 -- What the runner answers: reading first, then 11, 19, 20 and 21, else the run of the body; and values in words.
-use Rattle.std.specs.Prelude.{ℕ, ◌+◌, ◌-◌, Bool, true, cond, not, ◌&&◌, List, [], ◌∷◌, map, take, ◌==◌, nat_lt}
-use Rattle.rl_spec.specs.declared.Answer.{Answer}
-use Rattle.rl_spec.specs.declared.Answer.TheVariants as read
+use Rattle.std.specs.Prelude.{ℕ, ◌+◌, ◌-◌, Bool, true, cond, not, ◌&&◌, List, [], ◌∷◌, map, take, ◌==◌, nat_lt, None, Some, Ok, Err}
+use Rattle.rl_spec.specs.Answers.{Answer, ran, refused, Folded, RunAnswer}
 use Rattle.rl_spec.specs.declared.Cause.TheVariants.{NoSuchFunction, WrongValues, NoSuchText, BudgetOverLimit}
 use Rattle.rl_spec.specs.declared.Counts.{Counts}
 use Rattle.rl_spec.specs.declared.ConstVal.{ConstVal}
 use Rattle.rl_spec.specs.declared.ConstVal.TheVariants.{Int, Float, Str, Bool as Truth}
-use Rattle.rl_spec.specs.declared.Folded.{Folded}
-use Rattle.rl_spec.specs.declared.Folded.TheVariants as fold
 use Rattle.rl_spec.specs.declared.Plain.{Plain}
 use Rattle.rl_spec.specs.declared.Plain.TheVariants.{Null, Const}
 use Rattle.rl_spec.specs.declared.Value.{Value}
-use Rattle.rl_spec.specs.declared.Value.TheVariants.{Plain as Bare, Ok, Err}
+use Rattle.rl_spec.specs.declared.Value.TheVariants.{Plain as Bare}
+use Rattle.rl_spec.specs.declared.Value.TheVariants as val
 use Rattle.rl_spec.specs.declared.Argument.{Argument}
 use Rattle.rl_spec.specs.declared.Arguments.{Arguments}
 use Rattle.rl_spec.specs.declared.Outcome.{Outcome}
 use Rattle.rl_spec.specs.declared.Outcome.TheVariants.{Returned, Stopped, Fault, Spent}
-use Rattle.rl_spec.specs.declared.RunAnswer.{RunAnswer}
-use Rattle.rl_spec.specs.declared.RunAnswer.TheVariants.{Ran, Refused}
 use Rattle.rl_spec.specs.Read.{number_of, answer_of}
 use Rattle.rl_spec.specs.Image.{Image, image_of, text_of}
 use Rattle.rl_spec.specs.Folded.{const_of, as_const}
@@ -36,8 +32,8 @@ plain_of (Const v) = run.folded (const_of v)
 
 abbrev pub value_of : Value → run.Value ℕ
 value_of (Bare p) = run.plain (plain_of p)
-value_of (Ok p) = run.ok (plain_of p)
-value_of (Err p) = run.err (plain_of p)
+value_of (val.Ok p) = run.ok (plain_of p)
+value_of (val.Err p) = run.err (plain_of p)
 
 abbrev pub as_plain : run.Plain ℕ → Plain
 as_plain run.nothing = Null
@@ -45,8 +41,8 @@ as_plain (run.folded v) = Const (as_const v)
 
 abbrev pub as_value : run.Value ℕ → Value
 as_value (run.plain p) = Bare (as_plain p)
-as_value (run.ok p) = Ok (as_plain p)
-as_value (run.err p) = Err (as_plain p)
+as_value (run.ok p) = val.Ok (as_plain p)
+as_value (run.err p) = val.Err (as_plain p)
 
 abbrev pub as_outcome : run.Outcome ℕ → Outcome
 as_outcome (run.returned v) = Returned (as_value v)
@@ -80,8 +76,8 @@ plain_has c (Const v) = const_has c v
 -- 20 looks into an Ok and an Err
 abbrev pub value_has : Counts → Value → Bool
 value_has c (Bare p) = plain_has c p
-value_has c (Ok p) = plain_has c p
-value_has c (Err p) = plain_has c p
+value_has c (val.Ok p) = plain_has c p
+value_has c (val.Err p) = plain_has c p
 
 unfoldable pub all_have : Counts → List Argument → Bool
 all_have c [] = true
@@ -96,7 +92,7 @@ values_of vs = map (λ a. value_of a.value) vs
 -- ---- THE ANSWER
 
 abbrev pub ran_of : run.Outcome ℕ × ℕ → RunAnswer
-ran_of r = Ran (as_outcome r.0) r.1
+ran_of r = ran (as_outcome r.0) r.1
 
 -- the run of a function of an image
 unfoldable pub ran_in : Image → ℕ → List Argument → ℕ → RunAnswer
@@ -107,39 +103,39 @@ abbrev pub is_for : ℕ → ℕ → Bool
 is_for count params = count == params && not (nat_lt 16 count)
 
 abbrev pub run_by : List ℕ → ℕ → Arguments → ℕ → Answer → RunAnswer
-run_by s f args budget (read.Accepted a c) =
-    cond (not (nat_lt f c.functions)) (Refused NoSuchFunction 0)
-    (cond (not (is_for args.count (function_at (image_of s) f).params.count)) (Refused WrongValues 0)
-    (cond (not (all_have c (given args))) (Refused NoSuchText 0)
-    (cond (nat_lt 1000000 budget) (Refused BudgetOverLimit 0) (ran_in (image_of s) f (given args) budget))))
-run_by s f args budget (read.Refused q n) = Refused q n
+run_by s f args budget (Ok h) =
+    cond (not (nat_lt f h.counts.functions)) (refused NoSuchFunction 0)
+    (cond (not (is_for args.count (function_at (image_of s) f).params.count)) (refused WrongValues 0)
+    (cond (not (all_have h.counts (given args))) (refused NoSuchText 0)
+    (cond (nat_lt 1000000 budget) (refused BudgetOverLimit 0) (ran_in (image_of s) f (given args) budget))))
+run_by s f args budget (Err r) = Err r
 
 unfoldable pub run_of : List ℕ → ℕ → ℕ → Arguments → ℕ → RunAnswer
 run_of s k f args budget = run_by s f args budget (answer_of s k)
 
 abbrev pub run_number : RunAnswer → ℕ
-run_number (Ran o n) = 0
-run_number (Refused q n) = number_of q
+run_number (Ok h) = 0
+run_number (Err r) = number_of r.cause
 
 -- ---- a value in two words: its sort, 0 Null, 1 Int, 2 Float, 3 Str, 4 Bool, and 8 more in an Ok, 16 more in an Err; and its payload
 
 abbrev pub folded_in : Plain → Folded
-folded_in Null = fold.Nothing
-folded_in (Const v) = fold.Value v
+folded_in Null = None
+folded_in (Const v) = Some v
 
 abbrev pub plain_in : Folded → Plain
-plain_in fold.Nothing = Null
-plain_in (fold.Value v) = Const v
+plain_in None = Null
+plain_in (Some v) = Const v
 
 abbrev pub content_of : Value → Plain
 content_of (Bare p) = p
-content_of (Ok p) = p
-content_of (Err p) = p
+content_of (val.Ok p) = p
+content_of (val.Err p) = p
 
 abbrev pub wrap_word : Value → ℕ
 wrap_word (Bare p) = 0
-wrap_word (Ok p) = 8
-wrap_word (Err p) = 16
+wrap_word (val.Ok p) = 8
+wrap_word (val.Err p) = 16
 
 abbrev pub value_sort : Value → ℕ
 value_sort v = sort_word_of (folded_in (content_of v)) + wrap_word v
@@ -154,4 +150,4 @@ plain_of_words sort payload = plain_in (words_value sort payload)
 unfoldable pub value_of_words : ℕ → ℕ → Value
 value_of_words sort payload =
     cond (nat_lt sort 8) (Bare (plain_of_words sort payload))
-    (cond (nat_lt sort 16) (Ok (plain_of_words (sort - 8) payload)) (Err (plain_of_words (sort - 16) payload)))
+    (cond (nat_lt sort 16) (val.Ok (plain_of_words (sort - 8) payload)) (val.Err (plain_of_words (sort - 16) payload)))

@@ -1,15 +1,12 @@
 -- The trees that the expressions of an image stand for: a shared record stands for copies. T is the type of texts.
-use Rattle.std.specs.Prelude.{ℕ, zero, suc, ◌+◌, ◌-◌, ◌^◌, Bool, cond, ◌&&◌, List, [], ◌∷◌, ℤ, pos, negsuc, ◌==◌, from_bits, nat_lt}
+use Rattle.std.specs.Prelude.{ℕ, zero, suc, ◌+◌, ◌-◌, ◌^◌, Bool, cond, ◌&&◌, List, [], ◌∷◌, ℤ, pos, negsuc, ◌==◌, from_bits, nat_lt, None, Some}
 use Prim.Native.Char.{code}
 use Prim.Native.String.{String, [] as end, ◌∷◌ as ◌▸◌}
 use Rattle.std.proofs.Math.Option.{Option, none, some}
 use Rattle.std.specs.Float.{binary32, binary64}
 use Rattle.rl_spec.specs.declared.Section.TheVariants.{Expressions}
 use Rattle.rl_spec.specs.declared.ConstVal.TheVariants.{Int, Float, Str, Bool as Truth}
-use Rattle.rl_spec.specs.declared.Folded.{Folded}
-use Rattle.rl_spec.specs.declared.Folded.TheVariants.{Value, Nothing}
-use Rattle.rl_spec.specs.declared.Optional.{Optional}
-use Rattle.rl_spec.specs.declared.Optional.TheVariants.{None, Some}
+use Rattle.rl_spec.specs.Answers.{Folded, Optional}
 use Rattle.rl_spec.specs.declared.Form.{Form}
 use Rattle.rl_spec.specs.declared.Form.TheVariants.{Null, Literal, Identifier, Unary, Binary, Grouping, Assign, OkLiteral, ErrLiteral, IsErr, ResultUnwrap, Other}
 use Rattle.rl_spec.specs.Image.{Field, Rec, Image, first, second, record_of, field_of, entry_of, text_of}
@@ -43,7 +40,7 @@ signed w n = cond (nat_lt n (2 ^ (w - 1))) (pos n) (negsuc (2 ^ w - suc n))
 
 -- a UInt folds where it is an i64
 abbrev pub unsigned : ℕ → Folded
-unsigned n = cond (nat_lt n (2 ^ 63)) (Value (Int (pos n))) Nothing
+unsigned n = cond (nat_lt n (2 ^ 63)) (Some (Int (pos n))) None
 
 -- the number in a field, where field 0 is the span
 abbrev pub number : Rec → ℕ → ℕ
@@ -71,18 +68,18 @@ call_form im path args =
 unfoldable pub form_by : Image → Rec → Form
 form_by im r =
     cond (r.kind == 16) Null
-    (cond (r.kind == 17) (Literal (Value (Int (signed 64 (number r 1)))))
-    (cond (r.kind == 18) (Literal (Value (Int (signed 32 (number r 1)))))
+    (cond (r.kind == 17) (Literal (Some (Int (signed 64 (number r 1)))))
+    (cond (r.kind == 18) (Literal (Some (Int (signed 32 (number r 1)))))
     (cond (r.kind == 19) (Literal (unsigned (number r 1)))
-    (cond (r.kind == 20) (Literal (Value (Int (pos (number r 1)))))
-    (cond (r.kind == 21) (Literal (Value (Int (pos (number r 1)))))
-    (cond (r.kind == 22) (Literal (Value (Int (signed 8 (number r 1)))))
-    (cond (r.kind == 23) (Literal (Value (Int (pos (number r 1)))))
-    (cond (r.kind == 24) (Literal (Value (Int (signed 16 (number r 1)))))
-    (cond (r.kind == 25) (Literal (Value (Str (number r 1))))
-    (cond (r.kind == 26) (Literal (Value (Truth (number r 1 == 1))))
-    (cond (r.kind == 27) (Literal (Value (Float (from_bits binary64 (number r 1)))))
-    (cond (r.kind == 28) (Literal (Value (Float (from_bits binary32 (number r 1)))))
+    (cond (r.kind == 20) (Literal (Some (Int (pos (number r 1)))))
+    (cond (r.kind == 21) (Literal (Some (Int (pos (number r 1)))))
+    (cond (r.kind == 22) (Literal (Some (Int (signed 8 (number r 1)))))
+    (cond (r.kind == 23) (Literal (Some (Int (pos (number r 1)))))
+    (cond (r.kind == 24) (Literal (Some (Int (signed 16 (number r 1)))))
+    (cond (r.kind == 25) (Literal (Some (Str (number r 1))))
+    (cond (r.kind == 26) (Literal (Some (Truth (number r 1 == 1))))
+    (cond (r.kind == 27) (Literal (Some (Float (from_bits binary64 (number r 1)))))
+    (cond (r.kind == 28) (Literal (Some (Float (from_bits binary32 (number r 1)))))
     (cond (r.kind == 30) (Identifier (number r 1))
     (cond (r.kind == 32) (Binary (number r 1) (number r 2) (number r 3))
     (cond (r.kind == 33) (Unary (number r 1) (number r 2))

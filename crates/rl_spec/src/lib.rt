@@ -2,14 +2,14 @@
 #![tactic(auto)]
 
 // The number of an arena, and the number of a node in it: two types, so that neither is taken for the other.
-#[derive(Drop)]
+#[derive(Clone, Copy)]
 pub struct ArenaNo(pub u32);
 
-#[derive(Drop)]
+#[derive(Clone, Copy)]
 pub struct NodeNo(pub u32);
 
 // A node of an arena.
-#[derive(Drop)]
+#[derive(Clone, Copy)]
 pub struct Id {
     pub arena: ArenaNo,
     pub node: NodeNo,
@@ -30,7 +30,7 @@ pub struct Counts {
 }
 
 // Why an argument is refused. `number_of` gives each cause its number.
-#[derive(Drop)]
+#[derive(Clone, Copy)]
 pub enum Cause {
     ImageTooLong,
     WorkTooShort,
@@ -56,11 +56,30 @@ pub enum Cause {
     PagesTooShort,
 }
 
-// What the reader answers.
-#[derive(Drop)]
-pub enum Answer {
-    Accepted { arena: ArenaNo, counts: Counts },
-    Refused { cause: Cause, place: usize },
+// A refusal: its cause, and the place in the image. What answers may refuse is a `Result` with this error.
+#[derive(Clone, Copy)]
+pub struct Refusal {
+    pub cause: Cause,
+    pub place: usize,
+}
+
+// What is refused for an argument other than the image has place 0.
+impl From<Cause> for Refusal {
+    ghost use Rattle.std.specs.Prelude.{◌≡◌};
+    ghost use Rattle.rl_spec.specs.Answers.{at_zero};
+
+    ghost from_gives = { λ cause r. r ≡ at_zero cause };
+
+    fn from(cause: Cause) -> Refusal {
+        Refusal { cause, place: 0 }
+    }
+}
+
+// What the reader finds of an image that it accepts.
+#[derive(Clone, Copy)]
+pub struct Accepted {
+    pub arena: ArenaNo,
+    pub counts: Counts,
 }
 
 // The sections that hold records.
@@ -125,18 +144,11 @@ pub enum Sort {
     Operand,
 }
 
-// What checking a field comes to: the greatest height of a child so far, or why it is refused.
-#[derive(Drop)]
-pub enum Check {
-    Holds { tall: u16 },
-    Fails { cause: Cause },
-}
-
-// What a record, or a run of them, comes to: the next place, or where it is refused.
-#[derive(Drop)]
-pub enum Step {
-    Next { at: usize, tall: u16 },
-    Stop { cause: Cause, place: usize },
+// After a record, or a run of them: the next place, and the greatest height of a child so far.
+#[derive(Clone, Copy)]
+pub struct Next {
+    pub at: usize,
+    pub tall: u16,
 }
 
 // A folded value; a text by its index.
@@ -148,7 +160,7 @@ pub enum ConstVal {
     Bool(bool),
 }
 
-#[derive(Drop)]
+#[derive(Clone, Copy)]
 pub enum RefineOp {
     Gt,
     Ge,
@@ -158,7 +170,7 @@ pub enum RefineOp {
     Ne,
 }
 
-#[derive(Drop)]
+#[derive(Clone, Copy)]
 pub enum ArithOp {
     Plus,
     Minus,
@@ -166,27 +178,12 @@ pub enum ArithOp {
     Slash,
 }
 
-// What an operator on values gives.
-#[derive(Clone, Copy)]
-pub enum Folded {
-    Value(ConstVal),
-    Nothing,
-}
-
-// What a comparison of values says.
-#[derive(Drop)]
-pub enum Verdict {
-    Yes,
-    No,
-    Unknown,
-}
-
 // What an expression is to folding and running; its parts by their indices.
-#[derive(Drop)]
+#[derive(Clone, Copy)]
 pub enum Form {
     Null,
     // what a literal folds to
-    Literal(Folded),
+    Literal(Option<ConstVal>),
     Identifier(u16),
     Unary { operator: u8, operand: u16 },
     Binary { left: u16, operator: u8, right: u16 },
@@ -200,20 +197,6 @@ pub enum Form {
     Other,
 }
 
-// What folding answers.
-#[derive(Drop)]
-pub enum FoldAnswer {
-    Found(Folded),
-    Refused { cause: Cause, place: usize },
-}
-
-// What proving answers: how many reports there are.
-#[derive(Drop)]
-pub enum ProveAnswer {
-    Proved(u32),
-    Refused { cause: Cause, place: usize },
-}
-
 // A contract that a call provably violates: the refinement of a parameter or a requires clause, by its number in the callee's list.
 #[derive(Clone, Copy)]
 pub enum Violation {
@@ -222,7 +205,7 @@ pub enum Violation {
 }
 
 // What a parameter's value is compared with.
-#[derive(Drop)]
+#[derive(Clone, Copy)]
 pub enum RefineOperand {
     Integer(i64),
     Str(u16),
@@ -230,33 +213,23 @@ pub enum RefineOperand {
     Param(u16),
 }
 
-#[derive(Drop)]
-pub enum ParamRefinement {
-    Unrefined,
-    Refined {
-        op: RefineOp,
-        operand: RefineOperand,
-    },
+#[derive(Clone, Copy)]
+pub struct Refinement {
+    pub op: RefineOp,
+    pub operand: RefineOperand,
 }
 
-#[derive(Drop)]
+#[derive(Clone, Copy)]
 pub struct Param {
     pub name: u16,
-    pub refinement: ParamRefinement,
-}
-
-// An index, or none.
-#[derive(Clone, Copy)]
-pub enum Optional {
-    None,
-    Some(u16),
+    pub refinement: Option<Refinement>,
 }
 
 // A clause's nodes.
 #[derive(Clone, Copy)]
 pub struct Clause {
     pub condition: u16,
-    pub message: Optional,
+    pub message: Option<u16>,
 }
 
 // Entries of the lists, or records of a section: the first and the count.
@@ -266,7 +239,7 @@ pub struct Interval {
     pub count: u16,
 }
 
-#[derive(Drop)]
+#[derive(Clone, Copy)]
 pub struct Function {
     pub name: u16,
     pub span: u32,
@@ -277,7 +250,7 @@ pub struct Function {
     pub ensured: Interval,
 }
 
-#[derive(Drop)]
+#[derive(Clone, Copy)]
 pub struct Call {
     pub callee: u16,
     pub span: u32,
@@ -285,14 +258,14 @@ pub struct Call {
 }
 
 // What a record of the section of statements is to the runner; its parts by their indices.
-#[derive(Drop)]
+#[derive(Clone, Copy)]
 pub enum StatementForm {
     Declaration { name: u16, value: u16 },
     Expression(u16),
     Return(u16),
     ReturnAlone,
-    Conditional { branch: u16, other: Optional },
-    Branch { condition: Optional, body: Interval },
+    Conditional { branch: u16, other: Option<u16> },
+    Branch { condition: Option<u16>, body: Interval },
     While { condition: u16, body: Interval },
     Loop(Interval),
     Break,
@@ -336,44 +309,16 @@ pub enum Outcome {
     Spent,
 }
 
-// What the runner answers.
-#[derive(Drop)]
-pub enum RunAnswer {
-    Ran { outcome: Outcome, steps: u32 },
-    Refused { cause: Cause, place: usize },
-}
-
-// What lowering answers: the length of the image written.
-#[derive(Drop)]
-pub enum LowerAnswer {
-    Lowered(u32),
-    Refused { cause: Cause, place: usize },
+// A run: how it ends, and the steps that it uses.
+#[derive(Clone, Copy)]
+pub struct Run {
+    pub outcome: Outcome,
+    pub steps: u32,
 }
 
 // Where a text's bytes are in the image: the first's place, and how many.
-#[derive(Drop)]
+#[derive(Clone, Copy)]
 pub struct TextPart {
     pub start: u32,
     pub length: u32,
-}
-
-// What is answered for a text.
-#[derive(Drop)]
-pub enum TextAnswer {
-    Found(TextPart),
-    Refused { cause: Cause, place: usize },
-}
-
-// What is answered for the message of a report: its length.
-#[derive(Drop)]
-pub enum MessageAnswer {
-    Message(u32),
-    Refused { cause: Cause, place: usize },
-}
-
-// What is answered for the pages: how many bytes are written.
-#[derive(Drop)]
-pub enum PagesAnswer {
-    Written(u32),
-    Refused { cause: Cause, place: usize },
 }

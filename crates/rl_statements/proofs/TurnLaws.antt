@@ -7,7 +7,7 @@ use mathlib.Core.Option.{Option, none, some}
 use native.Mathlib.Omega.{arith}
 use lib.ListN.{length}
 use Rattle.rl_spec.specs.declared.Interval.{Interval}
-use Rattle.rl_spec.specs.declared.Optional.{Optional}
+use Rattle.rl_spec.specs.Answers.{Optional}
 use Rattle.rl_spec.specs.declared.Outcome.TheVariants.{Spent}
 use Rattle.rl_spec.specs.Image.{Image, text_of}
 use Rattle.rl_spec.specs.Tree.{Expr, optional_tree}
@@ -25,7 +25,7 @@ use Rattle.rl_machine.specs.Machine.{result_of, flows, guarded, tested, Room, Lo
 use Rattle.rl_statements.specs.declared.types.Env.{Env}
 use Rattle.rl_statements.specs.declared.types.Waiting.{Waiting}
 use Rattle.rl_statements.specs.declared.types.Turn.{Turn}
-use Rattle.rl_statements.specs.declared.types.Turn.TheVariants.{Again, Finish}
+use Rattle.std.specs.Prelude.{None, Some}
 use Rattle.rl_statements.specs.Bindings.{Held, bounds_in, bounds}
 use Rattle.rl_statements.specs.Lists.{list_left, turn_of, by_turn, loop_rest, turned, list_run, turn_after, BeginsList, Runs, resume, FramesRoom, Stands}
 use Rattle.rl_statements.proofs.BindingLaws.{bounds_left}
@@ -83,19 +83,19 @@ one_more n h = omega (arith, h)
 -- ---- what a turn's end says
 
 abbrev IsAgain : Turn → Type 0
-IsAgain Again = Unit {0}
-IsAgain (Finish g) = ⊥
+IsAgain None = Unit {0}
+IsAgain (Some g) = ⊥
 
 abbrev IsFinish : Turn → Type 0
-IsFinish Again = ⊥
-IsFinish (Finish g) = Unit {0}
+IsFinish None = ⊥
+IsFinish (Some g) = Unit {0}
 
 abbrev finish_of : Turn → Flow
-finish_of Again = Onward
-finish_of (Finish g) = g
+finish_of None = Onward
+finish_of (Some g) = g
 
 module _ (im : Image) (c : Option (Expr ℕ)) (b : Body ℕ) (env : run.Env ℕ) (n : ℕ) where
-  finished : (l : Bool) (f g : Flow) → turn_after l f ≡ Finish g → result_of g env n ≡ turned im l c b (result_of f env n)
+  finished : (l : Bool) (f g : Flow) → turn_after l f ≡ Some g → result_of g env n ≡ turned im l c b (result_of f env n)
   finished false f g e = ap (λ x. result_of x env n) (sym (ap finish_of e))
   finished true Onward g e = absurd (subst IsAgain e tt)
   finished true Breaks g e = ap (λ x. result_of x env n) (sym (ap finish_of e))
@@ -103,7 +103,7 @@ module _ (im : Image) (c : Option (Expr ℕ)) (b : Body ℕ) (env : run.Env ℕ)
   finished true Skipped g e = ap (λ x. result_of x env n) (sym (ap finish_of e))
   finished true (Over o) g e = ap (λ x. result_of x env n) (sym (ap finish_of e))
 
-  goes_on : (l : Bool) (f : Flow) → turn_after l f ≡ Again → flows (loop_rest im c b env n) ≡ turned im l c b (result_of f env n)
+  goes_on : (l : Bool) (f : Flow) → turn_after l f ≡ None → flows (loop_rest im c b env n) ≡ turned im l c b (result_of f env n)
   goes_on false f e = absurd (subst IsFinish e tt)
   goes_on true Onward e = refl
   goes_on true Breaks e = absurd (subst IsFinish e tt)
@@ -111,7 +111,7 @@ module _ (im : Image) (c : Option (Expr ℕ)) (b : Body ℕ) (env : run.Env ℕ)
   goes_on true Skipped e = absurd (subst IsFinish e tt)
   goes_on true (Over o) e = absurd (subst IsFinish e tt)
 
-  is_loop : (l : Bool) (f : Flow) → turn_after l f ≡ Again → l ≡ true
+  is_loop : (l : Bool) (f : Flow) → turn_after l f ≡ None → l ≡ true
   is_loop false f e = absurd (subst IsFinish e tt)
   is_loop true f e = refl
 
@@ -161,7 +161,7 @@ module _ (im : Image) (whole : Result ℕ Flow) (bound : ℕ) (outermost : Bool)
     whole_closed : At e left base done fs top (Ends f) → turned im looping c b (result_of f (bounds (closing e len)) left) ≡ whole
     whole_closed h = ap (λ l. turned im looping c b (result_of f (bounds_in e.slots l) left)) k ∙ ap (turned im looping c b) (closed e base left f) ∙ h.means
 
-    pub list_finished : (g : Flow) → (st₀ : State) → At e left base done fs top st₀ → st₀ ≡ (Ends f) → turn_after looping f ≡ Finish g → (m : Run ℕ Flow) (env : Env)
+    pub list_finished : (g : Flow) → (st₀ : State) → At e left base done fs top st₀ → st₀ ≡ (Ends f) → turn_after looping f ≡ Some g → (m : Run ℕ Flow) (env : Env)
         → whole ≡ m (bounds env) budget → Runs m env budget (record { flow = g; env = closing e len; left = left })
     list_finished g st₀ h₀ e₀ t m env w =
         record {
@@ -173,7 +173,7 @@ module _ (im : Image) (whole : Result ℕ Flow) (bound : ℕ) (outermost : Bool)
         h : At e left base done fs top (Ends f)
         h = subst (λ x. At e left base done fs top x) e₀ h₀
 
-    pub turns_spent : (st₀ : State) → At e left base done fs top st₀ → st₀ ≡ (Ends f) → turn_after looping f ≡ Again → left ≡ 0 → (m : Run ℕ Flow) (env : Env)
+    pub turns_spent : (st₀ : State) → At e left base done fs top st₀ → st₀ ≡ (Ends f) → turn_after looping f ≡ None → left ≡ 0 → (m : Run ℕ Flow) (env : Env)
         → whole ≡ m (bounds env) budget → Runs m env budget (record { flow = Over Spent; env = closing e len; left = left })
     turns_spent st₀ h₀ e₀ t z m env w =
         record {
@@ -190,7 +190,7 @@ module _ (im : Image) (whole : Result ℕ Flow) (bound : ℕ) (outermost : Bool)
         h : At e left base done fs top (Ends f)
         h = subst (λ x. At e left base done fs top x) e₀ h₀
 
-    pub turns_again : (st : State) → (st₀ : State) → At e left base done fs top st₀ → st₀ ≡ (Ends f) → turn_after looping f ≡ Again → (left ≡ 0 → ⊥)
+    pub turns_again : (st : State) → (st₀ : State) → At e left base done fs top st₀ → st₀ ≡ (Ends f) → turn_after looping f ≡ None → (left ≡ 0 → ⊥)
         → ((im : Image) → Means im st (λ base rest k. guarded im (optional_tree im condition) rest)) → ((im : Image) (bound : ℕ) → Low im → Room im bound 0 st) → Low im → At (closing e len) (left - 1) base 0 fs 0 st
     unfolding FramesRoom
     turns_again st st₀ h₀ e₀ t p m r l =

@@ -10,8 +10,8 @@ use types.Run.{OneOf, miss}
 use denote.Enum.Declared.{tag_of}
 use Rattle.rl_spec.specs.declared.Counts.{Counts}
 use Rattle.rl_spec.specs.declared.Interval.{Interval}
-use Rattle.rl_spec.specs.declared.Optional.{Optional}
-use Rattle.rl_spec.specs.declared.Optional.TheVariants.{None, Some}
+use Rattle.rl_spec.specs.Answers.{Optional}
+use Rattle.std.specs.Prelude.{None, Some}
 use Rattle.rl_spec.specs.declared.Outcome.{Outcome}
 use Rattle.rl_spec.specs.declared.StatementForm.{StatementForm}
 use Rattle.rl_spec.specs.declared.StatementForm.TheVariants as form
@@ -34,7 +34,6 @@ use Rattle.rl_statements.specs.declared.types.ElseForm.{ElseForm}
 use Rattle.rl_statements.specs.declared.types.ElseForm.TheVariants as elses
 use Rattle.rl_statements.specs.declared.types.CompoundForm.{CompoundForm}
 use Rattle.rl_statements.specs.declared.types.CompoundForm.TheVariants as compounds
-use Rattle.rl_statements.specs.declared.types.Turn.TheVariants.{Finish}
 use Rattle.rl_statements.specs.Lists as lists
 use Rattle.rl_statements.specs.Lists.{body_left, run_of, statement_run, unskipped, turn_after}
 use Rattle.rl_statements.specs.Views.{branch_of, else_of, compound_of, or_else, BranchIs, ElseIs, CompoundIs}
@@ -280,16 +279,16 @@ not_compound form.Other h = refl
 -- ---- a turn's end
 
 module _ (l : Bool) (f : Flow) where
-  pub turn_breaks : l ≡ true → f ≡ Breaks → Finish Onward ≡ turn_after l f
+  pub turn_breaks : l ≡ true → f ≡ Breaks → Some Onward ≡ turn_after l f
   turn_breaks d e = rw (d, e) refl
 
-  pub turn_skipped : l ≡ true → f ≡ Skipped → Finish Onward ≡ turn_after l f
+  pub turn_skipped : l ≡ true → f ≡ Skipped → Some Onward ≡ turn_after l f
   turn_skipped d e = rw (d, e) refl
 
-  pub turn_over : (o : Outcome) → l ≡ true → f ≡ Over o → Finish (Over o) ≡ turn_after l f
+  pub turn_over : (o : Outcome) → l ≡ true → f ≡ Over o → Some (Over o) ≡ turn_after l f
   turn_over o d e = rw (d, e) refl
 
-  pub turn_list : l ≡ false → Finish f ≡ turn_after l f
+  pub turn_list : l ≡ false → Some f ≡ turn_after l f
   turn_list d = rw d refl
 
 pub not_skipped : (f : Flow) → OneOf (0 ∷ 1 ∷ 2 ∷ 4 ∷ []) (tag_of flow.the_type f) → f ≡ unskipped f

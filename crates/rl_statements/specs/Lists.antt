@@ -1,8 +1,8 @@
 -- What the functions of a run promise: each comes to the run of what its index stands for. Assumes nothing.
-use Rattle.std.specs.Prelude.{ℕ, zero, suc, ◌+◌, ◌-◌, ◌*◌, ◌≤◌, ◌≡◌, Bool, true, false, List, map, length, get_or}
+use Rattle.std.specs.Prelude.{ℕ, zero, suc, ◌+◌, ◌-◌, ◌*◌, ◌≤◌, ◌≡◌, Bool, true, false, List, map, length, get_or, None, Some}
 use Rattle.std.proofs.Math.Option.{Option, none, some}
 use Rattle.rl_spec.specs.declared.Interval.{Interval}
-use Rattle.rl_spec.specs.declared.Optional.{Optional}
+use Rattle.rl_spec.specs.Answers.{Optional}
 use Rattle.rl_spec.specs.Image.{Image, entry_of, text_of}
 use Rattle.rl_spec.specs.Tree.{Expr, optional_tree}
 use Rattle.rl_spec.specs.Statement.{Body, nil, ◌▸◌, Branch, branch, as_statement, as_branch, body_from, else_by, item_tree}
@@ -21,7 +21,6 @@ use Rattle.rl_statements.specs.declared.types.Env.{Env}
 use Rattle.rl_statements.specs.declared.types.Ran.{Ran}
 use Rattle.rl_statements.specs.declared.types.Waiting.{Waiting}
 use Rattle.rl_statements.specs.declared.types.Turn.{Turn}
-use Rattle.rl_statements.specs.declared.types.Turn.TheVariants.{Again, Finish}
 use Rattle.rl_statements.specs.Bindings.{Held, bounds}
 
 -- ---- the statements of a list
@@ -98,12 +97,12 @@ unskipped (Over o) = Over o
 
 -- after a turn: another one, or the end
 abbrev pub turn_after : Bool → Flow → Turn
-turn_after false f = Finish f
-turn_after true Onward = Again
-turn_after true Breaks = Finish Onward
-turn_after true Continues = Again
-turn_after true Skipped = Finish Onward
-turn_after true (Over o) = Finish (Over o)
+turn_after false f = Some f
+turn_after true Onward = None
+turn_after true Breaks = Some Onward
+turn_after true Continues = None
+turn_after true Skipped = Some Onward
+turn_after true (Over o) = Some (Over o)
 
 -- ---- the promises
 

@@ -13,7 +13,7 @@ use Rattle.rl_spec.specs.declared.Counts.{Counts}
 use Rattle.rl_spec.specs.declared.Section.TheVariants.{Statements}
 use Rattle.rl_spec.specs.declared.Sort.{Sort}
 use Rattle.rl_spec.specs.Schema.{sort_of, width_of, fields_of}
-use Rattle.rl_spec.specs.declared.Optional.{Optional}
+use Rattle.rl_spec.specs.Answers.{Optional}
 use Rattle.rl_spec.specs.Ranges.{optional_field}
 use Rattle.rl_spec.specs.Image.{Field, num, record_of, first, field_in, fields_at}
 use Rattle.rl_spec.specs.Found.{record_as, record_found, image_found}

@@ -14,8 +14,8 @@ use Rattle.rl_spec.specs.declared.Counts.{Counts}
 use Rattle.rl_spec.specs.declared.Clause.{Clause}
 use Rattle.rl_spec.specs.declared.Target.TheVariants.{ElseBranch, Arm}
 use Rattle.rl_spec.specs.declared.Interval.{Interval}
-use Rattle.rl_spec.specs.declared.Optional.{Optional}
-use Rattle.rl_spec.specs.declared.Optional.TheVariants.{None, Some}
+use Rattle.rl_spec.specs.Answers.{Optional}
+use Rattle.std.specs.Prelude.{None, Some}
 use Rattle.rl_spec.specs.declared.Section.TheVariants.{Lists, Statements}
 use Rattle.rl_spec.specs.Bytes.{u16_at}
 use Rattle.rl_spec.specs.Schema.{sort_of, schema, fields_in, fields_of}

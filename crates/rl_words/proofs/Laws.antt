@@ -17,8 +17,8 @@ use mir.Facts.{to_z-of_z}
 use borrow.Author.Tests.{lt-ltb, le-ltb, ltb-true, ne_eqb}
 use Rattle.rl_spec.specs.declared.ConstVal.{ConstVal}
 use Rattle.rl_spec.specs.declared.ConstVal.TheVariants as kind
-use Rattle.rl_spec.specs.declared.Folded.{Folded}
-use Rattle.rl_spec.specs.declared.Folded.TheVariants.{Value, Nothing}
+use Rattle.rl_spec.specs.Answers.{Folded}
+use Rattle.std.specs.Prelude.{None, Some}
 use Rattle.rl_spec.specs.Tree.{signed}
 use Rattle.rl_spec.specs.Words.{bits64, payload_word_of, sort_word_of, words_value}
 use Rattle.rl_values.proofs.Laws.{never, nan_no}
@@ -83,21 +83,21 @@ module _ (x : Float) where
 -- ---- a value's words
 
 module _ (v : Folded) where
-  pub none_payload : v ≡ Nothing → 0 ≡ payload_word_of v
+  pub none_payload : v ≡ None → 0 ≡ payload_word_of v
   none_payload e = rw e refl
 
-  pub none_back : v ≡ Nothing → words_value (sort_word_of v) 0 ≡ v
+  pub none_back : v ≡ None → words_value (sort_word_of v) 0 ≡ v
   unfolding words_value
   none_back e = rw e refl
 
-  module _ (w : ConstVal) (e : v ≡ Value w) where
+  module _ (w : ConstVal) (e : v ≡ Some w) where
     module _ (x : ℤ) (f : w ≡ kind.Int x) (g : SFits w64 x) (r : ℕ) where
       pub int_payload : r ≡ bits64 (read x) → r ≡ payload_word_of v
       int_payload h = rw (e, f) (h ∙ ap bits64 (to_z-of_z g))
 
       pub int_back : signed 64 r ≡ read x → words_value (sort_word_of v) r ≡ v
       unfolding words_value
-      int_back h = rw (e, f) (ap (λ (z : ℤ). Value (kind.Int z)) (h ∙ to_z-of_z g))
+      int_back h = rw (e, f) (ap (λ (z : ℤ). Some (kind.Int z)) (h ∙ to_z-of_z g))
 
     module _ (x : Float) (f : w ≡ kind.Float x) (r : ℕ) where
       pub float_payload : r ≡ to_bits binary64 x → r ≡ payload_word_of v
@@ -105,7 +105,7 @@ module _ (v : Folded) where
 
       pub float_back : of_bits binary64 r ≡ x → words_value (sort_word_of v) r ≡ v
       unfolding words_value
-      float_back h = rw (e, f) (ap (λ (z : Float). Value (kind.Float z)) h)
+      float_back h = rw (e, f) (ap (λ (z : Float). Some (kind.Float z)) h)
 
     module _ (t : ℕ) (f : w ≡ kind.Str t) where
       pub str_payload : t ≡ payload_word_of v
@@ -113,7 +113,7 @@ module _ (v : Folded) where
 
       pub str_back : Fits w16 t → words_value (sort_word_of v) t ≡ v
       unfolding words_value
-      str_back h = let p : min t 65535 ≡ t = omega (arith, h.fits) in rw (e, f) (ap (λ n. Value (kind.Str n)) p)
+      str_back h = let p : min t 65535 ≡ t = omega (arith, h.fits) in rw (e, f) (ap (λ n. Some (kind.Str n)) p)
 
     module _ (b : Bool) (f : w ≡ kind.Bool b) where
       pub true_payload : b ≡ true → 1 ≡ payload_word_of v
@@ -131,22 +131,22 @@ module _ (v : Folded) where
       false_back g = rw (e, f, g) refl
 
 module _ (sort payload : ℕ) where
-  pub value_int : sort ≡ 1 → (x : ℤ) → x ≡ signed 64 payload → Value (kind.Int x) ≡ words_value sort payload
+  pub value_int : sort ≡ 1 → (x : ℤ) → x ≡ signed 64 payload → Some (kind.Int x) ≡ words_value sort payload
   unfolding words_value
   value_int e x f = rw (e, f) refl
 
-  pub value_float : sort ≡ 2 → (x : Float) → x ≡ of_bits binary64 payload → Value (kind.Float x) ≡ words_value sort payload
+  pub value_float : sort ≡ 2 → (x : Float) → x ≡ of_bits binary64 payload → Some (kind.Float x) ≡ words_value sort payload
   unfolding words_value
   value_float e x f = rw (e, f) refl
 
-  pub value_str : sort ≡ 3 → (t : ℕ) → t ≡ min payload 65535 → Value (kind.Str t) ≡ words_value sort payload
+  pub value_str : sort ≡ 3 → (t : ℕ) → t ≡ min payload 65535 → Some (kind.Str t) ≡ words_value sort payload
   unfolding words_value
   value_str e t f = rw (e, f) refl
 
-  pub value_bool : sort ≡ 4 → Value (kind.Bool (eqb payload 1)) ≡ words_value sort payload
+  pub value_bool : sort ≡ 4 → Some (kind.Bool (eqb payload 1)) ≡ words_value sort payload
   unfolding words_value
   value_bool e = rw e refl
 
-  pub value_none : (sort ≡ 1 → ⊥) → (sort ≡ 2 → ⊥) → (sort ≡ 3 → ⊥) → (sort ≡ 4 → ⊥) → Nothing ≡ words_value sort payload
+  pub value_none : (sort ≡ 1 → ⊥) → (sort ≡ 2 → ⊥) → (sort ≡ 3 → ⊥) → (sort ≡ 4 → ⊥) → None ≡ words_value sort payload
   unfolding words_value
   value_none a b c d = rw (ne_eqb sort 1 a, ne_eqb sort 2 b, ne_eqb sort 3 c, ne_eqb sort 4 d) refl

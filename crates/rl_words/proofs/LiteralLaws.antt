@@ -14,7 +14,7 @@ use mir.Val.{to_z, of_z, SFits}
 use mir.Facts.{to_z-of_z, to_z_pos}
 use borrow.Author.Tests.{lt-ltb, le-ltb}
 use Rattle.rl_spec.specs.declared.ConstVal.TheVariants.{Int}
-use Rattle.rl_spec.specs.declared.Folded.TheVariants.{Value, Nothing}
+use Rattle.std.specs.Prelude.{None, Some}
 use Rattle.rl_spec.specs.Tree.{signed, unsigned}
 use Rattle.rl_values.proofs.Sums.{moved}
 
@@ -29,11 +29,11 @@ module _ (n : ℕ) where
     pub low64 : to_z w64 n ≡ signed 64 n
     low64 = to_z_pos w64 h ∙ rw (lt-ltb n 9223372036854775808 h) refl
 
-    pub unsigned_is : Value (Int (to_z w64 n)) ≡ unsigned n
+    pub unsigned_is : Some (Int (to_z w64 n)) ≡ unsigned n
     unsigned_is = rw (to_z_pos w64 h, lt-ltb n 9223372036854775808 h) refl
 
   module _ (h : 9223372036854775808 ≤ n) where
-    pub unsigned_none : Nothing ≡ unsigned n
+    pub unsigned_none : None ≡ unsigned n
     unsigned_none = rw (le-ltb n 9223372036854775808 h) refl
 
     high : negsuc 0 -ℤ to_z w64 (18446744073709551615 - n) ≡ negsuc (18446744073709551615 - n)

@@ -3,7 +3,7 @@
 -- Assumes nothing.
 use Prim.Native.Nat.{ℕ, ◌+◌, ◌-◌, ◌≤◌, ◌<◌}
 use Rattle.std.proofs.Math.Path.{◌≡◌}
-use Rattle.std.specs.Prelude.{refl, Bool, true, false, cond, ◌↔◌, ltb, drop, replicate}
+use Rattle.std.specs.Prelude.{refl, Bool, true, false, cond, ◌↔◌, ltb, drop, replicate, Ok, Err}
 use Rattle.std.proofs.Common.{sym, arith, ltb-false}
 use mathlib.Core.List.{List, [], ◌∷◌, ◌++◌}
 use Rattle.std.proofs.Math.ListN.{length}
@@ -13,11 +13,9 @@ use Rattle.rl_spec.specs.declared.ArenaNo.{ArenaNo}
 use Rattle.rl_spec.specs.declared.Counts.{Counts}
 use Rattle.rl_spec.specs.declared.Cause.{Cause}
 use Rattle.rl_spec.specs.declared.Cause.TheVariants.{ImageTooLong, WorkTooShort, BytesEnd}
-use Rattle.rl_spec.specs.declared.Answer.TheVariants.{Accepted}
+use Rattle.rl_spec.specs.Answers.{accepted, Step}
 use Rattle.rl_spec.specs.declared.Section.{Section}
 use Rattle.rl_spec.specs.declared.Section.TheVariants.{Texts, Lists, Expressions, Statements, Parameters, Clauses, Functions, Calls}
-use Rattle.rl_spec.specs.declared.Step.{Step}
-use Rattle.rl_spec.specs.declared.Step.TheVariants.{Next, Stop}
 use Rattle.rl_spec.specs.Bytes.{past}
 use Rattle.rl_spec.specs.Schema.{text_bytes_at, sections, count_of}
 use Rattle.rl_spec.specs.Read.{after, counts_of, header_of, Out, good, bad, records_from, and_then, sections_from, end_of, body_of, most_starts, read_of, answer_by, answer_of, work_of}
@@ -98,21 +96,21 @@ module _ (s : List ℕ) (bytes : AllBytes s) {p : List ℕ} (r : Reads s p) (kno
 
 -- what acceptance says of the tests before the sections
 module _ (s : List ℕ) (a : ArenaNo) (c : Counts) where
-  not_refused : (b : Bool) (q : Cause) (n : ℕ) (x : Out) → answer_by s (cond b (bad q n) x) ≡ Accepted a c → (b ≡ false) × (answer_by s x ≡ Accepted a c)
+  not_refused : (b : Bool) (q : Cause) (n : ℕ) (x : Out) → answer_by s (cond b (bad q n) x) ≡ accepted a c → (b ≡ false) × (answer_by s x ≡ accepted a c)
   not_refused true q n x e = let z : ◌≡◌ {A = ℕ} 0 1 = cc in absurd (omega arith)
   not_refused false q n x e = (refl, e)
 
-  header_passed : (r : Step) (x : Out) → answer_by s (after r (λ a tall. x) bad) ≡ Accepted a c → answer_by s x ≡ Accepted a c
-  header_passed (Next n t) x e = e
-  header_passed (Stop q n) x e = let z : ◌≡◌ {A = ℕ} 0 1 = cc in absurd (omega arith)
+  header_passed : (r : Step) (x : Out) → answer_by s (after r (λ a tall. x) bad) ≡ accepted a c → answer_by s x ≡ accepted a c
+  header_passed (Ok s) x e = e
+  header_passed (Err r) x e = let z : ◌≡◌ {A = ℕ} 0 1 = cc in absurd (omega arith)
 
-  sections_passed : (x : Out) → answer_by s (end_of s x) ≡ Accepted a c → (m : ℕ) × (v : List ℕ) × (q : List ℕ) × (x ≡ good m v q)
+  sections_passed : (x : Out) → answer_by s (end_of s x) ≡ accepted a c → (m : ℕ) × (v : List ℕ) × (q : List ℕ) × (x ≡ good m v q)
   unfolding end_of
   sections_passed (good m v q) e = (m, v, q, refl)
   sections_passed (bad q n) e = let z : ◌≡◌ {A = ℕ} 0 1 = cc in absurd (omega arith)
 
-module _ (s : List ℕ) (k : ℕ) (a : ArenaNo) (c : Counts) (e : answer_of s k ≡ Accepted a c) where
-  work_passed : (8192 ≤ k) × (answer_by s (after (header_of s) (λ a tall. body_of s (counts_of s) (replicate k 0) (replicate most_starts 0)) bad) ≡ Accepted a c)
+module _ (s : List ℕ) (k : ℕ) (a : ArenaNo) (c : Counts) (e : answer_of s k ≡ accepted a c) where
+  work_passed : (8192 ≤ k) × (answer_by s (after (header_of s) (λ a tall. body_of s (counts_of s) (replicate k 0) (replicate most_starts 0)) bad) ≡ accepted a c)
   unfolding answer_of read_of
   work_passed =
       let q = not_refused s a c (ltb k 8192) WorkTooShort 0 _ (not_refused s a c (ltb 65535 (length s)) ImageTooLong 0 _ e).1 in
@@ -127,7 +125,7 @@ module _ (s : List ℕ) (k : ℕ) (a : ArenaNo) (c : Counts) (e : answer_of s k 
       let f = header_passed s a c (header_of s) (body_of s (counts_of s) (replicate k 0) (replicate most_starts 0)) work_passed.1 in
       sections_passed s a c _ (not_refused s a c (past s text_bytes_at (counts_of s).bytes) BytesEnd text_bytes_at _ f).1
 
-module _ (s : List ℕ) (k : ℕ) (a : ArenaNo) (c : Counts) (bytes : AllBytes s) (e : answer_of s k ≡ Accepted a c) where
+module _ (s : List ℕ) (k : ℕ) (a : ArenaNo) (c : Counts) (bytes : AllBytes s) (e : answer_of s k ≡ accepted a c) where
   -- THEOREM: accepted bytes stand for a well-formed image
   pub accepted_well_formed : WellFormed (image_of s)
   accepted_well_formed =
@@ -151,7 +149,7 @@ module _ (s : List ℕ) (k : ℕ) (a : ArenaNo) (c : Counts) (bytes : AllBytes s
 
 -- accepted, with a work slice of k entries
 abbrev pub IsAccepted : List ℕ → ℕ → Type 0
-IsAccepted s k = (a : ArenaNo) × (c : Counts) × (answer_of s k ≡ Accepted a c)
+IsAccepted s k = (a : ArenaNo) × (c : Counts) × (answer_of s k ≡ accepted a c)
 
 -- the bytes of a well-formed image
 abbrev pub IsEncoding : List ℕ → Type 0

@@ -5,7 +5,7 @@ use Rattle.std.proofs.Math.Path.{refl}
 use Rattle.std.proofs.Common.{sym, ap, ◌∙◌, arith, take-append-drop, length-append, length-drop, length-take-le}
 use Rattle.rl_spec.specs.declared.ArenaNo.{ArenaNo}
 use Rattle.rl_spec.specs.declared.Counts.{Counts}
-use Rattle.rl_spec.specs.declared.Answer.TheVariants.{Accepted}
+use Rattle.rl_spec.specs.Answers.{accepted}
 use Rattle.rl_spec.specs.declared.Section.{Section}
 use Rattle.rl_spec.specs.declared.Section.TheVariants.{Texts, Lists, Expressions, Statements, Parameters, Clauses, Functions, Calls}
 use Rattle.rl_spec.specs.Bytes.{u16_at}
@@ -126,7 +126,7 @@ entry_is s im k at d e =
     let f : u16_at s (at + 1) ≡ first (field_of (record_in s at) 0) = rw d (u16_number s (at + 1)) in
     f ∙ ap (λ (x : Rec). first (field_of x 0)) e
 
-module _ (s : List ℕ) (k : ℕ) (a : ArenaNo) (c : Counts) (e : answer_of s k ≡ Accepted a c) where
+module _ (s : List ℕ) (k : ℕ) (a : ArenaNo) (c : Counts) (e : answer_of s k ≡ accepted a c) where
   entry_stands : (i : ℕ) → i < c.lists → u16_at s (lists_at c + i * 3 + 1) ≡ entry_of (image_of s) i
   entry_stands i l =
       let at : ℕ = lists_at c + i * 3 in

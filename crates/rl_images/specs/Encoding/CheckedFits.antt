@@ -1,7 +1,7 @@
 -- A record that the reader goes past fits, once the reader knows what came before it.
 -- Assumes nothing.
 use Prim.Native.Nat.{ℕ, zero, suc, ◌+◌, ◌-◌, ◌%◌, ◌^◌, ◌≤◌, ◌<◌, max}
-use Rattle.std.specs.Prelude.{◌≡◌, Bool, ◌||◌, ◌⊎◌, ltb, leb, take, drop}
+use Rattle.std.specs.Prelude.{◌≡◌, Bool, ◌||◌, ◌⊎◌, ltb, leb, take, drop, Ok, Err}
 use Rattle.std.proofs.Math.Path.{refl}
 use Rattle.std.proofs.Common.{ap, subst}
 use Rattle.std.proofs.Math.Bool.{true, false, cond}
@@ -22,10 +22,7 @@ use Rattle.rl_spec.specs.declared.Target.{Target}
 use Rattle.rl_spec.specs.declared.Target.TheVariants.{Text}
 use Rattle.rl_spec.specs.declared.Sort.{Sort}
 use Rattle.rl_spec.specs.declared.Sort.TheVariants.{Raw, Byte, Scalar, Part, One, Maybe, Many, Range, OperandSort, Operand}
-use Rattle.rl_spec.specs.declared.Check.{Check}
-use Rattle.rl_spec.specs.declared.Check.TheVariants.{Holds, Fails}
-use Rattle.rl_spec.specs.declared.Step.{Step}
-use Rattle.rl_spec.specs.declared.Step.TheVariants.{Next, Stop}
+use Rattle.rl_spec.specs.Answers.{Check, goes_on, refused, Step}
 use Rattle.rl_spec.specs.Bytes.{num_at, u16_at, u32_at, past}
 use Rattle.rl_spec.specs.Schema.{text_bytes_at, count_of, in_section, tallest, operand_sort, sort_of, width_of, fields_of}
 use Rattle.rl_spec.specs.Utf8.{utf8, is_scalar}
@@ -38,18 +35,20 @@ use Rattle.rl_images.specs.Encoding.FieldChecks.{Ready}
 use Rattle.rl_images.specs.Encoding.RecordChecks.{fields_good}
 use Rattle.rl_images.specs.Reading.Decode.{byte_below, pair_width}
 use Rattle.rl_images.specs.Reading.Tall.{holds_true, holds_false}
+use Rattle.rl_laws.specs.AnswerLaws.{same_step}
+use Rattle.std.proofs.Common.{sym, ◌∙◌}
 
 -- ---- a check that holds
 
-byte_fits : (low high b tall t : ℕ) → byte_in low high b tall ≡ Holds t → (low ≤ b) × (b ≤ high)
+byte_fits : (low high b tall t : ℕ) → byte_in low high b tall ≡ Ok t → (low ≤ b) × (b ≤ high)
 unfolding byte_in
 byte_fits low high b tall t e =
-    let q = holds_false (ltb b low) (cond (leb b high) (Holds tall) (Fails BadValue)) BadValue t e in
-    (ltb-false b low q.0, leb-true b high (holds_true (leb b high) (Holds tall) BadValue t q.1).0)
+    let q = holds_false (ltb b low) (cond (leb b high) (Ok tall) (Err BadValue)) BadValue t e in
+    (ltb-false b low q.0, leb-true b high (holds_true (leb b high) (Ok tall) BadValue t q.1).0)
 
-sort_fits : (before b tall t : ℕ) → operand_sort_of before b tall ≡ Holds t → SortFits before b
+sort_fits : (before b tall t : ℕ) → operand_sort_of before b tall ≡ Ok t → SortFits before b
 unfolding operand_sort_of
-sort_fits zero b tall t e = eqb-true b 0 (holds_true (eqb b 0) (Holds tall) BadValue t e).0
+sort_fits zero b tall t e = eqb-true b 0 (holds_true (eqb b 0) (Ok tall) BadValue t e).0
 sort_fits (suc before) b tall t e = byte_fits 1 4 b tall t (rw (ne_eqb (suc before) 0 (λ d. omega arith)) at e)
 
 sort_most : (before x : ℕ) → SortFits before x → x ≤ 4
@@ -62,24 +61,24 @@ both_true false b e = absurd (false≢true e)
 
 -- ---- a step that goes on
 
-checked_next : (r : Check) (at a x : ℕ) (f : ℕ → Step) → checked r at f ≡ Next a x → (t : ℕ) × (r ≡ Holds t) × (f t ≡ Next a x)
-checked_next (Holds t) at a x f e = (t, refl, e)
-checked_next (Fails c) at a x f e = let z : ◌≡◌ {A = ℕ} 0 1 = cc in absurd (omega arith)
+checked_next : (r : Check) (at a x : ℕ) (f : ℕ → Step) → checked r at f ≡ goes_on a x → (t : ℕ) × (r ≡ Ok t) × (f t ≡ goes_on a x)
+checked_next (Ok t) at a x f e = (t, refl, e)
+checked_next (Err c) at a x f e = let z : ◌≡◌ {A = ℕ} 0 1 = cc in absurd (omega arith)
 
-next_true : (b : Bool) (r : Step) (c : Cause) (n a x : ℕ) → cond b r (Stop c n) ≡ Next a x → (b ≡ true) × (r ≡ Next a x)
+next_true : (b : Bool) (r : Step) (c : Cause) (n a x : ℕ) → cond b r (refused c n) ≡ goes_on a x → (b ≡ true) × (r ≡ goes_on a x)
 next_true true r c n a x e = (refl, e)
 next_true false r c n a x e = let z : ◌≡◌ {A = ℕ} 0 1 = cc in absurd (omega arith)
 
-next_false : (b : Bool) (r : Step) (c : Cause) (n a x : ℕ) → cond b (Stop c n) r ≡ Next a x → r ≡ Next a x
+next_false : (b : Bool) (r : Step) (c : Cause) (n a x : ℕ) → cond b (refused c n) r ≡ goes_on a x → r ≡ goes_on a x
 next_false true r c n a x e = let z : ◌≡◌ {A = ℕ} 0 1 = cc in absurd (omega arith)
 next_false false r c n a x e = e
 
-height_next : (o : Section) (at a x : ℕ) (r : Step) → height_step o at r ≡ Next a x → (y : ℕ) × (r ≡ Next a y) × (y < tallest o)
-height_next o at a x (Next b y) e =
-    let q = next_true (ltb y (tallest o)) (Next b (y + 1)) TooHigh at a x e in
-    let d : b ≡ a = cc in
-    (y, ap (λ (n : ℕ). Next n y) d, ltb-true y (tallest o) q.0)
-height_next o at a x (Stop c n) e = let z : ◌≡◌ {A = ℕ} 0 1 = cc in absurd (omega arith)
+height_next : (o : Section) (at a x : ℕ) (r : Step) → height_step o at r ≡ goes_on a x → (y : ℕ) × (r ≡ goes_on a y) × (y < tallest o)
+height_next o at a x (Ok s) e =
+    let q = next_true (ltb s.tall (tallest o)) (goes_on s.at (s.tall + 1)) TooHigh at a x e in
+    let d : s.at ≡ a = (same_step q.1).0 in
+    (s.tall, ap (λ (n : ℕ). goes_on n s.tall) d, ltb-true s.tall (tallest o) q.0)
+height_next o at a x (Err r) e = let z : ◌≡◌ {A = ℕ} 0 1 = cc in absurd (omega arith)
 
 -- ---- numbers
 
@@ -125,26 +124,26 @@ module _ (s : List ℕ) where
 module _ (im : Image) (s w p : List ℕ) (bytes : AllBytes s) (seen : Counts) (o : Section) (i : ℕ) (h : List ℕ) (ready : Ready im s w p seen o i h) where
   -- ---- references
 
-  refer_fits : (t : Target) (n tall x : ℕ) → refers o t ≡ true → refer_to s w p seen o t n tall ≡ Holds x → Refers im o i t n
+  refer_fits : (t : Target) (n tall x : ℕ) → refers o t ≡ true → refer_to s w p seen o t n tall ≡ Ok x → Refers im o i t n
   unfolding refer_to
   refer_fits t n tall x u e = ready.refer t n u (holds_true (allowed s p seen t n) _ BadReference x e).0
 
-  maybe_fits : (t : Target) (n tall x : ℕ) → refers o t ≡ true → refer_or_none s w p seen o t n tall ≡ Holds x → (n ≡ 65535) ⊎ Refers im o i t n
+  maybe_fits : (t : Target) (n tall x : ℕ) → refers o t ≡ true → refer_or_none s w p seen o t n tall ≡ Ok x → (n ≡ 65535) ⊎ Refers im o i t n
   unfolding refer_or_none
   maybe_fits t n tall x u e = go (eqb n 65535) refl e
     where
-      go : (b : Bool) → eqb n 65535 ≡ b → cond b (Holds tall) (refer_to s w p seen o t n tall) ≡ Holds x → (n ≡ 65535) ⊎ Refers im o i t n
+      go : (b : Bool) → eqb n 65535 ≡ b → cond b (Ok tall) (refer_to s w p seen o t n tall) ≡ Ok x → (n ≡ 65535) ⊎ Refers im o i t n
       go true d e = inl (eqb-true n 65535 d)
       go false d e = inr (refer_fits t n tall x u e)
 
-  entries_fit : (n k : ℕ) (l r : Target) (tall x : ℕ) → refers o l ≡ true → refers o r ≡ true → k + n ≤ size_of im Lists → entries_from s w p seen o n k l r tall ≡ Holds x → Entries im o i n k l r
+  entries_fit : (n k : ℕ) (l r : Target) (tall x : ℕ) → refers o l ≡ true → refers o r ≡ true → k + n ≤ size_of im Lists → entries_from s w p seen o n k l r tall ≡ Ok x → Entries im o i n k l r
   unfolding entries_from
   entries_fit zero k l r tall x u v q e = tt
   entries_fit (suc n) k l r tall x u v q e =
       let d = holds_true (allowed s p seen l (entry_at s seen k)) _ BadReference x e in
       (ready.refer l (entry_of im k) u (rw (ready.entry k (omega arith)) at d.0), entries_fit n (k + 1) r l _ x v u (omega arith) d.1)
 
-  list_fits : {before : ℕ} (a n : ℕ) (l r : Target) (m tall x : ℕ) → refers o l ≡ true → refers o r ≡ true → list_of s w p seen o a n l r m tall ≡ Holds x → FieldFits im o i before (Many l r m) (pair a n)
+  list_fits : {before : ℕ} (a n : ℕ) (l r : Target) (m tall x : ℕ) → refers o l ≡ true → refers o r ≡ true → list_of s w p seen o a n l r m tall ≡ Ok x → FieldFits im o i before (Many l r m) (pair a n)
   unfolding list_of
   list_fits a n l r m tall x u v e =
       let d = holds_false (ltb seen.lists (a + n)) _ BadReference x e in
@@ -152,21 +151,21 @@ module _ (im : Image) (s w p : List ℕ) (bytes : AllBytes s) (seen : Counts) (o
       let q : a + n ≤ size_of im Lists = rw ready.lists at (ltb-false seen.lists (a + n) d.0) in
       a_list q (eqb-true (n % m) 0 f.0) (entries_fit n a l r tall x u v q f.1)
 
-  range_fits : (q : Section) (a n tall x : ℕ) → ltb 3 (order_of o) ≡ true → range_of seen a n q tall ≡ Holds x → a + n ≤ size_of im q
+  range_fits : (q : Section) (a n tall x : ℕ) → ltb 3 (order_of o) ≡ true → range_of seen a n q tall ≡ Ok x → a + n ≤ size_of im q
   unfolding range_of
   range_fits q a n tall x u e =
-      rw (ready.ranges q u) at (leb-true (a + n) (count_of seen q) (holds_true (leb (a + n) (count_of seen q)) (Holds tall) BadReference x e).0)
+      rw (ready.ranges q u) at (leb-true (a + n) (count_of seen q) (holds_true (leb (a + n) (count_of seen q)) (Ok tall) BadReference x e).0)
 
   -- ---- texts and operands
 
-  part_fits : {before : ℕ} (a n tall x : ℕ) → part_of s seen a n tall ≡ Holds x → FieldFits im o i before Part (pair a n)
+  part_fits : {before : ℕ} (a n tall x : ℕ) → part_of s seen a n tall ≡ Ok x → FieldFits im o i before Part (pair a n)
   unfolding part_of
   part_fits a n tall x e =
       let d = holds_false (ltb seen.bytes (a + n)) _ BadText x e in
       let q : a + n ≤ length im.bytes = rw ready.bytes at (ltb-false seen.bytes (a + n) d.0) in
-      a_part q (rw (piece ready.text a n q) at (holds_true (utf8 (take n (drop (text_bytes_at + a) s))) (Holds tall) BadText x d.1).0)
+      a_part q (rw (piece ready.text a n q) at (holds_true (utf8 (take n (drop (text_bytes_at + a) s))) (Ok tall) BadText x d.1).0)
 
-  text_fits : (at tall x : ℕ) → cond (zeros s (at + 2) 6) (refer_to s w p seen o Text (u16_at s at) tall) (Fails BadValue) ≡ Holds x → num_at s at 8 < size_of im Texts
+  text_fits : (at tall x : ℕ) → cond (zeros s (at + 2) 6) (refer_to s w p seen o Text (u16_at s at) tall) (Err BadValue) ≡ Ok x → num_at s at 8 < size_of im Texts
   unfolding refer_to allowed
   text_fits at tall x e =
       let n : ℕ = u16_at s at in
@@ -174,24 +173,24 @@ module _ (im : Image) (s w p : List ℕ) (bytes : AllBytes s) (seen : Counts) (o
       let f = holds_true (allowed s p seen Text n) _ BadReference x d.1 in
       rw (two_number s at d.0, ← ready.texts) (ltb-true n seen.texts (both_true (ltb n seen.texts) true f.0).0)
 
-  operand_fits : (before at tall x : ℕ) → before ≤ 4 → operand_of s w p seen o before at tall ≡ Holds x → OperandFits im before (num_at s at 8)
+  operand_fits : (before at tall x : ℕ) → before ≤ 4 → operand_of s w p seen o before at tall ≡ Ok x → OperandFits im before (num_at s at 8)
   unfolding operand_of
-  operand_fits zero at tall x m e = zeros_number s 8 at (holds_true (zeros s at 8) (Holds tall) BadValue x e).0
+  operand_fits zero at tall x m e = zeros_number s 8 at (holds_true (zeros s at 8) (Ok tall) BadValue x e).0
   operand_fits (suc zero) at tall x m e = number_below s bytes 8 at
   operand_fits (suc (suc zero)) at tall x m e = text_fits at tall x e
   operand_fits (suc (suc (suc zero))) at tall x m e =
-      let d = both_true (leb (get_or s at 0) 1) (zeros s (at + 1) 7) (holds_true _ (Holds tall) BadValue x e).0 in
+      let d = both_true (leb (get_or s at 0) 1) (zeros s (at + 1) 7) (holds_true _ (Ok tall) BadValue x e).0 in
       rw (one_number s at d.1) (leb-true (get_or s at 0) 1 d.0)
   operand_fits (suc (suc (suc (suc zero)))) at tall x m e = text_fits at tall x e
   operand_fits (suc (suc (suc (suc (suc n))))) at tall x m e = absurd (omega arith)
 
   -- ---- a field; `before` is the byte before an operand's sort and before an operand
 
-  value_fits : (narrow sorted : Bool) (before at tall x : ℕ) (k : Sort) → suits o narrow k ≡ true → is_narrow k || suits o sorted k ≡ true → (narrow ≡ true → get_or s (at - 1) 0 ≡ before) → (sorted ≡ true → before ≤ 4) → value_of s w p seen o k at tall ≡ Holds x → FieldFits im o i before k (field_in s k at)
+  value_fits : (narrow sorted : Bool) (before at tall x : ℕ) (k : Sort) → suits o narrow k ≡ true → is_narrow k || suits o sorted k ≡ true → (narrow ≡ true → get_or s (at - 1) 0 ≡ before) → (sorted ≡ true → before ≤ 4) → value_of s w p seen o k at tall ≡ Ok x → FieldFits im o i before k (field_in s k at)
   unfolding value_of
   value_fits narrow sorted before at tall x (Raw n) u v b m e = a_raw (number_below s bytes n at)
   value_fits narrow sorted before at tall x (Byte low high) u v b m e = let d = byte_fits low high (get_or s at 0) tall x e in rw (← byte_number s at) (a_byte d.0 d.1)
-  value_fits narrow sorted before at tall x Scalar u v b m e = rw (← u32_number s at) (a_scalar (holds_true (is_scalar (u32_at s at)) (Holds tall) BadValue x e).0)
+  value_fits narrow sorted before at tall x Scalar u v b m e = rw (← u32_number s at) (a_scalar (holds_true (is_scalar (u32_at s at)) (Ok tall) BadValue x e).0)
   value_fits narrow sorted before at tall x Part u v b m e = part_fits (u16_at s at) (u16_at s (at + 2)) tall x e
   value_fits narrow sorted before at tall x (One t) u v b m e = rw (← u16_number s at) (a_reference (refer_fits t (u16_at s at) tall x u e))
   value_fits narrow sorted before at tall x (Maybe t) u v b m e = rw (← u16_number s at) (an_option (maybe_fits t (u16_at s at) tall x u e))
@@ -209,7 +208,7 @@ module _ (im : Image) (s w p : List ℕ) (bytes : AllBytes s) (seen : Counts) (o
       go : {f : Field} → FieldFits im o i before OperandSort f → first f ≤ 4
       go (a_sort {x} h) = sort_most before x h
 
-  fields_fit : (narrow sorted : Bool) (before at tall a x : ℕ) (cs : List ℕ) → all_suit o narrow cs ≡ true → in_turn o sorted cs ≡ true → (narrow ≡ true → get_or s (at - 1) 0 ≡ before) → (sorted ≡ true → before ≤ 4) → fields_from s w p seen o cs at tall ≡ Next a x → FieldsFit im o i before (map sort_of cs) (fields_at s cs at)
+  fields_fit : (narrow sorted : Bool) (before at tall a x : ℕ) (cs : List ℕ) → all_suit o narrow cs ≡ true → in_turn o sorted cs ≡ true → (narrow ≡ true → get_or s (at - 1) 0 ≡ before) → (sorted ≡ true → before ≤ 4) → fields_from s w p seen o cs at tall ≡ goes_on a x → FieldsFit im o i before (map sort_of cs) (fields_at s cs at)
   unfolding fields_from field_at fields_at
   fields_fit narrow sorted before at tall a x [] u v b m e = no_fields
   fields_fit narrow sorted before at tall a x (c ∷ cs) u v b m e =
@@ -222,7 +221,7 @@ module _ (im : Image) (s w p : List ℕ) (bytes : AllBytes s) (seen : Counts) (o
 
   -- ---- the record, h being the heights of the section's earlier ones
 
-  read_fits : Bounded im → i ≤ 4096 → (at a x : ℕ) → BytesAt s at (encode_record (record_in s at)) → get_or (heights im o) i 0 ≡ tallest_child im o h (fields_of (record_in s at).kind) (record_in s at).fields + 1 → record_at s w p seen o at ≡ Next a x → RecordFits im o i (record_in s at)
+  read_fits : Bounded im → i ≤ 4096 → (at a x : ℕ) → BytesAt s at (encode_record (record_in s at)) → get_or (heights im o) i 0 ≡ tallest_child im o h (fields_of (record_in s at).kind) (record_in s at).fields + 1 → record_at s w p seen o at ≡ goes_on a x → RecordFits im o i (record_in s at)
   unfolding record_in record_at
   read_fits bounded short at a x st e n =
       let g : ℕ = get_or s at 0 in
@@ -233,8 +232,8 @@ module _ (im : Image) (s w p : List ℕ) (bytes : AllBytes s) (seen : Counts) (o
       let f = fields_fit false false 0 (at + 1) 0 a y.0 cs u (schema_turns o g q.0) (λ d. absurd (false≢true d)) (λ d. absurd (false≢true d)) y.1 in
       let z = all_sized im bounded o i short false cs u f in
       let d = fields_good im bounded s w p seen o i h short ready false (at + 1) 0 cs u (λ d. absurd (false≢true d)) f z (fields_stand (record_in s at) st) in
-      let m : y.0 ≡ max 0 (tallest_child im o h cs (fields_at s cs (at + 1))) = cc in
+      let m : y.0 ≡ max 0 (tallest_child im o h cs (fields_at s cs (at + 1))) = (same_step (sym y.1 ∙ d)).1 in
       record { kind = q.0; fields = f; height = omega (arith, y.2) }
 
-  pub record_fits : Bounded im → i ≤ 4096 → (r : Rec) (at a x : ℕ) → record_in s at ≡ r → BytesAt s at (encode_record r) → get_or (heights im o) i 0 ≡ tallest_child im o h (fields_of r.kind) r.fields + 1 → record_at s w p seen o at ≡ Next a x → RecordFits im o i r
+  pub record_fits : Bounded im → i ≤ 4096 → (r : Rec) (at a x : ℕ) → record_in s at ≡ r → BytesAt s at (encode_record r) → get_or (heights im o) i 0 ≡ tallest_child im o h (fields_of r.kind) r.fields + 1 → record_at s w p seen o at ≡ goes_on a x → RecordFits im o i r
   record_fits bounded short r at a x found st e n = rw found at (read_fits bounded short at a x (rw found st) (rw found e) n)

@@ -7,7 +7,7 @@ use Rattle.std.proofs.Math.ListN.{length-replicate}
 use Rattle.std.proofs.Math.Seq.{take-length}
 use borrow.Author.Tests.{le-ltb}
 use Rattle.rl_spec.specs.declared.Counts.{Counts}
-use Rattle.rl_spec.specs.declared.Answer.TheVariants.{Accepted}
+use Rattle.rl_spec.specs.Answers.{accepted}
 use Rattle.rl_spec.specs.declared.Section.{Section}
 use Rattle.rl_spec.specs.declared.Section.TheVariants.{Texts, Lists, Expressions, Statements, Parameters, Clauses, Functions, Calls}
 use Rattle.rl_spec.specs.Schema.{text_bytes_at, sections}
@@ -43,7 +43,7 @@ unfolding heights
 heights_all im o = length_heights im o (records_of im o) [] ∙ zero-add (size_of im o)
 
 -- THE THEOREMS
-pub encoded_accepted : (im : Image) (k : ℕ) → WellFormed im → 8192 ≤ k → answer_of (encode im) k ≡ Accepted (record { 0 = im.arena }) (record {
+pub encoded_accepted : (im : Image) (k : ℕ) → WellFormed im → 8192 ≤ k → answer_of (encode im) k ≡ accepted (record { 0 = im.arena }) (record {
   bytes = length im.bytes;
   texts = size_of im Texts;
   lists = size_of im Lists;

@@ -1,7 +1,7 @@
 -- The reader's checks hold for a field whose value fits, once the reader knows what came before it.
 -- Assumes nothing.
 use Prim.Native.Nat.{ℕ, zero, suc, ◌+◌, ◌-◌, ◌/◌, ◌%◌, ◌≤◌, ◌<◌, max}
-use Rattle.std.specs.Prelude.{◌≡◌, Bool, true, cond, List, ◌⊎◌, ltb, eqb, length, take, drop}
+use Rattle.std.specs.Prelude.{◌≡◌, Bool, true, cond, List, ◌⊎◌, ltb, eqb, length, take, drop, Ok, Err}
 use Rattle.std.proofs.Math.Path.{refl, ap}
 use Rattle.std.proofs.Common.{sym, ◌∙◌, inl, inr}
 use native.Mathlib.Omega.{arith}
@@ -14,8 +14,7 @@ use Rattle.rl_spec.specs.declared.Section.TheVariants.{Texts, Lists, Expressions
 use Rattle.rl_spec.specs.declared.Target.{Target}
 use Rattle.rl_spec.specs.declared.Target.TheVariants.{Text}
 use Rattle.rl_spec.specs.declared.Sort.{Sort}
-use Rattle.rl_spec.specs.declared.Check.{Check}
-use Rattle.rl_spec.specs.declared.Check.TheVariants.{Holds, Fails}
+use Rattle.rl_spec.specs.Answers.{Check}
 use Rattle.rl_spec.specs.Bytes.{u16_at}
 use Rattle.rl_spec.specs.Schema.{text_bytes_at, count_of}
 use Rattle.rl_spec.specs.Utf8.{utf8}
@@ -37,10 +36,10 @@ pub record Ready (im : Image) (s w p : List ℕ) (seen : Counts) (o : Section) (
   pub refer : (t : Target) (n : ℕ) → refers o t ≡ true → allowed s p seen t n ≡ true → Refers im o i t n
   pub child : (t : Target) (n : ℕ) → refers o t ≡ true → Refers im o i t n → child_height w seen o t n ≡ height_of im o h t n
 
-same : (tall : ℕ) → Holds tall ≡ Holds (max tall 0)
+same : (tall : ℕ) → ◌≡◌ {A = Check} (Ok tall) (Ok (max tall 0))
 same tall = let e : max tall 0 ≡ tall = omega arith in rw e
 
-byte_good : (low high b tall : ℕ) → low ≤ b → b ≤ high → byte_in low high b tall ≡ Holds tall
+byte_good : (low high b tall : ℕ) → low ≤ b → b ≤ high → byte_in low high b tall ≡ Ok tall
 unfolding byte_in
 byte_good low high b tall p q = rw (le-ltb b low p, le-leb b high q)
 
@@ -56,7 +55,7 @@ no_text_height w seen Clauses n = refl
 no_text_height w seen Functions n = refl
 no_text_height w seen Calls n = refl
 
-sort_good : (before b tall : ℕ) → SortFits before b → operand_sort_of before b tall ≡ Holds tall
+sort_good : (before b tall : ℕ) → SortFits before b → operand_sort_of before b tall ≡ Ok tall
 unfolding operand_sort_of
 sort_good zero b tall h = rw (eq-eqb b 0 h)
 sort_good (suc before) b tall h = rw (ne_eqb (suc before) 0 (λ e. omega arith)) (byte_good 1 4 b tall h.0 h.1)
@@ -64,16 +63,16 @@ sort_good (suc before) b tall h = rw (ne_eqb (suc before) 0 (λ e. omega arith))
 module _ (im : Image) (bounded : Bounded im) (s w p : List ℕ) (seen : Counts) (o : Section) (i : ℕ) (h : List ℕ) (short : i ≤ 4096) (ready : Ready im s w p seen o i h) where
   -- ---- references
 
-  refer_good : (t : Target) (n tall : ℕ) → refers o t ≡ true → Refers im o i t n → refer_to s w p seen o t n tall ≡ Holds (max tall (height_of im o h t n))
+  refer_good : (t : Target) (n tall : ℕ) → refers o t ≡ true → Refers im o i t n → refer_to s w p seen o t n tall ≡ Ok (max tall (height_of im o h t n))
   unfolding refer_to
   refer_good t n tall u r = rw (ready.found t n u r, ready.child t n u r)
 
-  maybe_good : (t : Target) (n tall : ℕ) → refers o t ≡ true → (n ≡ 65535) ⊎ Refers im o i t n → refer_or_none s w p seen o t n tall ≡ Holds (max tall (cond (eqb n 65535) 0 (height_of im o h t n)))
+  maybe_good : (t : Target) (n tall : ℕ) → refers o t ≡ true → (n ≡ 65535) ⊎ Refers im o i t n → refer_or_none s w p seen o t n tall ≡ Ok (max tall (cond (eqb n 65535) 0 (height_of im o h t n)))
   unfolding refer_or_none
   maybe_good t n tall u (inl e) = rw (eq-eqb n 65535 e) (same tall)
   maybe_good t n tall u (inr r) = rw (ne_eqb n 65535 (λ e. omega (arith, reference_small im bounded o i short t n r))) (refer_good t n tall u r)
 
-  entries_good : (n k : ℕ) (l r : Target) (tall : ℕ) → refers o l ≡ true → refers o r ≡ true → k + n ≤ size_of im Lists → Entries im o i n k l r → entries_from s w p seen o n k l r tall ≡ Holds (max tall (tallest_entry im o h n k l r))
+  entries_good : (n k : ℕ) (l r : Target) (tall : ℕ) → refers o l ≡ true → refers o r ≡ true → k + n ≤ size_of im Lists → Entries im o i n k l r → entries_from s w p seen o n k l r tall ≡ Ok (max tall (tallest_entry im o h n k l r))
   unfolding entries_from tallest_entry
   entries_good zero k l r tall u v q es = same tall
   entries_good (suc n) k l r tall u v q es =
@@ -82,21 +81,21 @@ module _ (im : Image) (bounded : Bounded im) (s w p : List ℕ) (seen : Counts) 
       let e : entry_at s seen k ≡ x = ready.entry k (omega arith) in
       let z : max (max tall y) (tallest_entry im o h n (k + 1) r l) ≡ max tall (max y (tallest_entry im o h n (k + 1) r l)) = omega arith in
       rw (e, ready.found l x u es.0, ready.child l x u es.0)
-      (entries_good n (k + 1) r l (max tall y) v u (omega arith) es.1 ∙ ap Holds z)
+      (entries_good n (k + 1) r l (max tall y) v u (omega arith) es.1 ∙ ap Ok z)
 
-  list_good : (a n : ℕ) (l r : Target) (m tall : ℕ) → refers o l ≡ true → refers o r ≡ true → a + n ≤ size_of im Lists → n % m ≡ 0 → Entries im o i n a l r → list_of s w p seen o a n l r m tall ≡ Holds (max tall (tallest_entry im o h n a l r))
+  list_good : (a n : ℕ) (l r : Target) (m tall : ℕ) → refers o l ≡ true → refers o r ≡ true → a + n ≤ size_of im Lists → n % m ≡ 0 → Entries im o i n a l r → list_of s w p seen o a n l r m tall ≡ Ok (max tall (tallest_entry im o h n a l r))
   unfolding list_of
   list_good a n l r m tall u v q e es =
       let d : a + n ≤ seen.lists = rw ready.lists q in
       rw (le-ltb seen.lists (a + n) d, eq-eqb (n % m) 0 e) (entries_good n a l r tall u v q es)
 
-  range_good : (q : Section) (a n tall : ℕ) → ltb 3 (order_of o) ≡ true → a + n ≤ size_of im q → range_of seen a n q tall ≡ Holds tall
+  range_good : (q : Section) (a n tall : ℕ) → ltb 3 (order_of o) ≡ true → a + n ≤ size_of im q → range_of seen a n q tall ≡ Ok tall
   unfolding range_of
   range_good q a n tall u d = rw (ready.ranges q u, le-leb (a + n) (size_of im q) d)
 
   -- ---- texts and operands
 
-  part_good : (a n tall : ℕ) → a + n ≤ length im.bytes → utf8 (take n (drop a im.bytes)) ≡ true → part_of s seen a n tall ≡ Holds tall
+  part_good : (a n tall : ℕ) → a + n ≤ length im.bytes → utf8 (take n (drop a im.bytes)) ≡ true → part_of s seen a n tall ≡ Ok tall
   unfolding part_of
   part_good a n tall d e =
       let f : a + n ≤ seen.bytes = rw ready.bytes d in
@@ -106,11 +105,11 @@ module _ (im : Image) (bounded : Bounded im) (s w p : List ℕ) (seen : Counts) 
   unfolding allowed
   texts_found n q = rw (ready.texts, lt-ltb n (size_of im Texts) q)
 
-  text_operand : (n tall : ℕ) → n < size_of im Texts → refer_to s w p seen o Text n tall ≡ Holds tall
+  text_operand : (n tall : ℕ) → n < size_of im Texts → refer_to s w p seen o Text n tall ≡ Ok tall
   unfolding refer_to
   text_operand n tall q = rw (texts_found n q, no_text_height w seen o n) (sym (same tall))
 
-  text_good : (at x tall : ℕ) → x < size_of im Texts → BytesAt s at (bytes_of 8 x) → (e : Check) → cond (zeros s (at + 2) 6) (refer_to s w p seen o Text (u16_at s at) tall) e ≡ Holds tall
+  text_good : (at x tall : ℕ) → x < size_of im Texts → BytesAt s at (bytes_of 8 x) → (e : Check) → cond (zeros s (at + 2) 6) (refer_to s w p seen o Text (u16_at s at) tall) e ≡ Ok tall
   unfolding bytes_of
   text_good at x tall f st e =
       let q : x < 65536 = omega (arith, bounded.sizes Texts) in
@@ -119,22 +118,22 @@ module _ (im : Image) (bounded : Bounded im) (s w p : List ℕ) (seen : Counts) 
       let high : BytesAt s (at + 2) (bytes_of 6 0) = rw none at (right (bytes_of 2 x) (bytes_of 6 (x / 256 / 256)) st) in
       rw (zeros_stand 6 high, u16_stands x q low) (text_operand x tall f)
 
-  operand_good : (before at x tall : ℕ) → OperandFits im before x → BytesAt s at (bytes_of 8 x) → operand_of s w p seen o before at tall ≡ Holds tall
+  operand_good : (before at x tall : ℕ) → OperandFits im before x → BytesAt s at (bytes_of 8 x) → operand_of s w p seen o before at tall ≡ Ok tall
   unfolding operand_of bytes_of
   operand_good zero at x tall f st = rw (zeros_stand 8 (rw f at st))
   operand_good (suc zero) at x tall f st = refl
-  operand_good (suc (suc zero)) at x tall f st = text_good at x tall f st (Fails BadValue)
+  operand_good (suc (suc zero)) at x tall f st = text_good at x tall f st (Err BadValue)
   operand_good (suc (suc (suc zero))) at x tall f st =
       let none : x / 256 ≡ 0 = omega arith in
       let low : get_or s at 0 ≤ 1 = omega (arith, head st) in
       let high : BytesAt s (at + 1) (bytes_of 7 0) = rw none at (tail st) in
       rw (le-leb (get_or s at 0) 1 low, zeros_stand 7 high)
-  operand_good (suc (suc (suc (suc zero)))) at x tall f st = text_good at x tall f st (Fails BadValue)
+  operand_good (suc (suc (suc (suc zero)))) at x tall f st = text_good at x tall f st (Err BadValue)
   operand_good (suc (suc (suc (suc (suc n))))) at x tall f st = absurd f
 
   -- ---- a field; `before` is the byte before an operand's sort and before an operand
 
-  pub value_good : {before : ℕ} {k : Sort} {f : Field} (narrow : Bool) (at tall : ℕ) → suits o narrow k ≡ true → (narrow ≡ true → get_or s (at - 1) 0 ≡ before) → FieldFits im o i before k f → Sized k f → BytesAt s at (encode_field k f) → value_of s w p seen o k at tall ≡ Holds (max tall (tallest_in im o h k f))
+  pub value_good : {before : ℕ} {k : Sort} {f : Field} (narrow : Bool) (at tall : ℕ) → suits o narrow k ≡ true → (narrow ≡ true → get_or s (at - 1) 0 ≡ before) → FieldFits im o i before k f → Sized k f → BytesAt s at (encode_field k f) → value_of s w p seen o k at tall ≡ Ok (max tall (tallest_in im o h k f))
   unfolding value_of
   value_good narrow at tall u b (a_raw d) z st = same tall
   value_good narrow at tall u b (a_byte {low} {high} {x} d e) z st = rw (byte_number s at, number 1 x z.1 st) (byte_good low high x tall d e ∙ same tall)

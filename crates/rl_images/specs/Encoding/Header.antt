@@ -11,7 +11,7 @@ use Rattle.std.proofs.lemmas.List.{length-map}
 use borrow.Author.Tests.{le-ltb, leb-true}
 use Rattle.rl_spec.specs.declared.Section.{Section}
 use Rattle.rl_spec.specs.declared.Section.TheVariants.{Texts, Lists, Expressions, Statements, Parameters, Clauses, Functions, Calls}
-use Rattle.rl_spec.specs.declared.Step.TheVariants.{Next}
+use Rattle.rl_spec.specs.Answers.{goes_on}
 use Rattle.rl_spec.specs.Bytes.{u16_at, u32_at}
 use Rattle.rl_spec.specs.Schema.{limits, text_bytes_at, sections}
 use Rattle.rl_spec.specs.Read.{counts_of, counts_from, header_of, most_starts}
@@ -102,7 +102,7 @@ module _ {s : List ℕ} where
       let e : at + suc j * 2 ≡ at + 2 + j * 2 = omega arith in
       rw e (twos_at {at = at + 2} ns (rw length_bytes at (right (bytes_of 2 n) (twos ns) st)) j b (omega arith))
 
-  counts_good : {at : ℕ} (ns ms : List ℕ) → AllWithin ns ms → under 65535 ms ≡ true → BytesAt s at (twos ns) → counts_from s ms at ≡ Next (at + length ns * 2) 0
+  counts_good : {at : ℕ} (ns ms : List ℕ) → AllWithin ns ms → under 65535 ms ≡ true → BytesAt s at (twos ns) → counts_from s ms at ≡ goes_on (at + length ns * 2) 0
   unfolding counts_from
   counts_good {at} [] [] w u st = let e : at + 0 ≡ at = omega arith in rw e
   counts_good [] (m ∷ ms) w u st = absurd w
@@ -169,7 +169,7 @@ module _ (im : Image) (wf : WellFormed im) where
   size_at : (o : Section) → order_of o < 8 → u16_at (encode im) (5 + suc (order_of o) * 2) ≡ size_of im o
   size_at o l = count_at (suc (order_of o)) (omega arith) ∙ get_or-map length im.records (order_of o) []
 
-  pub header_good : header_of (encode im) ≡ Next text_bytes_at 0
+  pub header_good : header_of (encode im) ≡ goes_on text_bytes_at 0
   unfolding header_of limits
   header_good =
       let kind : BytesAt (encode im) 0 (1 ∷ []) = left (1 ∷ []) _ whole_stands in

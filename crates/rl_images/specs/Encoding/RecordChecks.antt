@@ -12,7 +12,7 @@ use borrow.Author.Tests.{lt-ltb, eqb-true}
 use Rattle.rl_spec.specs.declared.Counts.{Counts}
 use Rattle.rl_spec.specs.declared.Section.{Section}
 use Rattle.rl_spec.specs.declared.Sort.{Sort}
-use Rattle.rl_spec.specs.declared.Step.TheVariants.{Next}
+use Rattle.rl_spec.specs.Answers.{goes_on}
 use Rattle.rl_spec.specs.Schema.{tallest, sort_of, width_of, fields_of}
 use Rattle.rl_spec.specs.Fields.{field_at, fields_from, record_at}
 use Rattle.rl_spec.specs.Image.{Field, num, pair, Rec, Image, first, encode_field, encode_fields, encode_record, widths_of, tallest_in, tallest_child, FieldsFit, no_fields, ◌&◌, RecordFits}
@@ -29,11 +29,11 @@ last_byte {s} {at} k (num x) z st n =
     rw (a, byte_number s at) (number 1 x (rw e at z.1) (rw e at st))
 last_byte k (pair a b) z st n = absurd (omega (arith, eqb-true (width_of k) 1 n))
 
-next : {a b x y : ℕ} → a ≡ b → x ≡ y → Next a x ≡ Next b y
+next : {a b x y : ℕ} → a ≡ b → x ≡ y → goes_on a x ≡ goes_on b y
 next d e = cc
 
 module _ (im : Image) (bounded : Bounded im) (s w p : List ℕ) (seen : Counts) (o : Section) (i : ℕ) (h : List ℕ) (short : i ≤ 4096) (ready : Ready im s w p seen o i h) where
-  pub fields_good : {before : ℕ} {fs : List Field} (narrow : Bool) (at tall : ℕ) (cs : List ℕ) → all_suit o narrow cs ≡ true → (narrow ≡ true → get_or s (at - 1) 0 ≡ before) → FieldsFit im o i before (map sort_of cs) fs → AllSized cs fs → BytesAt s at (encode_fields cs fs) → fields_from s w p seen o cs at tall ≡ Next (at + widths_of cs) (max tall (tallest_child im o h cs fs))
+  pub fields_good : {before : ℕ} {fs : List Field} (narrow : Bool) (at tall : ℕ) (cs : List ℕ) → all_suit o narrow cs ≡ true → (narrow ≡ true → get_or s (at - 1) 0 ≡ before) → FieldsFit im o i before (map sort_of cs) fs → AllSized cs fs → BytesAt s at (encode_fields cs fs) → fields_from s w p seen o cs at tall ≡ goes_on (at + widths_of cs) (max tall (tallest_child im o h cs fs))
   unfolding fields_from field_at encode_fields widths_of tallest_child
   fields_good narrow at tall [] u b no_fields z st = next (omega arith) (omega arith)
   fields_good narrow at tall (c ∷ cs) u b (◌&◌ {f = f} {fs = fs} d ds) z st =
@@ -46,7 +46,7 @@ module _ (im : Image) (bounded : Bounded im) (s w p : List ℕ) (seen : Counts) 
       ∙ next (omega arith) (omega arith))
 
   module _ (r : Rec) (fits : RecordFits im o i r) where
-    pub record_good : (at : ℕ) → BytesAt s at (encode_record r) → tallest_child im o h (fields_of r.kind) r.fields + 1 ≤ tallest o → record_at s w p seen o at ≡ Next (at + length (encode_record r)) (tallest_child im o h (fields_of r.kind) r.fields + 1)
+    pub record_good : (at : ℕ) → BytesAt s at (encode_record r) → tallest_child im o h (fields_of r.kind) r.fields + 1 ≤ tallest o → record_at s w p seen o at ≡ goes_on (at + length (encode_record r)) (tallest_child im o h (fields_of r.kind) r.fields + 1)
     unfolding record_at encode_record
     record_good at st q =
         let cs : List ℕ = fields_of r.kind in

@@ -1,7 +1,7 @@
 -- The reader's loop over the records of a section: those that fit are read, and those that are read fit.
 -- Assumes nothing.
 use Prim.Native.Nat.{ℕ, zero, suc, ◌+◌, ◌≤◌, ◌<◌}
-use Rattle.std.specs.Prelude.{◌≡◌, get_or, set}
+use Rattle.std.specs.Prelude.{◌≡◌, get_or, set, Ok, Err}
 use Rattle.std.proofs.Math.Path.{refl, ap}
 use Rattle.std.proofs.Common.{ap₂, ◌∙◌, add-one, drop-cons}
 use mathlib.Core.List.{List, [], ◌∷◌, ◌++◌, append_assoc, append-nil}
@@ -12,8 +12,7 @@ use Rattle.std.proofs.lemmas.List.Edits.{sets}
 use Rattle.rl_spec.specs.declared.Counts.{Counts}
 use Rattle.rl_spec.specs.declared.Section.{Section}
 use Rattle.rl_spec.specs.declared.Section.TheVariants.{Texts, Lists, Expressions, Statements, Parameters, Clauses, Functions, Calls}
-use Rattle.rl_spec.specs.declared.Step.{Step}
-use Rattle.rl_spec.specs.declared.Step.TheVariants.{Next, Stop}
+use Rattle.rl_spec.specs.Answers.{Step, goes_on}
 use Rattle.rl_spec.specs.Schema.{tallest, fields_of}
 use Rattle.rl_spec.specs.Fields.{record_at}
 use Rattle.rl_spec.specs.Read.{after, Out, good, bad, seen_by, keep, records_from}
@@ -106,9 +105,9 @@ starts_kind {s = s} {at = at} (r ∷ rs) st (suc n) p = starts_kind {at = at + l
 -- ---- the loop
 
 -- reading that ends well has gone past each record
-after_good : (r : Step) (f : ℕ → ℕ → Out) (m : ℕ) (v q : List ℕ) → after r f bad ≡ good m v q → (a : ℕ) × (t : ℕ) × (r ≡ Next a t)
-after_good (Next a t) f m v q e = (a, t, refl)
-after_good (Stop c n) f m v q e = let z : ◌≡◌ {A = ℕ} 0 1 = cc in absurd (omega arith)
+after_good : (r : Step) (f : ℕ → ℕ → Out) (m : ℕ) (v q : List ℕ) → after r f bad ≡ good m v q → (a : ℕ) × (t : ℕ) × (r ≡ goes_on a t)
+after_good (Ok s) f m v q e = (s.at, s.tall, refl)
+after_good (Err r) f m v q e = let z : ◌≡◌ {A = ℕ} 0 1 = cc in absurd (omega arith)
 
 -- the reader is ready at each record of a section, h being the heights and q the starts of the earlier ones
 abbrev pub AlwaysReady : Image → List ℕ → Counts → Section → List ℕ → List ℕ → Type 0

@@ -11,7 +11,7 @@ use Rattle.std.proofs.Math.ListN.{length, length-append, get_or-eq_default}
 use Rattle.std.proofs.lemmas.List.{get_or_at}
 use Rattle.rl_spec.specs.declared.ArenaNo.{ArenaNo}
 use Rattle.rl_spec.specs.declared.Counts.{Counts}
-use Rattle.rl_spec.specs.declared.Answer.TheVariants.{Accepted}
+use Rattle.rl_spec.specs.Answers.{accepted}
 use Rattle.rl_spec.specs.declared.Form.{Form}
 use Rattle.rl_spec.specs.declared.Form.TheVariants.{IsErr, ResultUnwrap, Other}
 use Rattle.rl_spec.specs.declared.Section.{Section}
@@ -181,5 +181,5 @@ module _ (im : Image) (wf : WellFormed im) where
       (λ l. rw (tree_missing i l) (omega arith))
 
 -- THEOREM: so are the trees of the image that accepted bytes, their starts and their counts give
-pub found_low : (s : List ℕ) (k : ℕ) (a : ArenaNo) (c : Counts) → AllBytes s → answer_of s k ≡ Accepted a c → (i : ℕ) → expr_height (expr_tree (image_found s (starts_of s k) c) i) ≤ 68
+pub found_low : (s : List ℕ) (k : ℕ) (a : ArenaNo) (c : Counts) → AllBytes s → answer_of s k ≡ accepted a c → (i : ℕ) → expr_height (expr_tree (image_found s (starts_of s k) c) i) ≤ 68
 found_low s k a c bytes e i = rw (found_is_image s k a c e) (trees_low (image_of s) (accepted_well_formed s k a c bytes e) i)

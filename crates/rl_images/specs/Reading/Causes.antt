@@ -1,7 +1,7 @@
 -- What reading one record comes to: it is by the record's rows.
 -- Assumes nothing.
 use Prim.Native.Nat.{ℕ, zero, suc, ◌+◌, ◌-◌, ◌%◌, ◌≤◌, ◌<◌, max}
-use Rattle.std.specs.Prelude.{◌≡◌, Bool, ◌⊎◌, ◌≢◌, leb, eqb, take, drop}
+use Rattle.std.specs.Prelude.{◌≡◌, Bool, ◌⊎◌, ◌≢◌, leb, eqb, take, drop, Ok, Err}
 use Rattle.std.proofs.Math.Path.{refl, subst}
 use Rattle.std.proofs.Common.{sym, ◌∙◌}
 use Rattle.std.proofs.Math.Bool.{true, false, cond}
@@ -21,10 +21,7 @@ use Rattle.rl_spec.specs.declared.Target.{Target}
 use Rattle.rl_spec.specs.declared.Target.TheVariants.{Text}
 use Rattle.rl_spec.specs.declared.Sort.{Sort}
 use Rattle.rl_spec.specs.declared.Sort.TheVariants.{Raw, Byte, Scalar, Part, One, Maybe, Many, Range, OperandSort, Operand}
-use Rattle.rl_spec.specs.declared.Check.{Check}
-use Rattle.rl_spec.specs.declared.Check.TheVariants.{Holds, Fails}
-use Rattle.rl_spec.specs.declared.Step.{Step}
-use Rattle.rl_spec.specs.declared.Step.TheVariants.{Next, Stop}
+use Rattle.rl_spec.specs.Answers.{Check, goes_on, refused, Step}
 use Rattle.rl_spec.specs.Bytes.{u16_at, u32_at, past}
 use Rattle.rl_spec.specs.Schema.{text_bytes_at, count_of, lowest, highest, in_section, tallest, sort_of, width_of, fields_of}
 use Rattle.rl_spec.specs.Utf8.{utf8, is_scalar}
@@ -37,13 +34,13 @@ use Rattle.rl_images.specs.Reading.Tall.{field_tall_lem}
 -- ---- a check is by its rows, which are all at n
 
 data CheckBy (t : List Row) (n : ℕ) : Check → Type 0 where
-  holds : {tall : ℕ} → Unmet t → CheckBy t n (Holds tall)
-  fails : {c : Cause} → First t c n → CheckBy t n (Fails c)
+  holds : {tall : ℕ} → Unmet t → CheckBy t n (Ok tall)
+  fails : {c : Cause} → First t c n → CheckBy t n (Err c)
 
-wrong : {c : Cause} {n : ℕ} {P : Type 0} {t : List Row} → P → CheckBy (row c n P ∷ t) n (Fails c)
+wrong : {c : Cause} {n : ℕ} {P : Type 0} {t : List Row} → P → CheckBy (row c n P ∷ t) n (Err c)
 wrong h = fails (inl (h, refl, refl))
 
-right : {c : Cause} {n tall : ℕ} {P : Type 0} → (P → ⊥) → CheckBy (row c n P ∷ []) n (Holds tall)
+right : {c : Cause} {n tall : ℕ} {P : Type 0} → (P → ⊥) → CheckBy (row c n P ∷ []) n (Ok tall)
 right h = holds (h, tt)
 
 skips : {r : Row} {t : List Row} {n : ℕ} {x : Check} → (r.holds → ⊥) → CheckBy t n x → CheckBy (r ∷ t) n x
@@ -244,11 +241,11 @@ module _ (s w p : List ℕ) (seen : Counts) (own : Section) where
       (λ e. skips (λ (h : length s < at + width_of o). omega (arith, ltb-false (length s) (at + width_of o) e, h)) (value_to o at tall))
 
   -- the fields
-  fields_by : (os : List ℕ) (at tall : ℕ) → By Stop (fields_rows s p seen os at) (Next (at + widths_of os) (max tall (fields_tall s w seen own os at))) (fields_from s w p seen own os at tall)
+  fields_by : (os : List ℕ) (at tall : ℕ) → By refused (fields_rows s p seen os at) (goes_on (at + widths_of os) (max tall (fields_tall s w seen own os at))) (fields_from s w p seen own os at tall)
   unfolding fields_from fields_rows widths_of fields_tall
   fields_by [] at tall =
       let e : tall ≡ max tall 0 = omega arith in
-      subst (λ i. By Stop [] (Next i (max tall 0)) (Next at tall)) (sym (add-zero at)) (subst (λ t. By Stop [] (Next at t) (Next at tall)) e (accepts tt))
+      subst (λ i. By refused [] (goes_on i (max tall 0)) (goes_on at tall)) (sym (add-zero at)) (subst (λ t. By refused [] (goes_on at t) (goes_on at tall)) e (accepts tt))
   fields_by (o ∷ os) at tall = go (field_at s w p seen own (sort_of o) at tall) refl (field_to (sort_of o) at tall) (fields_by os next)
     where
       next : ℕ
@@ -260,16 +257,16 @@ module _ (s w p : List ℕ) (seen : Counts) (own : Section) where
       most : ℕ
       most = max (field_tall s w seen own (sort_of o) at) (fields_tall s w seen own os next)
 
-      go : (r : Check) → field_at s w p seen own (sort_of o) at tall ≡ r → CheckBy (field_rows s p seen (sort_of o) at) at r → ((t : ℕ) → By Stop (fields_rows s p seen os next) (Next (next + widths_of os) (max t (fields_tall s w seen own os next))) (rest t)) → By Stop (field_rows s p seen (sort_of o) at ++ fields_rows s p seen os next) (Next (at + (width_of (sort_of o) + widths_of os)) (max tall most)) (checked r at rest)
-      go (Holds t) d (holds u) f =
+      go : (r : Check) → field_at s w p seen own (sort_of o) at tall ≡ r → CheckBy (field_rows s p seen (sort_of o) at) at r → ((t : ℕ) → By refused (fields_rows s p seen os next) (goes_on (next + widths_of os) (max t (fields_tall s w seen own os next))) (rest t)) → By refused (field_rows s p seen (sort_of o) at ++ fields_rows s p seen os next) (goes_on (at + (width_of (sort_of o) + widths_of os)) (max tall most)) (checked r at rest)
+      go (Ok t) d (holds u) f =
           let e : next + widths_of os ≡ at + (width_of (sort_of o) + widths_of os) = omega arith in
           let g : max t (fields_tall s w seen own os next) ≡ max tall most = omega (arith, field_tall_lem s w p seen own (sort_of o) at tall t d) in
           behind (field_rows s p seen (sort_of o) at) (fields_rows s p seen os next) u
-          (subst (λ m. By Stop (fields_rows s p seen os next) (Next (at + (width_of (sort_of o) + widths_of os)) m) (rest t)) g
-          (subst (λ i. By Stop (fields_rows s p seen os next) (Next i (max t (fields_tall s w seen own os next))) (rest t)) e (f t)))
-      go (Fails c) d (fails x) f = refuses (first_front (field_rows s p seen (sort_of o) at) (fields_rows s p seen os next) c at x)
+          (subst (λ m. By refused (fields_rows s p seen os next) (goes_on (at + (width_of (sort_of o) + widths_of os)) m) (rest t)) g
+          (subst (λ i. By refused (fields_rows s p seen os next) (goes_on i (max t (fields_tall s w seen own os next))) (rest t)) e (f t)))
+      go (Err c) d (fails x) f = refuses (first_front (field_rows s p seen (sort_of o) at) (fields_rows s p seen os next) c at x)
 
-  height_by : (rows : List Row) (at a tall : ℕ) {x : Step} → By Stop rows (Next a tall) x → By Stop (rows ++ row TooHigh at (tallest own < tall + 1) ∷ []) (Next a (tall + 1)) (height_step own at x)
+  height_by : (rows : List Row) (at a tall : ℕ) {x : Step} → By refused rows (goes_on a tall) x → By refused (rows ++ row TooHigh at (tallest own < tall + 1) ∷ []) (goes_on a (tall + 1)) (height_step own at x)
   height_by rows at a tall (refuses {q = c} {p = n} f) = refuses (first_front rows _ c n f)
   height_by rows at a tall (accepts u) =
       behind rows (row TooHigh at (tallest own < tall + 1) ∷ []) u
@@ -277,14 +274,14 @@ module _ (s w p : List ℕ) (seen : Counts) (own : Section) where
       (λ e h. omega (arith, ltb-true tall (tallest own) e)) (accepts tt))
 
   -- THEOREM: a record is read, or refused for the first of its rows that holds
-  pub record_by_lem : (at : ℕ) → By Stop (record_rows s w p seen own at) (Next (next_at s at) (height_at s w seen own at)) (record_at s w p seen own at)
+  pub record_by_lem : (at : ℕ) → By refused (record_rows s w p seen own at) (goes_on (next_at s at) (height_at s w seen own at)) (record_at s w p seen own at)
   unfolding record_at next_at height_at past
   record_by_lem at =
       checks (ltb (length s) (at + 1)) (λ e. omega (arith, ltb-true (length s) (at + 1) e))
       (λ e h. omega (arith, ltb-false (length s) (at + 1) e))
       (checks_not (in_section own (get_or s at 0)) (kind_outside own (get_or s at 0)) (kind_inside own (get_or s at 0))
       (height_by (fields_rows s p seen fields (at + 1)) at (at + 1 + widths_of fields) (fields_tall s w seen own fields (at + 1))
-      (subst (λ t. By Stop (fields_rows s p seen fields (at + 1)) (Next (at + 1 + widths_of fields) t) (fields_from s w p seen own fields (at + 1) 0)) none (fields_by fields (at + 1) 0))))
+      (subst (λ t. By refused (fields_rows s p seen fields (at + 1)) (goes_on (at + 1 + widths_of fields) t) (fields_from s w p seen own fields (at + 1) 0)) none (fields_by fields (at + 1) 0))))
     where
       fields : List ℕ
       fields = fields_of (get_or s at 0)

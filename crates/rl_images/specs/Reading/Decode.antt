@@ -13,7 +13,7 @@ use Rattle.std.proofs.Math.ListN.{length, get_or, drop}
 use Rattle.std.proofs.Math.Seq.{drop-cons, drop-length}
 use Rattle.rl_spec.specs.declared.ArenaNo.{ArenaNo}
 use Rattle.rl_spec.specs.declared.Counts.{Counts}
-use Rattle.rl_spec.specs.declared.Answer.TheVariants.{Accepted}
+use Rattle.rl_spec.specs.Answers.{accepted}
 use Rattle.rl_spec.specs.declared.Section.{Section}
 use Rattle.rl_spec.specs.declared.Sort.{Sort}
 use Rattle.rl_spec.specs.declared.Sort.TheVariants.{Raw, Byte, Scalar, Part, One, Maybe, Many, Range, OperandSort, Operand}
@@ -161,5 +161,5 @@ module _ (s : List ℕ) (bytes : AllBytes s) where
       (sym (rw r.header.kind at (drop-cons s 0 0 (omega arith)))))
 
 -- THEOREM
-pub accepted_encodes : (s : List ℕ) (k : ℕ) (a : ArenaNo) (c : Counts) → AllBytes s → answer_of s k ≡ Accepted a c → encode (image_of s) ≡ s
+pub accepted_encodes : (s : List ℕ) (k : ℕ) (a : ArenaNo) (c : Counts) → AllBytes s → answer_of s k ≡ accepted a c → encode (image_of s) ≡ s
 accepted_encodes s k a c h e = image_bytes s h (accepted_reads s k a c e)

@@ -6,7 +6,7 @@ use Rattle.std.proofs.Common.{◌∙◌, arith}
 use Rattle.std.proofs.Math.Seq.{ext_get_or}
 use Rattle.rl_spec.specs.declared.ArenaNo.{ArenaNo}
 use Rattle.rl_spec.specs.declared.Counts.{Counts}
-use Rattle.rl_spec.specs.declared.Answer.TheVariants.{Accepted}
+use Rattle.rl_spec.specs.Answers.{accepted}
 use Rattle.rl_spec.specs.declared.Section.{Section}
 use Rattle.rl_spec.specs.declared.Section.TheVariants.{Texts, Lists, Expressions, Statements, Parameters, Clauses, Functions, Calls}
 use Rattle.rl_spec.specs.Schema.{sections, count_of, lowest, highest, in_section, sort_of, schema, fields_in, fields_of}
@@ -33,7 +33,7 @@ found_stands : (s : List ℕ) (o : Section) (i at : ℕ) → StandsAt s o i at �
 unfolding record_as record_in
 found_stands s o i at h = rw (kind_found_lem o (get_or s at 0) h.kind) h.found
 
-module _ (s : List ℕ) (k : ℕ) (a : ArenaNo) (c : Counts) (e : answer_of s k ≡ Accepted a c) where
+module _ (s : List ℕ) (k : ℕ) (a : ArenaNo) (c : Counts) (e : answer_of s k ≡ accepted a c) where
   -- the sections at the end, from the end back
   calls_at_lem : section_at s Calls ≡ calls_at s c
   calls_at_lem = let q = (section_places s k a c e).calls in omega arith

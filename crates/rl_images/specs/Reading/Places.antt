@@ -11,7 +11,7 @@ use Rattle.rl_spec.specs.declared.Cause.{Cause}
 use Rattle.rl_spec.specs.declared.Section.{Section}
 use Rattle.rl_spec.specs.declared.Sort.{Sort}
 use Rattle.rl_spec.specs.declared.Sort.TheVariants.{Raw, Byte, Scalar, Part, One, Maybe, Many, Range, OperandSort, Operand}
-use Rattle.rl_spec.specs.declared.Answer.TheVariants.{Accepted, Refused}
+use Rattle.rl_spec.specs.Answers.{accepted, refused}
 use Rattle.rl_spec.specs.Schema.{limits, sections, count_of, sort_of, width_of, fields_of}
 use Rattle.rl_spec.specs.Read.{counts_of, seen_by, answer_of}
 use Rattle.rl_spec.specs.Image.{next_at, end_at}
@@ -103,17 +103,17 @@ module _ (s : List ℕ) (q : Cause) (n : ℕ) where
       (λ x. sections_place (counts_of s) sections (sections_at s) _ _ (not_below (length s) (sections_at s) x.0) x.1)) f
 
 -- THEOREM
-pub place_within : (s : List ℕ) (k : ℕ) (q : Cause) (n : ℕ) → answer_of s k ≡ Refused q n → n ≤ length s
+pub place_within : (s : List ℕ) (k : ℕ) (q : Cause) (n : ℕ) → answer_of s k ≡ refused q n → n ≤ length s
 place_within s k q n e =
     by_parts (content_rows s k) _ q n (content_place s q n k) (λ u. ⊎_elim (λ x. omega (arith, x.0, x.2)) (λ x. absurd x.1))
     ((read_refuses s k q n).0 e)
 
 -- THEOREM
-pub accepted_small : (s : List ℕ) (k : ℕ) (a : ArenaNo) (c : Counts) → answer_of s k ≡ Accepted a c → length s ≤ 65535
+pub accepted_small : (s : List ℕ) (k : ℕ) (a : ArenaNo) (c : Counts) → answer_of s k ≡ accepted a c → length s ≤ 65535
 accepted_small s k a c e = (accepted_reads s k a c e).small
 
 -- THEOREM: an image that is too long is refused at 0
-pub place_small : (s : List ℕ) (k : ℕ) (q : Cause) (n : ℕ) → answer_of s k ≡ Refused q n → n ≤ 65535
+pub place_small : (s : List ℕ) (k : ℕ) (q : Cause) (n : ℕ) → answer_of s k ≡ refused q n → n ≤ 65535
 place_small s k q n e = go ((read_refuses s k q n).0 e)
   where
     go : First (read_rows s k) q n → n ≤ 65535

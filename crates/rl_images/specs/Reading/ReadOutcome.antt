@@ -13,10 +13,8 @@ use Rattle.rl_spec.specs.declared.ArenaNo.{ArenaNo}
 use Rattle.rl_spec.specs.declared.Counts.{Counts}
 use Rattle.rl_spec.specs.declared.Cause.{Cause}
 use Rattle.rl_spec.specs.declared.Cause.TheVariants.{BytesEnd, BytesLeft}
-use Rattle.rl_spec.specs.declared.Answer.TheVariants.{Accepted, Refused}
+use Rattle.rl_spec.specs.Answers.{accepted, goes_on, refused, Step}
 use Rattle.rl_spec.specs.declared.Section.{Section}
-use Rattle.rl_spec.specs.declared.Step.{Step}
-use Rattle.rl_spec.specs.declared.Step.TheVariants.{Next, Stop}
 use Rattle.rl_spec.specs.Bytes.{u16_at, u32_at, past}
 use Rattle.rl_spec.specs.Schema.{limits, text_bytes_at, sections, count_of}
 use Rattle.rl_spec.specs.Read.{after, counts_of, counts_from, header_of, Out, good, bad, seen_by, keep, records_from, and_then, sections_from, end_of, body_of, content_of, most_starts, read_of, answer_by, starts_by, answer_of, starts_of}
@@ -26,10 +24,12 @@ use Rattle.rl_images.specs.Reading.Rows.{height_at, record_rows, starts_from, wo
 use Rattle.rl_images.specs.Reading.Causes.{record_by_lem}
 use Rattle.rl_laws.specs.Tests.{not_below}
 use Rattle.rl_images.specs.Reading.Whole.{Sections, sections_whole, HeaderRead, header_whole}
+use Rattle.rl_laws.specs.AnswerLaws.{same_refusal, same_accepted}
+use Rattle.std.proofs.Common.{ap}
 
 -- ---- one part behind another
 
-by_after : (t u : List Row) {a tall : ℕ} {v : Out} {x : Step} (f : ℕ → ℕ → Out) → By Stop t (Next a tall) x → By bad u v (f a tall) → By bad (t ++ u) v (after x f bad)
+by_after : (t u : List Row) {a tall : ℕ} {v : Out} {x : Step} (f : ℕ → ℕ → Out) → By refused t (goes_on a tall) x → By bad u v (f a tall) → By bad (t ++ u) v (after x f bad)
 by_after t u f (refuses {q = q} {p = n} y) z = refuses (first_front t u q n y)
 by_after t u f (accepts y) z = behind t u y z
 
@@ -58,16 +58,16 @@ module _ (s : List ℕ) (c : Counts) where
 -- ---- the header
 
 module _ (s : List ℕ) where
-  counts_by : (ms : List ℕ) (at : ℕ) → By Stop (counts_rows s ms at) (Next (at + 2 * length ms) 0) (counts_from s ms at)
+  counts_by : (ms : List ℕ) (at : ℕ) → By refused (counts_rows s ms at) (goes_on (at + 2 * length ms) 0) (counts_from s ms at)
   unfolding counts_from counts_rows past
-  counts_by [] at = subst (λ i. By Stop [] (Next i 0) (Next at 0)) (omega arith) (accepts tt)
+  counts_by [] at = subst (λ i. By refused [] (goes_on i 0) (goes_on at 0)) (omega arith) (accepts tt)
   counts_by (m ∷ ms) at =
       checks (ltb (length s) (at + 2)) (ltb-true (length s) (at + 2)) (λ e h. omega (arith, ltb-false (length s) (at + 2) e))
       (checks (ltb m (u16_at s at)) (ltb-true m (u16_at s at)) (λ e h. omega (arith, ltb-false m (u16_at s at) e))
       (let e : at + 2 + 2 * length ms ≡ at + 2 * suc (length ms) = omega arith in
-      subst (λ i. By Stop (counts_rows s ms (at + 2)) (Next i 0) (counts_from s ms (at + 2))) e (counts_by ms (at + 2))))
+      subst (λ i. By refused (counts_rows s ms (at + 2)) (goes_on i 0) (counts_from s ms (at + 2))) e (counts_by ms (at + 2))))
 
-  header_by : By Stop (header_rows s) (Next (5 + 2 * length limits) 0) (header_of s)
+  header_by : By refused (header_rows s) (goes_on (5 + 2 * length limits) 0) (header_of s)
   unfolding header_of past
   header_by =
       checks (ltb (length s) (0 + 1)) (λ e. omega (arith, ltb-true (length s) 1 e)) (λ e h. omega (arith, ltb-false (length s) 1 e))
@@ -113,34 +113,34 @@ module _ (s : List ℕ) (k : ℕ) where
       (checks (ltb k 8192) (ltb-true k 8192) (λ e h. omega (arith, ltb-false k 8192 e)) (content_by s (replicate k 0) (replicate most_starts 0)))
 
   -- the answer, which is the header's arena number and counts where none holds
-  pub answer_by_lem : By Refused (read_rows s k) (Accepted (record { 0 = u32_at s 1 }) (counts_of s)) (answer_of s k)
+  pub answer_by_lem : By refused (read_rows s k) (accepted (record { 0 = u32_at s 1 }) (counts_of s)) (answer_of s k)
   unfolding answer_of answer
   answer_by_lem = go read_by
     where
-      go : {a : ℕ} {w p : List ℕ} {r : Out} → By bad (read_rows s k) (good a w p) r → By Refused (read_rows s k) (Accepted (record { 0 = u32_at s 1 }) (counts_of s)) (answer_by s r)
+      go : {a : ℕ} {w p : List ℕ} {r : Out} → By bad (read_rows s k) (good a w p) r → By refused (read_rows s k) (accepted (record { 0 = u32_at s 1 }) (counts_of s)) (answer_by s r)
       go (refuses f) = refuses f
       go (accepts u) = accepts u
 
   -- THEOREM: it is refused exactly for the first row that holds
-  pub read_refuses : (q : Cause) (n : ℕ) → (answer_of s k ≡ Refused q n) ↔ First (read_rows s k) q n
-  read_refuses = refuses_exactly (λ q q' n n' e. (cc, cc)) (λ u q n e. differ e) answer_by_lem
+  pub read_refuses : (q : Cause) (n : ℕ) → (answer_of s k ≡ refused q n) ↔ First (read_rows s k) q n
+  read_refuses = refuses_exactly (λ q q' n n' e. same_refusal e) (λ u q n e. differ e) answer_by_lem
     where
-      differ : {a : ArenaNo} {c : Counts} {q : Cause} {n : ℕ} → Accepted a c ≡ Refused q n → ⊥
+      differ : {a : ArenaNo} {c : Counts} {q : Cause} {n : ℕ} → accepted a c ≡ refused q n → ⊥
       differ e = let z : ◌≡◌ {A = ℕ} 0 1 = cc in omega arith
 
-  accepted : (a : ArenaNo) (c : Counts) → (answer_of s k ≡ Accepted a c) ↔ (Unmet (read_rows s k) × (Accepted (record { 0 = u32_at s 1 }) (counts_of s) ≡ Accepted a c))
-  accepted a c = accepts_exactly (Accepted a c) (λ q n e. differ e) answer_by_lem
+  accepts_as : (a : ArenaNo) (c : Counts) → (answer_of s k ≡ accepted a c) ↔ (Unmet (read_rows s k) × (accepted (record { 0 = u32_at s 1 }) (counts_of s) ≡ accepted a c))
+  accepts_as a c = accepts_exactly (accepted a c) (λ q n e. differ e) answer_by_lem
     where
-      differ : {q : Cause} {n : ℕ} → Refused q n ≡ Accepted a c → ⊥
+      differ : {q : Cause} {n : ℕ} → refused q n ≡ accepted a c → ⊥
       differ e = let z : ◌≡◌ {A = ℕ} 0 1 = cc in omega arith
 
   -- THEOREM: it is accepted exactly where none holds
-  pub read_accepts : ((a : ArenaNo) × (c : Counts) × (answer_of s k ≡ Accepted a c)) ↔ Unmet (read_rows s k)
-  read_accepts = (λ x. ((accepted x.0 x.1).0 x.2).0, λ u. (_, _, (accepted _ _).1 (u, refl)))
+  pub read_accepts : ((a : ArenaNo) × (c : Counts) × (answer_of s k ≡ accepted a c)) ↔ Unmet (read_rows s k)
+  read_accepts = (λ x. ((accepts_as x.0 x.1).0 x.2).0, λ u. (_, _, (accepts_as _ _).1 (u, refl)))
 
   -- THEOREM: the answer's arena number and counts are the header's
-  pub accepted_header : (a : ArenaNo) (c : Counts) → answer_of s k ≡ Accepted a c → (a.0 ≡ u32_at s 1) × (c ≡ counts_of s)
-  accepted_header a c e = let h = ((accepted a c).0 e).1 in (cc, cc)
+  pub accepted_header : (a : ArenaNo) (c : Counts) → answer_of s k ≡ accepted a c → (a.0 ≡ u32_at s 1) × (c ≡ counts_of s)
+  accepted_header a c e = let h = same_accepted ((accepts_as a c).0 e).1 in (ap (λ (x : ArenaNo). x.0) (sym h.0), sym h.1)
 
 -- what is known of accepted bytes, and of the starts p that reading leaves
 pub record Reads (s p : List ℕ) : Type 0 where
@@ -168,10 +168,10 @@ module _ (s : List ℕ) (k : ℕ) where
       }
 
   -- THEOREM: what acceptance says
-  pub accepted_reads : (a : ArenaNo) (c : Counts) → answer_of s k ≡ Accepted a c → Reads s (starts_of s k)
+  pub accepted_reads : (a : ArenaNo) (c : Counts) → answer_of s k ≡ accepted a c → Reads s (starts_of s k)
   unfolding answer_of starts_of answer
   accepted_reads a c e = go (read_by s k) e
     where
-      go : {n : ℕ} {w : List ℕ} {r : Out} → By bad (read_rows s k) (good n w (starts_in s (counts_of s) sections (sections_at s) (replicate most_starts 0))) r → answer_by s r ≡ Accepted a c → Reads s (starts_by r)
+      go : {n : ℕ} {w : List ℕ} {r : Out} → By bad (read_rows s k) (good n w (starts_in s (counts_of s) sections (sections_at s) (replicate most_starts 0))) r → answer_by s r ≡ accepted a c → Reads s (starts_by r)
       go (accepts u) e = reads u
       go (refuses f) e = let z : ◌≡◌ {A = ℕ} 0 1 = cc in absurd (omega arith)

@@ -1,9 +1,8 @@
 -- What reading leaves for what comes after it.
 -- Assumes nothing.
-use Rattle.std.specs.Prelude.{ℕ, ◌≡◌, refl, List, replicate}
+use Rattle.std.specs.Prelude.{ℕ, ◌≡◌, refl, List, replicate, Ok, Err}
 use Rattle.std.proofs.Common.{subst, arith, ne_eqb}
-use Rattle.rl_spec.specs.declared.Answer.{Answer}
-use Rattle.rl_spec.specs.declared.Answer.TheVariants.{Accepted, Refused}
+use Rattle.rl_spec.specs.Answers.{Answer, refused}
 use Rattle.rl_spec.specs.declared.Cause.{Cause}
 use Rattle.rl_spec.specs.declared.Cause.TheVariants.{ImageTooLong, WorkTooShort, BytesEnd, WrongKind, CountOverLimit, BadText, BadValue, BadReference, TooHigh, BytesLeft, OtherArena, NoSuchNode, NoSuchCall, ReportsTooShort, NoSuchFunction, HeightOverLimit, OutputTooShort, LimitPassed, WrongValues, NoSuchText, BudgetOverLimit, PagesTooShort}
 use Rattle.rl_spec.specs.Read.{Out, good, bad, number_of, answer_by, work_by, read_of, answer_of, work_of}
@@ -38,14 +37,14 @@ pub zeros_unless : (q : Cause) (s : List ℕ) (k : ℕ) → replicate k 0 ≡ wo
 zeros_unless q s k = rw (ne_eqb (number_of q) 0 (not_zero q)) refl
 
 abbrev IsAccepted : Answer → Type 0
-IsAccepted (Accepted a c) = Unit {0}
-IsAccepted (Refused q n) = ⊥
+IsAccepted (Ok h) = Unit {0}
+IsAccepted (Err r) = ⊥
 
 -- a refusal of the reader leaves zeros
-pub refused_work : (s : List ℕ) (k : ℕ) (q : Cause) (n : ℕ) → answer_of s k ≡ Refused q n → work_of s k ≡ replicate k 0
+pub refused_work : (s : List ℕ) (k : ℕ) (q : Cause) (n : ℕ) → answer_of s k ≡ refused q n → work_of s k ≡ replicate k 0
 unfolding answer_of work_of
 refused_work s k q n e = go (read_of s k) e
   where
-    go : (o : Out) → answer_by s o ≡ Refused q n → work_by k o ≡ replicate k 0
+    go : (o : Out) → answer_by s o ≡ refused q n → work_by k o ≡ replicate k 0
     go (good at w p) f = absurd (subst IsAccepted f tt)
     go (bad c m) f = refl

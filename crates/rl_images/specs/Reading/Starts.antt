@@ -11,7 +11,7 @@ use Rattle.std.proofs.Math.ListN.{set, get_or-append}
 use Rattle.std.proofs.Math.Seq.{sets}
 use Rattle.rl_spec.specs.declared.ArenaNo.{ArenaNo}
 use Rattle.rl_spec.specs.declared.Counts.{Counts}
-use Rattle.rl_spec.specs.declared.Answer.TheVariants.{Accepted}
+use Rattle.rl_spec.specs.Answers.{accepted}
 use Rattle.rl_spec.specs.declared.Section.{Section}
 use Rattle.rl_spec.specs.declared.Section.TheVariants.{Texts, Lists, Expressions, Statements, Parameters, Clauses, Functions, Calls}
 use Rattle.rl_spec.specs.Schema.{limits, text_bytes_at, sections, count_of, lowest, highest, in_section, sort_of, schema, fields_in, fields_of}
@@ -219,7 +219,7 @@ pub record SectionPlaces (s : List ℕ) (c : Counts) : Type 0 where
   pub functions : section_at s Functions + c.functions * 24 ≡ section_at s Calls
   pub calls : section_at s Calls + c.calls * 11 ≡ length s
 
-module _ (s : List ℕ) (k : ℕ) (a : ArenaNo) (c : Counts) (e : answer_of s k ≡ Accepted a c) where
+module _ (s : List ℕ) (k : ℕ) (a : ArenaNo) (c : Counts) (e : answer_of s k ≡ accepted a c) where
   -- THEOREM: the i-th expression stands at the i-th start
   pub starts_expression : (i : ℕ) → i < c.expressions → StandsAt s Expressions i (get_or (starts_of s k) i 0)
   starts_expression =

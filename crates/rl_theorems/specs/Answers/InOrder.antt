@@ -4,7 +4,7 @@ use Rattle.std.specs.Prelude.{◌≡◌, ℕ, zero, suc, ◌+◌, ◌<◌, List,
 use Rattle.std.proofs.Math.Path.{refl, ap₂}
 use Rattle.std.proofs.Common.{sym, ap, append-nil, append_assoc}
 use native.Mathlib.Omega.{arith}
-use Rattle.rl_spec.specs.declared.Answer.TheVariants.{Accepted, Refused}
+use Rattle.rl_spec.specs.Answers.{accepted, refused}
 use Rattle.rl_spec.specs.declared.ArenaNo.{ArenaNo}
 use Rattle.rl_spec.specs.declared.Cause.{Cause}
 use Rattle.rl_spec.specs.declared.Counts.{Counts}
@@ -50,12 +50,12 @@ module _ (im : Image) where
 
 module _ (s : List ℕ) where
   -- THEOREM: of an image that is accepted, all lines of its calls, and nothing else
-  pub output_in_order : (a : ArenaNo) (c : Counts) → answer_of s 8192 ≡ Accepted a c → output_of s ≡ joined (in_order (image_of s) c.calls 0)
+  pub output_in_order : (a : ArenaNo) (c : Counts) → answer_of s 8192 ≡ accepted a c → output_of s ≡ joined (in_order (image_of s) c.calls 0)
   unfolding output_of lines_of
   output_in_order a c e = rw e (ap joined (of_calls (image_of s) c.calls 0))
 
   -- THEOREM: of one that is refused, the one line of its refusal
-  pub output_refused : (q : Cause) (p : ℕ) → answer_of s 8192 ≡ Refused q p → output_of s ≡ refused_line q p
+  pub output_refused : (q : Cause) (p : ℕ) → answer_of s 8192 ≡ refused q p → output_of s ≡ refused_line q p
   unfolding output_of lines_of joined
   output_refused q p e = rw e (append-nil (refused_line q p))
 

@@ -1,7 +1,7 @@
 -- What lowering answers, with 14 for limits alone: by the reader's table, then 11, 12 and 13, and 14 exactly where the image that lowering
 -- without limits makes passes a limit; else that image is the answer.
 -- Assumes nothing.
-use Rattle.std.specs.Prelude.{◌≡◌, ℕ, ◌↔◌, List, [], ◌∷◌, ◌++◌, refl}
+use Rattle.std.specs.Prelude.{◌≡◌, ℕ, ◌↔◌, List, [], ◌∷◌, ◌++◌, refl, Ok}
 use Rattle.std.proofs.Common.{sym, ◌∙◌, subst, inl, inr, lt_of_not-le}
 use Rattle.std.proofs.Math.Option.{Option, none, some, none-ne-some, some-injective}
 use Rattle.rl_spec.specs.declared.Cause.{Cause}
@@ -9,7 +9,8 @@ use Rattle.rl_spec.specs.declared.Cause.TheVariants.{LimitPassed}
 use Rattle.rl_spec.specs.declared.Section.TheVariants.{Expressions, Statements}
 use Rattle.rl_spec.specs.Image.{Image, heights, image_of, AllBytes}
 use Rattle.rl_spec.specs.Lower.{lowered, unlimited}
-use Rattle.rl_spec.specs.Lowerer.{made, refused, lower_of}
+use Rattle.rl_spec.specs.Answers.{refused}
+use Rattle.rl_spec.specs.Lowerer.{lower_of}
 use Rattle.rl_images.specs.Encoding.Accepted.{accepted_well_formed}
 use Rattle.rl_images.specs.Reading.Table.{row, Unmet, First, unmet_parts, first_last, unmet_last}
 use Rattle.rl_images.specs.Reading.Rows.{read_rows}
@@ -66,10 +67,10 @@ module _ (s : List ℕ) (k f room : ℕ) (bytes : AllBytes s) where
         λ h. m.1 (first_last (read_rows s k) (lower_checks im f room) LimitPassed 0 past_none q p h),
       )
 
-  pub lower_accepts : (im' : Image) → (lower_of s k f room ≡ made im') ↔ (Unmet (read_rows s k ++ lower_rows im f room) × (unlimited im f ≡ some im'))
+  pub lower_accepts : (im' : Image) → (lower_of s k f room ≡ Ok im') ↔ (Unmet (read_rows s k ++ lower_rows im f room) × (unlimited im f ≡ some im'))
   lower_accepts im' = (there, back)
     where
-      there : lower_of s k f room ≡ made im' → Unmet (read_rows s k ++ lower_rows im f room) × (unlimited im f ≡ some im')
+      there : lower_of s k f room ≡ Ok im' → Unmet (read_rows s k ++ lower_rows im f room) × (unlimited im f ≡ some im')
       there e =
           let m = (making_accepts s k f room im').0 e in
           let a = unmet_parts (read_rows s k) (making_rows im f room) m.0 in
@@ -79,7 +80,7 @@ module _ (s : List ℕ) (k f room : ℕ) (bytes : AllBytes s) where
             x.1 ∙ sym (subst (λ y. some im' ≡ some y) (sym (some_same x.0 im' x.2 m.1)) refl),
           )
 
-      back : Unmet (read_rows s k ++ lower_rows im f room) × (unlimited im f ≡ some im') → lower_of s k f room ≡ made im'
+      back : Unmet (read_rows s k ++ lower_rows im f room) × (unlimited im f ≡ some im') → lower_of s k f room ≡ Ok im'
       back y =
           let a = unmet_parts (read_rows s k) (lower_rows im f room) y.0 in
           let b = unmet_parts (lower_checks im f room) (row LimitPassed 0 Past ∷ []) a.1 in

@@ -1,6 +1,6 @@
 -- What lowering answers: by the reader's table, then 11, 12, 13, and 14 where nothing is made (OfLimits says when that is).
 -- Assumes nothing.
-use Rattle.std.specs.Prelude.{◌≡◌, ℕ, zero, suc, ◌<◌, Bool, true, false, not, ◌||◌, ◌↔◌, List, [], ◌∷◌, ◌++◌, ◌≢◌, nat_lt, slice_index, refl}
+use Rattle.std.specs.Prelude.{◌≡◌, ℕ, zero, suc, ◌<◌, Bool, true, false, not, ◌||◌, ◌↔◌, List, [], ◌∷◌, ◌++◌, ◌≢◌, nat_lt, slice_index, refl, Ok}
 use Rattle.std.proofs.Common.{sym, ap, inl, inr, arith}
 use Rattle.std.proofs.lemmas.Bool.{false≢true}
 use Rattle.std.proofs.Math.Option.{Option, none, some}
@@ -10,12 +10,14 @@ use Rattle.rl_spec.specs.declared.Cause.TheVariants.{LimitPassed}
 use Rattle.rl_spec.specs.declared.Section.TheVariants.{Expressions, Statements, Functions}
 use Rattle.rl_spec.specs.Image.{Image, heights, image_of}
 use Rattle.rl_spec.specs.Lower.{lowered}
-use Rattle.rl_spec.specs.Lowerer.{made, refused, any_over, too_tall, or_limit, lower_by, lower_of}
+use Rattle.rl_spec.specs.Answers.{refused}
+use Rattle.rl_spec.specs.Lowerer.{any_over, too_tall, or_limit, lower_by, lower_of}
 use Rattle.rl_images.specs.Reading.Table.{Row, row, Unmet, First, unmet_parts, By, refuses, accepts, checks, refuses_exactly, accepts_exactly}
 use Rattle.rl_images.specs.Reading.Rows.{read_rows}
 use Rattle.rl_images.specs.Reading.Starts.{sizes_are_counts}
 use Rattle.rl_theorems.specs.Answers.Tables.{HeightOver, lower_checks}
 use Rattle.rl_theorems.specs.Answers.AfterReading.{after_reading}
+use Rattle.rl_laws.specs.AnswerLaws.{same_refusal}
 
 -- ---- 12
 
@@ -56,7 +58,7 @@ tall_under im e (inr x) = none_over 32 (heights im Statements) (neither (any_ove
 abbrev pub making_rows : Image → ℕ → ℕ → List Row
 making_rows im f room = lower_checks im f room ++ row LimitPassed 0 (lowered im f ≡ none) ∷ []
 
-differ : {im : Image} {q : Cause} {p : ℕ} → made im ≢ refused q p
+differ : {im : Image} {q : Cause} {p : ℕ} → Ok im ≢ refused q p
 differ e = let z : ◌≡◌ {A = ℕ} 0 1 = cc in omega arith
 
 never_none : {im : Image} → some im ≢ none
@@ -71,7 +73,7 @@ no_limit : (o : Option Image) (q : Cause) (p : ℕ) → (o ≢ none) → or_limi
 no_limit none q p h e = h refl
 no_limit (some im) q p h e = differ e
 
-gives : (o : Option Image) (im : Image) → or_limit o ≡ made im → o ≡ some im
+gives : (o : Option Image) (im : Image) → or_limit o ≡ Ok im → o ≡ some im
 gives none im e = absurd (differ (sym e))
 gives (some x) im e = let y : x ≡ im = cc in ap some y
 
@@ -90,10 +92,10 @@ module _ (s : List ℕ) (k f room : ℕ) where
   -- THEOREMS: so
   pub making_refuses : (q : Cause) (p : ℕ) → (lower_of s k f room ≡ refused q p) ↔ First (read_rows s k ++ making_rows (image_of s) f room) q p
   making_refuses =
-      refuses_exactly (λ q q' p p' e. (cc, cc))
+      refuses_exactly (λ q q' p p' e. same_refusal e)
       (λ u q p. no_limit (lowered (image_of s) f) q p (unmet_parts (read_rows s k) (making_rows (image_of s) f room) u).1.1.1.1.0) making_by
 
-  pub making_accepts : (im' : Image) → (lower_of s k f room ≡ made im') ↔ (Unmet (read_rows s k ++ making_rows (image_of s) f room) × (lowered (image_of s) f ≡ some im'))
+  pub making_accepts : (im' : Image) → (lower_of s k f room ≡ Ok im') ↔ (Unmet (read_rows s k ++ making_rows (image_of s) f room) × (lowered (image_of s) f ≡ some im'))
   making_accepts im' =
-      let x = accepts_exactly (made im') (λ q p e. differ (sym e)) making_by in
+      let x = accepts_exactly (Ok im') (λ q p e. differ (sym e)) making_by in
       (λ e. ((x.0 e).0, gives (lowered (image_of s) f) im' (x.0 e).1), λ y. x.1 (y.0, ap or_limit y.1))

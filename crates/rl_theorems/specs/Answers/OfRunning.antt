@@ -11,11 +11,12 @@ use Rattle.rl_spec.specs.declared.ConstVal.TheVariants.{Int, Float, Str, Bool as
 use Rattle.rl_spec.specs.declared.Plain.{Plain}
 use Rattle.rl_spec.specs.declared.Plain.TheVariants.{Null, Const}
 use Rattle.rl_spec.specs.declared.Value.{Value}
-use Rattle.rl_spec.specs.declared.Value.TheVariants.{Plain as Bare, Ok, Err}
+use Rattle.rl_spec.specs.declared.Value.TheVariants.{Plain as Bare}
+use Rattle.rl_spec.specs.declared.Value.TheVariants as val
 use Rattle.rl_spec.specs.declared.Argument.{Argument}
 use Rattle.rl_spec.specs.declared.Arguments.{Arguments}
 use Rattle.rl_spec.specs.declared.Outcome.{Outcome}
-use Rattle.rl_spec.specs.declared.RunAnswer.TheVariants.{Ran, Refused}
+use Rattle.rl_spec.specs.Answers.{ran, refused}
 use Rattle.rl_spec.specs.Image.{image_of}
 use Rattle.rl_spec.specs.Records.{function_at}
 use Rattle.rl_spec.specs.Runner.{plain_has, value_has, all_have, given, ran_in, is_for, run_by, run_of, content_of}
@@ -24,6 +25,7 @@ use Rattle.rl_images.specs.Reading.Rows.{read_rows}
 use Rattle.rl_images.specs.Reading.Starts.{sizes_are_counts}
 use Rattle.rl_theorems.specs.Answers.Tables.{no_value, run_rows}
 use Rattle.rl_theorems.specs.Answers.AfterReading.{after_reading}
+use Rattle.rl_laws.specs.AnswerLaws.{same_refusal}
 
 -- ---- 19
 
@@ -53,8 +55,8 @@ plain_lacks c (Const (Truth b)) e = absurd (false≢true (sym e))
 -- 20 looks into an Ok and an Err
 content_has : (c : Counts) (v : Value) → value_has c v ≡ plain_has c (content_of v)
 content_has c (Bare p) = refl
-content_has c (Ok p) = refl
-content_has c (Err p) = refl
+content_has c (val.Ok p) = refl
+content_has c (val.Err p) = refl
 
 -- the i-th value has a text that is not there
 abbrev Missing : ℕ → List Argument → Type 0
@@ -85,12 +87,12 @@ all_have_lem c (v ∷ vs) e x = go (value_has c v.value) refl e (all_have_lem c 
 
 -- ---- the answer
 
-differ : {o : Outcome} {n : ℕ} {q : Cause} {p : ℕ} → Ran o n ≢ Refused q p
+differ : {o : Outcome} {n : ℕ} {q : Cause} {p : ℕ} → ran o n ≢ refused q p
 differ e = let z : ◌≡◌ {A = ℕ} 0 1 = cc in omega arith
 
 module _ (s : List ℕ) (k f : ℕ) (args : Arguments) (budget : ℕ) where
   -- THEOREM
-  pub run_by_lem : By Refused (read_rows s k ++ run_rows (image_of s) f args budget) (ran_in (image_of s) f (given args) budget) (run_of s k f args budget)
+  pub run_by_lem : By refused (read_rows s k ++ run_rows (image_of s) f args budget) (ran_in (image_of s) f (given args) budget) (run_of s k f args budget)
   unfolding run_of
   run_by_lem =
       after_reading s k (run_rows (image_of s) f args budget) (run_by s f args budget) (λ q n. refl) λ a c e.
@@ -109,9 +111,9 @@ module _ (s : List ℕ) (k f : ℕ) (args : Arguments) (budget : ℕ) where
       params = (function_at (image_of s) f).params.count
 
   -- THEOREMS: so
-  pub run_refuses : (q : Cause) (p : ℕ) → (run_of s k f args budget ≡ Refused q p) ↔ First (read_rows s k ++ run_rows (image_of s) f args budget) q p
+  pub run_refuses : (q : Cause) (p : ℕ) → (run_of s k f args budget ≡ refused q p) ↔ First (read_rows s k ++ run_rows (image_of s) f args budget) q p
   unfolding ran_in
-  run_refuses = refuses_exactly (λ q q' p p' e. (cc, cc)) (λ u q p. differ) run_by_lem
+  run_refuses = refuses_exactly (λ q q' p p' e. same_refusal e) (λ u q p. differ) run_by_lem
 
-  pub run_accepts : (o : Outcome) (n : ℕ) → (run_of s k f args budget ≡ Ran o n) ↔ (Unmet (read_rows s k ++ run_rows (image_of s) f args budget) × (ran_in (image_of s) f (given args) budget ≡ Ran o n))
-  run_accepts o n = accepts_exactly (Ran o n) (λ q p e. differ (sym e)) run_by_lem
+  pub run_accepts : (o : Outcome) (n : ℕ) → (run_of s k f args budget ≡ ran o n) ↔ (Unmet (read_rows s k ++ run_rows (image_of s) f args budget) × (ran_in (image_of s) f (given args) budget ≡ ran o n))
+  run_accepts o n = accepts_exactly (ran o n) (λ q p e. differ (sym e)) run_by_lem

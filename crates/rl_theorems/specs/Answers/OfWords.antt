@@ -6,13 +6,12 @@ use Rattle.std.proofs.Math.Path.{refl, ap}
 use Rattle.std.proofs.Common.{◌∙◌, inl, inr, ⊎_elim}
 use native.Mathlib.Omega.{arith}
 use Rattle.std.proofs.Math.Seq.{get_or-take}
-use Rattle.rl_spec.specs.declared.Answer.TheVariants.{Accepted}
+use Rattle.rl_spec.specs.Answers.{accepted, refused}
 use Rattle.rl_spec.specs.declared.ArenaNo.{ArenaNo}
 use Rattle.rl_spec.specs.declared.Cause.TheVariants.{WrongValues, NoSuchText}
 use Rattle.rl_spec.specs.declared.ConstVal.TheVariants.{Str}
 use Rattle.rl_spec.specs.declared.Counts.{Counts}
 use Rattle.rl_spec.specs.declared.Plain.TheVariants.{Const}
-use Rattle.rl_spec.specs.declared.RunAnswer.TheVariants.{Refused}
 use Rattle.rl_spec.specs.declared.Section.TheVariants.{Texts, Functions}
 use Rattle.rl_spec.specs.Schema.{limits}
 use Rattle.rl_spec.specs.Read.{counts_of, answer_of}
@@ -77,9 +76,9 @@ module _ (words : List ℕ) (values : are_values words ≡ true) (few : length w
 
 -- ---- the answer
 
-module _ (s : List ℕ) (k f : ℕ) (words : List ℕ) (budget : ℕ) (a : ArenaNo) (c : Counts) (read : answer_of s k ≡ Accepted a c) (there : f < c.functions) where
+module _ (s : List ℕ) (k f : ℕ) (words : List ℕ) (budget : ℕ) (a : ArenaNo) (c : Counts) (read : answer_of s k ≡ accepted a c) (there : f < c.functions) where
   -- behind the reader's table, and behind 11
-  wrong : (arguments_of words).count ≡ 17 → run_of s k f (arguments_of words) budget ≡ Refused WrongValues 0
+  wrong : (arguments_of words).count ≡ 17 → run_of s k f (arguments_of words) budget ≡ refused WrongValues 0
   wrong e =
       let functions = sizes_are_counts s k a c read Functions in
       (run_refuses s k f (arguments_of words) budget WrongValues 0).1
@@ -87,10 +86,10 @@ module _ (s : List ℕ) (k f : ℕ) (words : List ℕ) (budget : ℕ) (a : Arena
       (inr (λ h. omega (arith, functions, h), inl (inr (omega (arith, e)), refl, refl))))
 
   -- THEOREMS: words that are no values are 19, and so are more than sixteen values
-  pub no_values_lem : are_values words ≡ false → run_of s k f (arguments_of words) budget ≡ Refused WrongValues 0
+  pub no_values_lem : are_values words ≡ false → run_of s k f (arguments_of words) budget ≡ refused WrongValues 0
   no_values_lem e = wrong (count_none words e)
 
-  pub many_values : 17 ≤ length words / 2 → run_of s k f (arguments_of words) budget ≡ Refused WrongValues 0
+  pub many_values : 17 ≤ length words / 2 → run_of s k f (arguments_of words) budget ≡ refused WrongValues 0
   many_values l = wrong (count_many words l)
 
   few_texts : c.texts ≤ 2048
@@ -99,7 +98,7 @@ module _ (s : List ℕ) (k f : ℕ) (words : List ℕ) (budget : ℕ) (a : Arena
 
   module _ (values : are_values words ≡ true) (few : length words / 2 ≤ 16) (all : length words / 2 ≡ (function_at (image_of s) f).params.count) where
     -- THEOREM: as many values as parameters, of which the i-th is a Str with a payload that is no text's number, are 20
-    pub str_missing : (i : ℕ) → i < length words / 2 → IsStr (slice_index words (i * 2)) → c.texts ≤ slice_index words (i * 2 + 1) → run_of s k f (arguments_of words) budget ≡ Refused NoSuchText 0
+    pub str_missing : (i : ℕ) → i < length words / 2 → IsStr (slice_index words (i * 2)) → c.texts ≤ slice_index words (i * 2 + 1) → run_of s k f (arguments_of words) budget ≡ refused NoSuchText 0
     str_missing i l str past =
         let functions = sizes_are_counts s k a c read Functions in
         let texts = sizes_are_counts s k a c read Texts in

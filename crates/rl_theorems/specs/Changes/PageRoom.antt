@@ -1,8 +1,7 @@
 -- How many bytes printed pages have at the most: 238 a line, so 14,280 a page; and of a well-formed image fewer than 2 ^ 25.
 -- Assumes nothing.
-use Rattle.std.specs.Prelude.{◌≡◌, ℕ, zero, suc, ◌+◌, ◌-◌, ◌*◌, ◌/◌, ◌≤◌, List, [], ◌∷◌, ◌++◌, map, length, take, replicate, refl}
+use Rattle.std.specs.Prelude.{◌≡◌, ℕ, zero, suc, ◌+◌, ◌-◌, ◌*◌, ◌/◌, ◌≤◌, List, [], ◌∷◌, ◌++◌, map, length, take, replicate, refl, Ok}
 use Rattle.std.proofs.Common.{ap, ◌∙◌, arith, lt-ltb, le-ltb, length-append}
-use Rattle.rl_spec.specs.declared.PagesAnswer.TheVariants.{Written}
 use Rattle.rl_spec.specs.declared.Section.TheVariants.{Calls}
 use Rattle.rl_spec.specs.declared.Violation.{Violation}
 use Rattle.rl_spec.specs.Schema.{limits}
@@ -142,7 +141,7 @@ room_most im wf =
     omega (arith, pages_room im calls, reports_most im wf calls 0, size_within im wf Calls)
 
 -- THEOREM: so the answer has 32 bits
-pub written_most : (s : List ℕ) (k room n : ℕ) → AllBytes s → pages_answer s k room ≡ Written n → n ≤ 31201800
+pub written_most : (s : List ℕ) (k room n : ℕ) → AllBytes s → pages_answer s k room ≡ Ok n → n ≤ 31201800
 written_most s k room n bytes e =
     let found = (pages_accepts s k room n).0 e in
     let read = (read_accepts s k).1 (unmet_parts (read_rows s k) (pages_rows (image_of s) room) found.0).0 in

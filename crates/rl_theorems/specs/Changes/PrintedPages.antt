@@ -1,12 +1,11 @@
 -- Reports on printed pages, of every image: what a page is, whatever the texts are; that the pages' bytes are UTF-8 and which scalars they
 -- encode; how many pages there are; and what a field shows of a text.
 -- Assumes nothing.
-use Rattle.std.specs.Prelude.{◌≡◌, ℕ, zero, suc, ◌+◌, ◌-◌, ◌*◌, ◌/◌, ◌≤◌, true, ◌↔◌, List, [], ◌∷◌, ◌++◌, map, length, take, drop, replicate}
+use Rattle.std.specs.Prelude.{◌≡◌, ℕ, zero, suc, ◌+◌, ◌-◌, ◌*◌, ◌/◌, ◌≤◌, true, ◌↔◌, List, [], ◌∷◌, ◌++◌, map, length, take, drop, replicate, Ok}
 use Rattle.std.proofs.Math.Path.{refl, ap, ap₂}
 use Rattle.std.proofs.Common.{◌∙◌, append-nil, arith, lt-ltb, le-ltb, take_all}
 use Rattle.std.proofs.Math.ListN.{length-append, length-take, length-map}
 use Rattle.std.proofs.lemmas.List.{length-replicate}
-use Rattle.rl_spec.specs.declared.ProveAnswer.TheVariants.{Proved}
 use Rattle.rl_spec.specs.declared.Section.TheVariants.{Calls}
 use Rattle.rl_spec.specs.declared.Violation.{Violation}
 use Rattle.rl_spec.specs.Utf8.{utf8, is_scalar, encode_text, scalars_by, scalars_of}
@@ -289,7 +288,7 @@ module _ (im : Image) (n : ℕ) where
   )
 
 -- THEOREM: from bytes, where all calls are proved with r reports
-pub proved_pages : (s : List ℕ) (k room r : ℕ) → prove_all_of s k room ≡ Proved r →
+pub proved_pages : (s : List ℕ) (k room r : ℕ) → prove_all_of s k room ≡ Ok r →
     length (on_pages (all_report_lines (image_of s) (counts_of s).calls)) ≡ (r + 59) / 60
 proved_pages s k room r e =
     pages_reports (image_of s) (counts_of s).calls

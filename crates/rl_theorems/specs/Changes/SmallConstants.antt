@@ -1,7 +1,7 @@
 -- Small constants, which had no value before change request 1: THE IMAGE AS IT WAS TAKEN BEFORE; the form of each of its expressions; and
 -- what does not depend on them: texts, calls, the callee of a call, and the message of a report.
 -- Assumes nothing.
-use Rattle.std.specs.Prelude.{◌≡◌, ℕ, zero, suc, ◌+◌, Bool, true, false, cond, not, ◌&&◌, ◌||◌, List, [], ◌∷◌, ◌++◌, map, length, take, drop, ℤ, ◌==◌, slice_index_or}
+use Rattle.std.specs.Prelude.{◌≡◌, ℕ, zero, suc, ◌+◌, Bool, true, false, cond, not, ◌&&◌, ◌||◌, List, [], ◌∷◌, ◌++◌, map, length, take, drop, ℤ, ◌==◌, slice_index_or, None, Some}
 use Rattle.std.proofs.Math.Path.{refl, ap, subst⁻¹, fun_ext}
 use Rattle.std.proofs.Common.{sym, ◌∙◌, ne_eqb}
 use Rattle.std.proofs.lemmas.Bool.{false≢true}
@@ -10,12 +10,10 @@ use Rattle.std.proofs.Math.Option.{Option, none, some}
 use Rattle.std.proofs.lemmas.List.{length-map}
 use Rattle.std.proofs.Math.ListN.{get_or-map}
 use Rattle.rl_spec.specs.declared.ConstVal.TheVariants.{Int}
-use Rattle.rl_spec.specs.declared.Folded.TheVariants.{Value}
 use Rattle.rl_spec.specs.declared.Form.{Form}
 use Rattle.rl_spec.specs.declared.Form.TheVariants.{Null, Literal, Identifier, Unary, Binary, Grouping, Assign, OkLiteral, ErrLiteral, IsErr, ResultUnwrap, Other}
 use Rattle.rl_spec.specs.declared.Function.{Function}
-use Rattle.rl_spec.specs.declared.Optional.{Optional}
-use Rattle.rl_spec.specs.declared.Optional.TheVariants.{None, Some}
+use Rattle.rl_spec.specs.Answers.{Optional}
 use Rattle.rl_spec.specs.declared.Section.{Section}
 use Rattle.rl_spec.specs.declared.Section.TheVariants.{Texts, Lists, Expressions, Parameters, Clauses, Functions, Calls}
 use Rattle.rl_spec.specs.declared.Violation.{Violation}
@@ -45,7 +43,7 @@ before im = record { arena = im.arena; bytes = im.bytes; records = map (map was)
 
 -- a small constant is now a whole number
 abbrev IsWhole : Image → List Field → ℕ → Type 0
-IsWhole im fs k = (z : ℤ) × (form_by im (record { kind = k; fields = fs }) ≡ Literal (Value (Int z)))
+IsWhole im fs k = (z : ℤ) × (form_by im (record { kind = k; fields = fs }) ≡ Literal (Some (Int z)))
 
 small_form : (im : Image) (fs : List Field) (k : ℕ) → is_small k ≡ true → IsWhole im fs k
 unfolding form_by

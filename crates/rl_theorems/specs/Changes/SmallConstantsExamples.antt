@@ -1,14 +1,12 @@
 -- Small constants: the whole number that each holds; which kinds had no value before; and, by computation, calls whose reports changed. A
 -- report comes, of a requires and of a refinement; where two parameters have the same name, a report goes.
 -- Assumes nothing.
-use Rattle.std.specs.Prelude.{◌≡◌, ℕ, ◌+◌, ◌<◌, true, false, List, [], ◌∷◌, ◌++◌, map, replicate, ℤ, pos, negsuc, ◌-ℤ◌, refl}
+use Rattle.std.specs.Prelude.{◌≡◌, ℕ, ◌+◌, ◌<◌, true, false, List, [], ◌∷◌, ◌++◌, map, replicate, ℤ, pos, negsuc, ◌-ℤ◌, refl, Some, Ok}
 use Rattle.std.proofs.Common.{ap, arith, lt-ltb, le-ltb}
 use Rattle.std.proofs.Math.Option.{Option, none, some}
 use Rattle.rl_spec.specs.declared.ConstVal.TheVariants.{Int}
-use Rattle.rl_spec.specs.declared.Folded.TheVariants.{Value}
 use Rattle.rl_spec.specs.declared.Form.{Form}
 use Rattle.rl_spec.specs.declared.Form.TheVariants.{Literal}
-use Rattle.rl_spec.specs.declared.ProveAnswer.TheVariants.{Proved}
 use Rattle.rl_spec.specs.declared.Violation.{Violation}
 use Rattle.rl_spec.specs.declared.Violation.TheVariants.{Refinement, Requires}
 use Rattle.rl_spec.specs.Image.{Image, pair, text_of, encode}
@@ -29,7 +27,7 @@ abbrev pub formed : Image → ℕ → ℕ → Form
 formed im kind n = form_by im (literal kind n)
 
 abbrev pub whole : ℤ → Form
-whole z = Literal (Value (Int z))
+whole z = Literal (Some (Int z))
 
 pub unsigned_holds : (im : Image) (n : ℕ) → (formed im 20 n ≡ whole (pos n)) × (formed im 21 n ≡ whole (pos n)) × (formed im 23 n ≡ whole (pos n))
 unfolding form_by
@@ -130,6 +128,6 @@ unfolding before decoding folding proving
 report_goes = (refl, refl)
 
 -- the bytes of the three are accepted, and `prove` answers so many reports
-pub examples_prove : (prove_of (encode priority) 8192 0 4 ≡ Proved 1) × (prove_of (encode level) 8192 0 4 ≡ Proved 1) × (prove_of (encode twice) 8192 0 4 ≡ Proved 0)
+pub examples_prove : (prove_of (encode priority) 8192 0 4 ≡ Ok 1) × (prove_of (encode level) 8192 0 4 ≡ Ok 1) × (prove_of (encode twice) 8192 0 4 ≡ Ok 0)
 unfolding decoding folding proving prove_of
 examples_prove = (refl, refl, refl)

@@ -1,19 +1,17 @@
 -- DEMAND 3: its two theorems, from bytes. The premises are said of the records of the image that the bytes stand for. At the end, closed
 -- instances of both.
 -- Assumes nothing.
-use Rattle.std.specs.Prelude.{◌≡◌, ℕ, ◌+◌, ◌-◌, ◌*◌, ◌%◌, ◌<◌, ◌≤◌, Bool, true, cond, List, [], ◌∷◌, ◌++◌, length, take, replicate, pos, ◌==◌, ◌≢◌, slice_index, slice_index_or, refl}
+use Rattle.std.specs.Prelude.{◌≡◌, ℕ, ◌+◌, ◌-◌, ◌*◌, ◌%◌, ◌<◌, ◌≤◌, Bool, true, cond, List, [], ◌∷◌, ◌++◌, length, take, replicate, pos, ◌==◌, ◌≢◌, slice_index, slice_index_or, refl, Ok}
 use Rattle.std.proofs.Common.{ap, arith, lit<}
 use Rattle.std.proofs.Math.Option.{some}
 use Rattle.rl_spec.specs.declared.Arguments.{Arguments}
 use Rattle.rl_spec.specs.declared.Cause.{Cause}
 use Rattle.rl_spec.specs.declared.Cause.TheVariants.{WorkTooShort}
 use Rattle.rl_spec.specs.declared.ConstVal.TheVariants.{Str, Bool as Truth}
-use Rattle.rl_spec.specs.declared.LowerAnswer.TheVariants.{Lowered}
+use Rattle.rl_spec.specs.Answers.{ran, refused}
 use Rattle.rl_spec.specs.declared.Outcome.{Outcome}
 use Rattle.rl_spec.specs.declared.Outcome.TheVariants.{Returned}
 use Rattle.rl_spec.specs.declared.Plain.TheVariants.{Null, Const}
-use Rattle.rl_spec.specs.declared.ProveAnswer.TheVariants.{Proved}
-use Rattle.rl_spec.specs.declared.RunAnswer.TheVariants.{Ran, Refused}
 use Rattle.rl_spec.specs.declared.Section.TheVariants.{Texts, Expressions, Statements}
 use Rattle.rl_spec.specs.declared.Sort.TheVariants.{One, Maybe, Many}
 use Rattle.rl_spec.specs.declared.Target.{Target}
@@ -71,14 +69,14 @@ NoBareLast im f =
 -- reading in s are alike in outcome, value, message or number of the fault, texts by bytes, and in steps used
 abbrev pub RunsAsRead : List ℕ → List ℕ → ℕ → ℕ → Arguments → ℕ → Type 0
 RunsAsRead s t k f args budget =
-    ((q : Cause) (p : ℕ) → run_of s k f args budget ≡ Refused q p → run_of t k f args budget ≡ Refused q p)
-    × ((o : Outcome) (n : ℕ) → run_of s k f args budget ≡ Ran o n →
-    (o' : Outcome) × (n' : ℕ) × (run_of t k f args budget ≡ Ran o' n')
+    ((q : Cause) (p : ℕ) → run_of s k f args budget ≡ refused q p → run_of t k f args budget ≡ refused q p)
+    × ((o : Outcome) (n : ℕ) → run_of s k f args budget ≡ ran o n →
+    (o' : Outcome) × (n' : ℕ) × (run_of t k f args budget ≡ ran o' n')
     × ((outcome_in (image_of t) o', n') ≡ reading_in (image_of s) f (values_of (given args)) budget))
 
 -- THEOREM. Lowering, with a work slice of k entries, answers a length, and the lowered image is the bytes that stand in the output slice
 -- at that length. The two runs have a work slice of k' entries. The texts of the values are the original's
-pub first_half : (s : List ℕ) (k f room n : ℕ) → AllBytes s → lower_answer (lower_of s k f room) ≡ Lowered n →
+pub first_half : (s : List ℕ) (k f room n : ℕ) → AllBytes s → lower_answer (lower_of s k f room) ≡ Ok n →
     NoReservedText (image_of s) → NoBareLast (image_of s) f →
     (k' : ℕ) (args : Arguments) (budget : ℕ) → all_have (counts_of s) (given args) ≡ true →
     RunsAsRead s (take n (lower_out room (lower_of s k f room))) k' f args budget
@@ -141,9 +139,9 @@ PassesEntry im f vs budget =
 -- a call has a report
 pub data Reported (s : List ℕ) (call : ℕ) : Type 0 where
   -- of `prove`
-  proved : (k room n : ℕ) → prove_of s k call room ≡ Proved n → (n ≢ 0) → Reported s call
+  proved : (k room n : ℕ) → prove_of s k call room ≡ Ok n → (n ≢ 0) → Reported s call
   -- of `prove_all`: the j-th of the n in the slice has the call for its first entry
-  proved_all : (k room n j : ℕ) → prove_all_of s k room ≡ Proved n → j < n → slice_index (all_reports_of s k room) (j * 4) ≡ call → Reported s call
+  proved_all : (k room n j : ℕ) → prove_all_of s k room ≡ Ok n → j < n → slice_index (all_reports_of s k room) (j * 4) ≡ call → Reported s call
   -- of the printer: its i-th line begins with the call's number and a space
   printed : (i : ℕ) → i < length (lines_of s) → Begins (decimal call ++ ascii " ") (slice_index_or (lines_of s) i []) → Reported s call
 
@@ -176,7 +174,7 @@ no_values_lem = record { values = replicate 16 (record { value = Bare Null }); c
 abbrev lowered : List ℕ
 lowered = take 361 (lower_out 65535 (lower_of (encode returns_true) 8192 0 65535))
 
-lowers : lower_answer (lower_of (encode returns_true) 8192 0 65535) ≡ Lowered 361
+lowers : lower_answer (lower_of (encode returns_true) 8192 0 65535) ≡ Ok 361
 unfolding answering
 lowers = ap lower_answer ret_made
 
@@ -189,7 +187,7 @@ unfolding answering
 one_statement z l = absurd (omega (arith, l))
 
 -- with a work slice of 9,000 entries and a budget of 1,000 the lowered body returns true in 9 steps, as the original is read
-pub true_in_9 : (o : Outcome) × (m : ℕ) × (run_of lowered 9000 0 no_values_lem 1000 ≡ Ran o m)
+pub true_in_9 : (o : Outcome) × (m : ℕ) × (run_of lowered 9000 0 no_values_lem 1000 ≡ ran o m)
     × (◌≡◌ {A = Ended Text × ℕ} (outcome_in (image_of lowered) o, m) (returned (folds (value.bool true)), 9))
 unfolding answering
 true_in_9 =
@@ -197,7 +195,7 @@ true_in_9 =
     9000 no_values_lem 1000 refl).1 (Returned (Bare (Const (Truth true)))) 2 refl
 
 -- with one of 100 both runs are refused
-pub both_short : run_of lowered 100 0 no_values_lem 1000 ≡ Refused WorkTooShort 0
+pub both_short : run_of lowered 100 0 no_values_lem 1000 ≡ refused WorkTooShort 0
 unfolding answering
 both_short =
     (first_half (encode returns_true) 8192 0 65535 361 (bytes_by (encode returns_true) refl) lowers no_reserved one_statement
@@ -210,7 +208,7 @@ third_text = record { values = record { value = Bare (Const (Str 2)) } ∷ repli
 abbrev echoed : List ℕ
 echoed = take 256 (lower_out 65535 (lower_of (encode echo) 8192 0 65535))
 
-echo_lowers : lower_answer (lower_of (encode echo) 8192 0 65535) ≡ Lowered 256
+echo_lowers : lower_answer (lower_of (encode echo) 8192 0 65535) ≡ Ok 256
 unfolding answering
 echo_lowers = ap lower_answer echo_made
 
@@ -222,7 +220,7 @@ no_ensures : NoBareLast (image_of (encode echo)) 0
 unfolding answering
 no_ensures z l = absurd (omega (arith, z))
 
-pub x_in_5 : (o : Outcome) × (m : ℕ) × (run_of echoed 8192 0 third_text 1000 ≡ Ran o m)
+pub x_in_5 : (o : Outcome) × (m : ℕ) × (run_of echoed 8192 0 third_text 1000 ≡ ran o m)
     × (◌≡◌ {A = Ended Text × ℕ} (outcome_in (image_of echoed) o, m) (returned (folds (value.str (ascii "x"))), 5))
 unfolding answering
 x_in_5 =

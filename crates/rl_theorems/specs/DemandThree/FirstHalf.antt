@@ -2,21 +2,20 @@
 -- number; otherwise the run of the lowered bytes and the contract reading of the original have equal outcome and steps used, and
 -- equal value, message or number, texts by bytes. Lowering has a work slice of k entries, the two runs one of k'.
 -- Assumes nothing.
-use Rattle.std.specs.Prelude.{◌≡◌, ℕ, true, List, map, take}
+use Rattle.std.specs.Prelude.{◌≡◌, ℕ, true, List, map, take, Ok}
 use Rattle.std.proofs.Math.Path.{ap}
 use Rattle.std.proofs.Common.{sym, ◌∙◌, subst}
 use Rattle.rl_spec.specs.declared.Arguments.{Arguments}
 use Rattle.rl_spec.specs.declared.Cause.{Cause}
-use Rattle.rl_spec.specs.declared.LowerAnswer.TheVariants.{Lowered}
+use Rattle.rl_spec.specs.Answers.{ran, refused}
 use Rattle.rl_spec.specs.declared.Outcome.{Outcome}
-use Rattle.rl_spec.specs.declared.RunAnswer.TheVariants.{Ran, Refused}
 use Rattle.rl_spec.specs.Read.{counts_of}
 use Rattle.rl_spec.specs.Image.{Image, text_of, encode, image_of, AllBytes, WellFormed}
 use Rattle.rl_spec.specs.Run as run
 use Rattle.rl_spec.specs.Reading.{run_function}
 use Rattle.rl_spec.specs.Mapped.{map_value}
 use Rattle.rl_spec.specs.Functions.{contract_function, reading_in}
-use Rattle.rl_spec.specs.Lowerer.{made, lower_of, lower_answer, lower_out}
+use Rattle.rl_spec.specs.Lowerer.{lower_of, lower_answer, lower_out}
 use Rattle.rl_spec.specs.Runner.{outcome_in, all_have, given, values_of, run_of}
 use Rattle.rl_images.specs.Reading.Decode.{accepted_encodes}
 use Rattle.rl_theorems.specs.Lowering.LoweredRuns.{Premises}
@@ -26,7 +25,7 @@ use Rattle.rl_theorems.specs.DemandThree.LowerAnswers.{Made, made_for}
 use Rattle.rl_theorems.specs.DemandThree.LoweredBytes.{out_made, original_well_formed, function_there, made_well_formed, made_accepted, made_followed}
 use Rattle.rl_theorems.specs.DemandThree.KeptRuns.{Whole, refused_alike, runs_alike}
 
-module _ (s : List ℕ) (k f room : ℕ) (im' : Image) (bytes : AllBytes s) (e : lower_of s k f room ≡ made im') where
+module _ (s : List ℕ) (k f room : ℕ) (im' : Image) (bytes : AllBytes s) (e : lower_of s k f room ≡ Ok im') where
   abbrev im : Image
   im = image_of s
 
@@ -54,12 +53,12 @@ module _ (s : List ℕ) (k f room : ℕ) (im' : Image) (bytes : AllBytes s) (e :
 
   module _ (k' : ℕ) (args : Arguments) (budget : ℕ) (texts : all_have (counts_of s) (given args) ≡ true) where
     -- THEOREM: where the runner refuses the original's run, it refuses the lowered one's by the same number, at the same place
-    pub first_half_refused : (q : Cause) (p : ℕ) → run_of s k' f args budget ≡ Refused q p → run_of (encode im') k' f args budget ≡ Refused q p
+    pub first_half_refused : (q : Cause) (p : ℕ) → run_of s k' f args budget ≡ refused q p → run_of (encode im') k' f args budget ≡ refused q p
     first_half_refused = refused_alike s (encode im') original_whole made_whole made_keeps k' f args budget texts
 
     -- THEOREM: where it does not, both run, and the lowered body's run is the original's contract reading
-    pub first_half : Premises (contract_function im f) → (o : Outcome) (n : ℕ) → run_of s k' f args budget ≡ Ran o n →
-        (o' : Outcome) × (n' : ℕ) × (run_of (encode im') k' f args budget ≡ Ran o' n')
+    pub first_half : Premises (contract_function im f) → (o : Outcome) (n : ℕ) → run_of s k' f args budget ≡ ran o n →
+        (o' : Outcome) × (n' : ℕ) × (run_of (encode im') k' f args budget ≡ ran o' n')
         × ((outcome_in (image_of (encode im')) o', n') ≡ reading_in im f (values_of (given args)) budget)
     unfolding reading_in
     first_half h o n r =
@@ -73,19 +72,19 @@ module _ (s : List ℕ) (k f room : ℕ) (im' : Image) (bytes : AllBytes s) (e :
         )
 
 -- the same of the bytes that stand in the output slice at the length that lowering answers
-module _ (s : List ℕ) (k f room n : ℕ) (bytes : AllBytes s) (e : lower_answer (lower_of s k f room) ≡ Lowered n) (k' : ℕ) (args : Arguments)
+module _ (s : List ℕ) (k f room n : ℕ) (bytes : AllBytes s) (e : lower_answer (lower_of s k f room) ≡ Ok n) (k' : ℕ) (args : Arguments)
     (budget : ℕ) (texts : all_have (counts_of s) (given args) ≡ true) where
   abbrev out : List ℕ
   out = take n (lower_out room (lower_of s k f room))
 
-  there : (im' : Image) × (lower_of s k f room ≡ made im') × (out ≡ encode im')
+  there : (im' : Image) × (lower_of s k f room ≡ Ok im') × (out ≡ encode im')
   there = out_made s k f room n e
 
   -- THEOREMS
-  pub out_refused : (q : Cause) (p : ℕ) → run_of s k' f args budget ≡ Refused q p → run_of out k' f args budget ≡ Refused q p
+  pub out_refused : (q : Cause) (p : ℕ) → run_of s k' f args budget ≡ refused q p → run_of out k' f args budget ≡ refused q p
   out_refused q p r = rw there.2 (first_half_refused s k f room there.0 bytes there.1 k' args budget texts q p r)
 
-  pub out_reads : Premises (contract_function (image_of s) f) → (o : Outcome) (m : ℕ) → run_of s k' f args budget ≡ Ran o m →
-      (o' : Outcome) × (m' : ℕ) × (run_of out k' f args budget ≡ Ran o' m')
+  pub out_reads : Premises (contract_function (image_of s) f) → (o : Outcome) (m : ℕ) → run_of s k' f args budget ≡ ran o m →
+      (o' : Outcome) × (m' : ℕ) × (run_of out k' f args budget ≡ ran o' m')
       × ((outcome_in (image_of out) o', m') ≡ reading_in (image_of s) f (values_of (given args)) budget)
   out_reads h o m r = rw there.2 (first_half s k f room there.0 bytes there.1 k' args budget texts h o m r)

@@ -10,8 +10,7 @@ use Rattle.rl_spec.specs.declared.ConstVal.TheVariants.{Str, Bool as Truth}
 use Rattle.rl_spec.specs.declared.Outcome.{Outcome}
 use Rattle.rl_spec.specs.declared.Outcome.TheVariants.{Returned}
 use Rattle.rl_spec.specs.declared.Plain.TheVariants.{Null, Const}
-use Rattle.rl_spec.specs.declared.RunAnswer.{RunAnswer}
-use Rattle.rl_spec.specs.declared.RunAnswer.TheVariants.{Ran, Refused}
+use Rattle.rl_spec.specs.Answers.{RunAnswer, ran, refused}
 use Rattle.rl_spec.specs.declared.Value.{Value}
 use Rattle.rl_spec.specs.declared.Value.TheVariants.{Plain as Bare}
 use Rattle.rl_spec.specs.Image.{Image, encode, image_of}
@@ -55,19 +54,19 @@ unfolding answering CleanChecks
 echo_premises = record { ensures = tt; last = tt }
 
 -- on the text "x"
-pub echo_example : (o : Outcome) × (n : ℕ) × (runs echo_lowered (text 2) ≡ Ran o n) × ((outcome_in (image_of (encode echo_lowered)) o, n) ≡ reads echo (text 2))
+pub echo_example : (o : Outcome) × (n : ℕ) × (runs echo_lowered (text 2) ≡ ran o n) × ((outcome_in (image_of (encode echo_lowered)) o, n) ≡ reads echo (text 2))
 unfolding answering
 echo_example =
     first_half (encode echo) 8192 0 65535 echo_lowered (bytes_by (encode echo) refl) echo_made 8192 (text 2) 1000 refl echo_premises
     (Returned (Bare (Const (Str 2)))) 2 refl
 
-pub echo_ends : (runs echo_lowered (text 2) ≡ Ran (Returned (Bare (Const (Str 2)))) 5)
+pub echo_ends : (runs echo_lowered (text 2) ≡ ran (Returned (Bare (Const (Str 2)))) 5)
     × (reads echo (text 2) ≡ (returned (folds (value.str (ascii "x"))), 5))
 unfolding answering
 echo_ends = (refl, refl)
 
 -- marked case 14's image
-pub ret_ends : (runs (promising_lowered "ret") no_values_lem ≡ Ran yes 9)
+pub ret_ends : (runs (promising_lowered "ret") no_values_lem ≡ ran yes 9)
     × (reads (promising "ret") no_values_lem ≡ (returned (folds (value.bool true)), 9))
 unfolding answering
 ret_ends = (refl, refl)
@@ -75,18 +74,18 @@ ret_ends = (refl, refl)
 -- ---- NEEDED
 
 -- the values' texts are the original's: the lowered image has a fourth text, and runs where the original's run is refused
-pub texts_needed : (runs echo (text 3) ≡ Refused NoSuchText 0) × (runs echo_lowered (text 3) ≡ Ran (Returned (Bare (Const (Str 3)))) 5)
+pub texts_needed : (runs echo (text 3) ≡ refused NoSuchText 0) × (runs echo_lowered (text 3) ≡ ran (Returned (Bare (Const (Str 3)))) 5)
 unfolding answering
 texts_needed = (refl, refl)
 
 -- no reserved name in the ensures: the lowered body finds its own temporary
-pub names_needed : (runs (promising_lowered "__ensure_ret_0") no_values_lem ≡ Ran yes 9)
+pub names_needed : (runs (promising_lowered "__ensure_ret_0") no_values_lem ≡ ran yes 9)
     × (reads (promising "__ensure_ret_0") no_values_lem ≡ (fault 3, 7))
 unfolding answering
 names_needed = (refl, refl)
 
 -- a bare last expression is the only statement: the lowered body begins with it
-pub last_needed : (runs loop_and_last_lowered no_values_lem ≡ Ran yes 9) × (reads loop_and_last no_values_lem ≡ (fault 4, 9))
+pub last_needed : (runs loop_and_last_lowered no_values_lem ≡ ran yes 9) × (reads loop_and_last no_values_lem ≡ (fault 4, 9))
 unfolding answering
 last_needed = (refl, refl)
 

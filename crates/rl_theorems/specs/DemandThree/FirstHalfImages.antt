@@ -1,13 +1,13 @@
 -- Images for the first half of demand 3, and what lowering makes of them, by computation.
 -- Assumes nothing.
 use Prim.Native.String.{String}
-use Rattle.std.specs.Prelude.{◌≡◌, [], ◌∷◌, refl}
+use Rattle.std.specs.Prelude.{◌≡◌, [], ◌∷◌, refl, Ok}
 use Rattle.std.proofs.Common.{ap, ◌∙◌, lit<, lit≤}
 use Rattle.std.proofs.Math.Option.{some}
 use Rattle.rl_spec.specs.Image.{Image, num, pair, encode}
 use Rattle.rl_spec.specs.Functions.{plain_function, reading_in}
 use Rattle.rl_spec.specs.Lower.{lowered}
-use Rattle.rl_spec.specs.Lowerer.{made, or_limit, lower_of}
+use Rattle.rl_spec.specs.Lowerer.{or_limit, lower_of}
 use Rattle.rl_spec.specs.Runner.{all_have, ran_in, run_of}
 use Rattle.rl_theorems.specs.Reading.EncodedAnswers.{lowered_encoded, well_formed_by}
 use Rattle.rl_examples.specs.MarkedImages.{made as a, bool, identifier, parameter, clause, function, build}
@@ -90,7 +90,7 @@ promising_lowered name =
 
 -- with the shortest slices
 abbrev pub Makes : Image → Image → Type 0
-Makes im im' = lower_of (encode im) 8192 0 65535 ≡ made im'
+Makes im im' = lower_of (encode im) 8192 0 65535 ≡ Ok im'
 
 echo_whole : lowered echo 0 ≡ some echo_lowered
 unfolding lowering

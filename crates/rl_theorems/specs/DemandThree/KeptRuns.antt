@@ -2,17 +2,15 @@
 -- are the first one's: where the first is refused, so is the second, by the same number; otherwise the second ends as the function that
 -- it has, with texts by their bytes.
 -- Assumes nothing.
-use Rattle.std.specs.Prelude.{◌≡◌, ℕ, ◌<◌, ◌≤◌, Bool, true, false, cond, not, List, map, nat_lt}
+use Rattle.std.specs.Prelude.{◌≡◌, ℕ, ◌<◌, ◌≤◌, Bool, true, false, cond, not, List, map, nat_lt, Ok, Err}
 use Rattle.std.proofs.Math.Path.{refl, ap}
 use Rattle.std.proofs.Common.{sym, ◌∙◌, subst}
 use borrow.Author.Tests.{lt-ltb, le-ltb}
-use Rattle.rl_spec.specs.declared.Answer.TheVariants as read
+use Rattle.rl_spec.specs.Answers.{accepted, ran, refused, RunAnswer}
 use Rattle.rl_spec.specs.declared.Arguments.{Arguments}
 use Rattle.rl_spec.specs.declared.Cause.{Cause}
 use Rattle.rl_spec.specs.declared.Cause.TheVariants.{WorkTooShort, NoSuchFunction, WrongValues, BudgetOverLimit}
 use Rattle.rl_spec.specs.declared.Outcome.{Outcome}
-use Rattle.rl_spec.specs.declared.RunAnswer.{RunAnswer}
-use Rattle.rl_spec.specs.declared.RunAnswer.TheVariants.{Ran, Refused}
 use Rattle.rl_spec.specs.declared.Section.TheVariants.{Texts, Functions}
 use Rattle.rl_spec.specs.Read.{counts_of, read_of, answer_of}
 use Rattle.rl_spec.specs.Image.{Image, size_of, text_of, encode, image_of, WellFormed}
@@ -38,10 +36,10 @@ pub record Whole (s : List ℕ) : Type 0 where
   pub bytes : encode (image_of s) ≡ s
 
 -- with a work slice that is long enough they are accepted, and with any other refused by 2
-whole_accepted : (s : List ℕ) (k : ℕ) → Whole s → 8192 ≤ k → answer_of s k ≡ read.Accepted (record { 0 = (image_of s).arena }) (counts (image_of s))
+whole_accepted : (s : List ℕ) (k : ℕ) → Whole s → 8192 ≤ k → answer_of s k ≡ accepted (record { 0 = (image_of s).arena }) (counts (image_of s))
 whole_accepted s k w l = rw w.bytes at (encoded_accepted (image_of s) k w.well_formed l)
 
-whole_short : (s : List ℕ) (k : ℕ) → Whole s → k < 8192 → answer_of s k ≡ read.Refused WorkTooShort 0
+whole_short : (s : List ℕ) (k : ℕ) → Whole s → k < 8192 → answer_of s k ≡ refused WorkTooShort 0
 unfolding answer_of read_of
 whole_short s k w l = rw (← w.bytes, le-ltb 65535 _ w.well_formed.size, lt-ltb k 8192 l) refl
 
@@ -69,26 +67,26 @@ outcome_back run.spent = refl
 
 abbrev admitted : Bool → Bool → Bool → RunAnswer → RunAnswer
 admitted there fits over r =
-    cond (not there) (Refused NoSuchFunction 0)
-    (cond (not fits) (Refused WrongValues 0) (cond over (Refused BudgetOverLimit 0) r))
+    cond (not there) (refused NoSuchFunction 0)
+    (cond (not fits) (refused WrongValues 0) (cond over (refused BudgetOverLimit 0) r))
 
 abbrev IsRun : RunAnswer → Type 0
-IsRun (Ran o n) = Unit {0}
-IsRun (Refused q p) = ⊥
+IsRun (Ok h) = Unit {0}
+IsRun (Err r) = ⊥
 
-no_run : {P : Type 0} (q : Cause) (p : ℕ) (o : Outcome) (n : ℕ) → Refused q p ≡ Ran o n → P
+no_run : {P : Type 0} (q : Cause) (p : ℕ) (o : Outcome) (n : ℕ) → refused q p ≡ ran o n → P
 no_run q p o n e = absurd (subst IsRun (sym e) tt)
 
 -- what they refuse does not depend on the run
-same_refusal : (there fits over : Bool) (o o' : Outcome) (n n' : ℕ) (q : Cause) (p : ℕ) → admitted there fits over (Ran o n) ≡ Refused q p →
-    admitted there fits over (Ran o' n') ≡ Refused q p
+same_refusal : (there fits over : Bool) (o o' : Outcome) (n n' : ℕ) (q : Cause) (p : ℕ) → admitted there fits over (ran o n) ≡ refused q p →
+    admitted there fits over (ran o' n') ≡ refused q p
 same_refusal false fits over o o' n n' q p e = e
 same_refusal true false over o o' n n' q p e = e
 same_refusal true true true o o' n n' q p e = e
 same_refusal true true false o o' n n' q p e = absurd (subst IsRun e tt)
 
 -- what they let pass is run
-both_run : (there fits over : Bool) (r r' : RunAnswer) (o : Outcome) (n : ℕ) → admitted there fits over r ≡ Ran o n →
+both_run : (there fits over : Bool) (r r' : RunAnswer) (o : Outcome) (n : ℕ) → admitted there fits over r ≡ ran o n →
     admitted there fits over r' ≡ r'
 both_run false fits over r r' o n e = no_run _ _ o n e
 both_run true false over r r' o n e = no_run _ _ o n e
@@ -126,7 +124,7 @@ module _ (s s' : List ℕ) (w : Whole s) (w' : Whole s') (to : Keeps (image_of s
       (λ d. rw (whole_accepted s' k w' l, to.functions, le-ltb f (size_of im Functions) d) refl)
 
   -- THEOREM: where the first is refused, so is the second, by the same number, at the same place
-  pub refused_alike : (q : Cause) (p : ℕ) → run_of s k f args budget ≡ Refused q p → run_of s' k f args budget ≡ Refused q p
+  pub refused_alike : (q : Cause) (p : ℕ) → run_of s k f args budget ≡ refused q p → run_of s' k f args budget ≡ refused q p
   unfolding ran_in run_of
   refused_alike q p r =
       by_ltb k 8192
@@ -134,7 +132,7 @@ module _ (s s' : List ℕ) (w : Whole s) (w' : Whole s') (to : Keeps (image_of s
       (λ l. second_runs l ∙ same_refusal there fits (nat_lt 1000000 budget) _ _ _ _ q p (sym (first_runs l) ∙ r))
 
   -- what runs is there
-  pub ran_there : (o : Outcome) (n : ℕ) → run_of s k f args budget ≡ Ran o n → f < size_of im Functions
+  pub ran_there : (o : Outcome) (n : ℕ) → run_of s k f args budget ≡ ran o n → f < size_of im Functions
   unfolding run_of
   ran_there o n r =
       by_ltb f (size_of im Functions) (λ l. l)
@@ -158,8 +156,8 @@ module _ (s s' : List ℕ) (w : Whole s) (w' : Whole s') (to : Keeps (image_of s
       ∙ plain_runs im' f (map (map_value (text_of im)) vs) budget)
 
   -- THEOREM: otherwise the second runs, as the function that it has
-  pub runs_alike : (o : Outcome) (n : ℕ) → run_of s k f args budget ≡ Ran o n →
-      (o' : Outcome) × (n' : ℕ) × (run_of s' k f args budget ≡ Ran o' n')
+  pub runs_alike : (o : Outcome) (n : ℕ) → run_of s k f args budget ≡ ran o n →
+      (o' : Outcome) × (n' : ℕ) × (run_of s' k f args budget ≡ ran o' n')
       × ((outcome_in im' o', n') ≡ run.used budget (run_function (λ t. t) (contract_function im' f) (map (map_value (text_of im)) vs) budget))
   unfolding ran_in run_of
   runs_alike o n r =

@@ -1,16 +1,16 @@
 -- What is known where lowering makes an image.
 -- Assumes nothing.
-use Rattle.std.specs.Prelude.{◌≡◌, ℕ, suc, ◌<◌, ◌≤◌, List, [], ◌∷◌, slice_index}
+use Rattle.std.specs.Prelude.{◌≡◌, ℕ, suc, ◌<◌, ◌≤◌, List, [], ◌∷◌, slice_index, Ok}
 use Rattle.std.proofs.Common.{subst, inl, inr, lt_of_not-le}
 use Rattle.std.proofs.Math.Option.{some}
 use Rattle.rl_spec.specs.declared.ArenaNo.{ArenaNo}
 use Rattle.rl_spec.specs.declared.Counts.{Counts}
-use Rattle.rl_spec.specs.declared.Answer.TheVariants.{Accepted}
+use Rattle.rl_spec.specs.Answers.{accepted}
 use Rattle.rl_spec.specs.declared.Section.TheVariants.{Expressions, Statements, Functions}
 use Rattle.rl_spec.specs.Read.{answer_of}
 use Rattle.rl_spec.specs.Image.{Image, heights, image_of}
 use Rattle.rl_spec.specs.Lower.{lowered}
-use Rattle.rl_spec.specs.Lowerer.{made, lower_of}
+use Rattle.rl_spec.specs.Lowerer.{lower_of}
 use Rattle.rl_images.specs.Reading.Table.{unmet_parts}
 use Rattle.rl_images.specs.Reading.Rows.{read_rows}
 use Rattle.rl_laws.specs.Tests.{not_below}
@@ -27,7 +27,7 @@ module _ (s : List ℕ) (k f room : ℕ) where
   pub record Made (im' : Image) : Type 0 where
     pub arena : ArenaNo
     pub counts : Counts
-    pub accepted : answer_of s k ≡ Accepted arena counts
+    pub accepted : answer_of s k ≡ accepted arena counts
     pub there : f < counts.functions
     pub low : Under 64 (heights (image_of s) Expressions)
     pub lower : Under 32 (heights (image_of s) Statements)
@@ -35,7 +35,7 @@ module _ (s : List ℕ) (k f room : ℕ) where
     pub is : lowered (image_of s) f ≡ some im'
 
   -- THEOREM
-  pub made_for : (im' : Image) → lower_of s k f room ≡ made im' → Made im'
+  pub made_for : (im' : Image) → lower_of s k f room ≡ Ok im' → Made im'
   made_for im' e =
       let x = (making_accepts s k f room im').0 e in
       let u = unmet_parts (read_rows s k) (making_rows (image_of s) f room) x.0 in

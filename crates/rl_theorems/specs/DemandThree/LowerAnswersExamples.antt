@@ -3,7 +3,8 @@
 use Rattle.std.specs.Prelude.{◌≡◌, ℕ, zero, suc, List, [], ◌∷◌, replicate, refl}
 use Rattle.rl_spec.specs.declared.Cause.TheVariants.{WorkTooShort, NoSuchFunction, HeightOverLimit, OutputTooShort, LimitPassed}
 use Rattle.rl_spec.specs.Image.{Image, Rec, pair, encode}
-use Rattle.rl_spec.specs.Lowerer.{Lowering, refused, lower_number, lower_of}
+use Rattle.rl_spec.specs.Answers.{refused}
+use Rattle.rl_spec.specs.Lowerer.{Lowering, lower_number, lower_of}
 use Rattle.rl_examples.specs.MarkedImages.{made, bool, grouping, clause, function}
 use Rattle.rl_examples.specs.LowerExamples.{lowering}
 use Rattle.rl_theorems.specs.DemandThree.Marked.{decoding, measuring}

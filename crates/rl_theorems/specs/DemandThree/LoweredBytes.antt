@@ -1,16 +1,14 @@
 -- The bytes that lowering writes: they are those of a well-formed image, accepted, and they stand for the original's records followed by
 -- the new ones.
 -- Assumes nothing.
-use Rattle.std.specs.Prelude.{◌≡◌, ℕ, ◌-◌, ◌<◌, List, length, take, replicate, refl}
+use Rattle.std.specs.Prelude.{◌≡◌, ℕ, ◌-◌, ◌<◌, List, length, take, replicate, refl, Ok, Err}
 use Rattle.std.proofs.Common.{ap, sym, ◌∙◌, subst, arith}
 use Rattle.std.proofs.Math.Seq.{take-append_seam}
-use Rattle.rl_spec.specs.declared.Answer.TheVariants.{Accepted}
+use Rattle.rl_spec.specs.Answers.{accepted, refused, LowerAnswer}
 use Rattle.rl_spec.specs.declared.Section.TheVariants.{Functions}
 use Rattle.rl_spec.specs.Read.{answer_of}
 use Rattle.rl_spec.specs.Image.{Image, size_of, encode, image_of, AllBytes, WellFormed}
-use Rattle.rl_spec.specs.declared.LowerAnswer.{LowerAnswer}
-use Rattle.rl_spec.specs.declared.LowerAnswer.TheVariants.{Lowered, Refused}
-use Rattle.rl_spec.specs.Lowerer.{Lowering, made, refused, lower_of, lower_answer, lower_out}
+use Rattle.rl_spec.specs.Lowerer.{Lowering, lower_of, lower_answer, lower_out}
 use Rattle.rl_images.specs.Encoding.ReaderKnows.{counts}
 use Rattle.rl_images.specs.Reading.Starts.{sizes_are_counts}
 use Rattle.rl_images.specs.Encoding.Accepted.{accepted_long, accepted_well_formed}
@@ -20,28 +18,28 @@ use Rattle.rl_theorems.specs.Images.LoweredWellFormed.{lowered_well_formed, lowe
 use Rattle.rl_theorems.specs.DemandThree.LowerAnswers.{Made, made_for}
 
 abbrev size_in : LowerAnswer → ℕ
-size_in (Lowered n) = n
-size_in (Refused q n) = 0
+size_in (Ok n) = n
+size_in (Err r) = 0
 
 abbrev IsLowered : LowerAnswer → Type 0
-IsLowered (Lowered n) = Unit {0}
-IsLowered (Refused q n) = ⊥
+IsLowered (Ok n) = Unit {0}
+IsLowered (Err r) = ⊥
 
-written : (room : ℕ) (im' : Image) → take (length (encode im')) (lower_out room (made im')) ≡ encode im'
+written : (room : ℕ) (im' : Image) → take (length (encode im')) (lower_out room (Ok im')) ≡ encode im'
 written room im' = take-append_seam (encode im') (replicate (room - length (encode im')) 0)
 
 -- where lowering answers a length, it made an image, whose bytes stand in the output slice at that length
-pub out_made : (s : List ℕ) (k f room n : ℕ) → lower_answer (lower_of s k f room) ≡ Lowered n →
-    (im' : Image) × (lower_of s k f room ≡ made im') × (take n (lower_out room (lower_of s k f room)) ≡ encode im')
+pub out_made : (s : List ℕ) (k f room n : ℕ) → lower_answer (lower_of s k f room) ≡ Ok n →
+    (im' : Image) × (lower_of s k f room ≡ Ok im') × (take n (lower_out room (lower_of s k f room)) ≡ encode im')
 out_made s k f room n e = go (lower_of s k f room) refl e
   where
-    go : (l : Lowering) → lower_of s k f room ≡ l → lower_answer l ≡ Lowered n →
-        (im' : Image) × (lower_of s k f room ≡ made im') × (take n (lower_out room l) ≡ encode im')
-    go (made im') d q =
-        (im', d, ap (λ m. take m (lower_out room (made im'))) (sym (ap size_in q)) ∙ written room im')
-    go (refused c p) d q = absurd (subst IsLowered (sym q) tt)
+    go : (l : Lowering) → lower_of s k f room ≡ l → lower_answer l ≡ Ok n →
+        (im' : Image) × (lower_of s k f room ≡ Ok im') × (take n (lower_out room l) ≡ encode im')
+    go (Ok im') d q =
+        (im', d, ap (λ m. take m (lower_out room (Ok im'))) (sym (ap size_in q)) ∙ written room im')
+    go (Err r) d q = absurd (subst IsLowered (sym q) tt)
 
-module _ (s : List ℕ) (k f room : ℕ) (im' : Image) (bytes : AllBytes s) (e : lower_of s k f room ≡ made im') where
+module _ (s : List ℕ) (k f room : ℕ) (im' : Image) (bytes : AllBytes s) (e : lower_of s k f room ≡ Ok im') where
   by : Made s k f room im'
   by = made_for s k f room im' e
 
@@ -57,7 +55,7 @@ module _ (s : List ℕ) (k f room : ℕ) (im' : Image) (bytes : AllBytes s) (e :
   pub made_well_formed : WellFormed im'
   made_well_formed = lowered_well_formed (image_of s) im' f original_well_formed function_there by.low by.lower by.is
 
-  pub made_accepted : (answer_of (encode im') k ≡ Accepted (record { 0 = im'.arena }) (counts im')) × (image_of (encode im') ≡ im')
+  pub made_accepted : (answer_of (encode im') k ≡ accepted (record { 0 = im'.arena }) (counts im')) × (image_of (encode im') ≡ im')
   made_accepted =
       lowered_accepted (image_of s) im' f k original_well_formed function_there by.low by.lower by.is
       (accepted_long s k by.arena by.counts by.accepted)

@@ -1,21 +1,16 @@
 -- The marked cases as one list, from the bytes of small images; and the printer's example.
 -- Assumes nothing.
-use Rattle.std.specs.Prelude.{◌≡◌, ℕ, ◌-◌, ◌<◌, ◌≤◌, true, false, List, [], ◌∷◌, ◌++◌, map, length, replicate, pos, negsuc, refl}
+use Rattle.std.specs.Prelude.{◌≡◌, ℕ, ◌-◌, ◌<◌, ◌≤◌, true, false, List, [], ◌∷◌, ◌++◌, map, length, replicate, pos, negsuc, refl, None, Some, Ok}
 use Prim.Native.String.{String}
 use Rattle.std.proofs.Common.{ap, subst, ◌∙◌, arith, lit<}
 use Rattle.std.proofs.Math.Option.{Option, none, some}
 use Rattle.std.specs.Float.Ieee as F
-use Rattle.rl_spec.specs.declared.Answer.TheVariants.{Accepted}
+use Rattle.rl_spec.specs.Answers.{accepted, ran, Folded}
 use Rattle.rl_spec.specs.declared.Arguments.{Arguments}
 use Rattle.rl_spec.specs.declared.ConstVal.TheVariants.{Int, Bool as Truth}
-use Rattle.rl_spec.specs.declared.Folded.{Folded}
-use Rattle.rl_spec.specs.declared.Folded.TheVariants.{Value, Nothing}
-use Rattle.rl_spec.specs.declared.FoldAnswer.TheVariants.{Found}
 use Rattle.rl_spec.specs.declared.Outcome.{Outcome}
 use Rattle.rl_spec.specs.declared.Outcome.TheVariants.{Returned}
 use Rattle.rl_spec.specs.declared.Plain.TheVariants.{Const}
-use Rattle.rl_spec.specs.declared.ProveAnswer.TheVariants.{Proved}
-use Rattle.rl_spec.specs.declared.RunAnswer.TheVariants.{Ran}
 use Rattle.rl_spec.specs.declared.Section.TheVariants.{Expressions, Functions, Calls}
 use Rattle.rl_spec.specs.declared.Value.TheVariants.{Plain as Bare}
 use Rattle.rl_spec.specs.declared.Violation.{Violation}
@@ -42,7 +37,7 @@ use Rattle.rl_spec.specs.Runner.{outcome_in, all_have, ran_of, ran_in, run_of}
 use Rattle.rl_spec.specs.Message.{decimal_by, decimal, message_by, opening, message_of}
 use Rattle.rl_spec.specs.Printed.{output_of}
 use Rattle.rl_spec.specs.Lower.{lowered}
-use Rattle.rl_spec.specs.Lowerer.{made, any_over, too_tall, or_limit, lower_of}
+use Rattle.rl_spec.specs.Lowerer.{any_over, too_tall, or_limit, lower_of}
 use Rattle.rl_images.specs.Encoding.ReaderKnows.{counts}
 use Rattle.rl_theorems.specs.Reading.EncodedAnswers.{lowered_encoded, ran_encoded, proved_encoded, reports_encoded, all_proved_encoded, all_reports_encoded, fitting_room, slice_room, are_bytes, well_formed_by, folded_longer}
 use Rattle.rl_theorems.specs.Runs.Budget.{run_same, reading_same}
@@ -54,7 +49,7 @@ use Rattle.rl_examples.specs.PrinterExamples.{two_lines, refusals}
 
 -- from the image's bytes, with any work slice that is long enough, folding the last node answers v
 pub record Folds (im : Image) (v : Folded) : Type 0 where
-  pub answer : (k : ℕ) → 8192 ≤ k → fold_of (encode im) k (last_node im) ≡ Found v
+  pub answer : (k : ℕ) → 8192 ≤ k → fold_of (encode im) k (last_node im) ≡ Ok v
 
 -- a call has one report, by what it violates, its entries and its message; and from the image's bytes, with any slices that are long
 -- enough, proving the call answers it
@@ -63,7 +58,7 @@ pub record Reports (im : Image) (call : ℕ) (v : Violation) (report : List ℕ)
   pub entries : call_entries im call ≡ report
   pub text : message_of im call v ≡ ascii message
   pub image : image_of (encode im) ≡ im
-  pub answer : (k room : ℕ) → 8192 ≤ k → 4 ≤ room → prove_of (encode im) k call room ≡ Proved 1
+  pub answer : (k room : ℕ) → 8192 ≤ k → 4 ≤ room → prove_of (encode im) k call room ≡ Ok 1
   pub slice : (k room : ℕ) → 8192 ≤ k → 4 ≤ room → reports_of (encode im) k call room ≡ report ++ replicate (room - 4) 0
 
 -- from the image's bytes, with any slices that are long enough, lowering a function makes an image with nodes of these kinds
@@ -71,7 +66,7 @@ pub record Lowers (im : Image) (f : ℕ) (kinds : List ℕ) : Type 0 where
   pub lowered : Image
   pub nodes : map (λ (r : Rec). r.kind) (records_of lowered Expressions) ≡ kinds
   pub image : image_of (encode im) ≡ im
-  pub answer : (k room : ℕ) → 8192 ≤ k → 65535 ≤ room → lower_of (encode im) k f room ≡ made lowered
+  pub answer : (k room : ℕ) → 8192 ≤ k → 65535 ≤ room → lower_of (encode im) k f room ≡ Ok lowered
 
 -- with any budget that is enough, the contract reading of a function comes to this outcome in so many steps; and from the image's bytes,
 -- with any slices that are long enough, lowering it makes an image from whose bytes the function runs to it in as many
@@ -79,8 +74,8 @@ pub record EndsSo (im : Image) (f : ℕ) (o : Outcome) (steps : ℕ) : Type 0 wh
   pub image : image_of (encode im) ≡ im
   pub reads : (budget : ℕ) → steps ≤ budget → reading_in im f [] budget ≡ (outcome_in im o, steps)
   pub lowered : Image
-  pub answer : (k room : ℕ) → 8192 ≤ k → 65535 ≤ room → lower_of (encode im) k f room ≡ made lowered
-  pub runs : (k budget : ℕ) (args : Arguments) → 8192 ≤ k → args.count ≡ 0 → steps ≤ budget → budget ≤ 1000000 → run_of (encode lowered) k f args budget ≡ Ran o steps
+  pub answer : (k room : ℕ) → 8192 ≤ k → 65535 ≤ room → lower_of (encode im) k f room ≡ Ok lowered
+  pub runs : (k budget : ℕ) (args : Arguments) → 8192 ≤ k → args.count ≡ 0 → steps ≤ budget → budget ≤ 1000000 → run_of (encode lowered) k f args budget ≡ ran o steps
 
 -- the names found in the first pass over a call of the f-th function
 abbrev pub names_found : Image → ℕ → ℕ → List (Binding ℕ)
@@ -90,23 +85,23 @@ names_found im f call = bind_arguments (text_of im) [] (contracts_of im f).param
 
 pub record MarkedCases : Type 0 where
   -- 1. -(-9223372036854775808): none
-  pub case1 : Folds (nodes [] (integer (negsuc 9223372036854775807) ∷ grouping 0 ∷ unary minus 1 ∷ [])) Nothing
+  pub case1 : Folds (nodes [] (integer (negsuc 9223372036854775807) ∷ grouping 0 ∷ unary minus 1 ∷ [])) None
   -- 2. 9223372036854775807 + 1: none
-  pub case2 : Folds (nodes [] (integer (pos 9223372036854775807) ∷ integer (pos 1) ∷ binary 0 plus 1 ∷ [])) Nothing
+  pub case2 : Folds (nodes [] (integer (pos 9223372036854775807) ∷ integer (pos 1) ∷ binary 0 plus 1 ∷ [])) None
   -- 3. -7 / 2 = -3; the -7 a literal, and `-` of 7
-  pub case3 : Folds (nodes [] (integer (negsuc 6) ∷ integer (pos 2) ∷ binary 0 slash 1 ∷ [])) (Value (Int (negsuc 2))) × Folds (nodes [] (integer (pos 7) ∷ unary minus 0 ∷ integer (pos 2) ∷ binary 1 slash 2 ∷ [])) (Value (Int (negsuc 2)))
+  pub case3 : Folds (nodes [] (integer (negsuc 6) ∷ integer (pos 2) ∷ binary 0 slash 1 ∷ [])) (Some (Int (negsuc 2))) × Folds (nodes [] (integer (pos 7) ∷ unary minus 0 ∷ integer (pos 2) ∷ binary 1 slash 2 ∷ [])) (Some (Int (negsuc 2)))
   -- 4. 7 / 0: none
-  pub case4 : Folds (nodes [] (integer (pos 7) ∷ integer (pos 0) ∷ binary 0 slash 1 ∷ [])) Nothing
+  pub case4 : Folds (nodes [] (integer (pos 7) ∷ integer (pos 0) ∷ binary 0 slash 1 ∷ [])) None
   -- 5. UInt 9223372036854775808: none; one less folds
-  pub case5 : Folds (nodes [] (uint 9223372036854775808 ∷ [])) Nothing × Folds (nodes [] (uint 9223372036854775807 ∷ [])) (Value (Int (pos 9223372036854775807)))
+  pub case5 : Folds (nodes [] (uint 9223372036854775808 ∷ [])) None × Folds (nodes [] (uint 9223372036854775807 ∷ [])) (Some (Int (pos 9223372036854775807)))
   -- 6. 9007199254740993 == 9007199254740992.0: true
-  pub case6 : Folds (nodes [] (integer (pos 9007199254740993) ∷ float 0x4340000000000000 ∷ binary 0 compare 1 ∷ [])) (Value (Truth true))
+  pub case6 : Folds (nodes [] (integer (pos 9007199254740993) ∷ float 0x4340000000000000 ∷ binary 0 compare 1 ∷ [])) (Some (Truth true))
   -- 7. 1.0 / -0.0: none; the -0.0 a literal, and `-` of 0.0
-  pub case7 : Folds (nodes [] (float 0x3FF0000000000000 ∷ float 0x8000000000000000 ∷ binary 0 slash 1 ∷ [])) Nothing × Folds (nodes [] (float 0x3FF0000000000000 ∷ float 0 ∷ unary minus 1 ∷ binary 0 slash 2 ∷ [])) Nothing
+  pub case7 : Folds (nodes [] (float 0x3FF0000000000000 ∷ float 0x8000000000000000 ∷ binary 0 slash 1 ∷ [])) None × Folds (nodes [] (float 0x3FF0000000000000 ∷ float 0 ∷ unary minus 1 ∷ binary 0 slash 2 ∷ [])) None
   -- 8. true < false: none; "a" < "b": true
-  pub case8 : Folds (nodes [] (bool 1 ∷ bool 0 ∷ binary 0 less 1 ∷ [])) Nothing × Folds (nodes ("a" ∷ "b" ∷ []) (string 0 ∷ string 1 ∷ binary 0 less 1 ∷ [])) (Value (Truth true))
+  pub case8 : Folds (nodes [] (bool 1 ∷ bool 0 ∷ binary 0 less 1 ∷ [])) None × Folds (nodes ("a" ∷ "b" ∷ []) (string 0 ∷ string 1 ∷ binary 0 less 1 ∷ [])) (Some (Truth true))
   -- 9. Byte 5: 5
-  pub case9 : Folds (nodes [] (byte 5 ∷ [])) (Value (Int (pos 5)))
+  pub case9 : Folds (nodes [] (byte 5 ∷ [])) (Some (Int (pos 5)))
   -- 10. Node 0 an Identifier as requires without message, empty plain body: 1 String, 2 Identifier, 3 Unary, 4 ErrLiteral, 5 Call
   pub case10 : Lowers requires_identifier 0 (30 ∷ 25 ∷ 30 ∷ 33 ∷ 50 ∷ 41 ∷ [])
   -- 11. Result function, one-node ensures without message, one kind 66: 10 new nodes, behind the original's three
@@ -125,15 +120,15 @@ pub record PrinterExample : Type 0 where
   pub refused : output_of (encode flow ++ 0 ∷ []) ≡ ascii "refused 10 at 213\n"
   pub first : Reports flow 0 (Refinement 0) (0 ∷ 7 ∷ 0 ∷ 0 ∷ []) "contract violation (proven at compile time): refinement failed: flow >= 1"
   pub second : Reports flow 1 (Requires 0) (1 ∷ 9 ∷ 1 ∷ 0 ∷ []) "contract violation (proven at compile time): flow id range"
-  pub answer : (k room : ℕ) → 8192 ≤ k → 8 ≤ room → prove_all_of (encode flow) k room ≡ Proved 2
+  pub answer : (k room : ℕ) → 8192 ≤ k → 8 ≤ room → prove_all_of (encode flow) k room ≡ Ok 2
   pub slice : (k room : ℕ) → 8192 ≤ k → 8 ≤ room → all_reports_of (encode flow) k room ≡ 0 ∷ 7 ∷ 0 ∷ 0 ∷ 1 ∷ 9 ∷ 1 ∷ 0 ∷ replicate (room - 8) 0
 
 -- ---- from the bytes to the image
 
-folds : {im : Image} {v : Folded} → are_bytes (encode im) ≡ true → answer_of (encode im) 8192 ≡ Accepted (record { 0 = im.arena }) (counts im) → fold_of (encode im) 8192 (last_node im) ≡ Found v → Folds im v
+folds : {im : Image} {v : Folded} → are_bytes (encode im) ≡ true → answer_of (encode im) 8192 ≡ accepted (record { 0 = im.arena }) (counts im) → fold_of (encode im) 8192 (last_node im) ≡ Ok v → Folds im v
 folds {im} b a e = record { answer = λ k long. rw (folded_longer (encode im) _ _ b a (last_node im) k long) e }
 
-module _ (im : Image) (b : are_bytes (encode im) ≡ true) (a : answer_of (encode im) 8192 ≡ Accepted (record { 0 = im.arena }) (counts im)) (d : image_of (encode im) ≡ im) where
+module _ (im : Image) (b : are_bytes (encode im) ≡ true) (a : answer_of (encode im) 8192 ≡ accepted (record { 0 = im.arena }) (counts im)) (d : image_of (encode im) ≡ im) where
   well_formed : WellFormed im
   well_formed = subst WellFormed d (well_formed_by (encode im) _ _ b a)
 
@@ -199,7 +194,7 @@ made_of (some im) = im
 abbrev returns_true_lowered : Image
 returns_true_lowered = made_of (lowered returns_true 0)
 
-answer_14 : (k room : ℕ) → 8192 ≤ k → 65535 ≤ room → lower_of (encode returns_true) k 0 room ≡ made returns_true_lowered
+answer_14 : (k room : ℕ) → 8192 ≤ k → 65535 ≤ room → lower_of (encode returns_true) k 0 room ≡ Ok returns_true_lowered
 unfolding decoding measuring lowering
 answer_14 k room long fit =
     lowered_encoded returns_true (well_formed returns_true refl refl refl) k long 0 room (lit< tt) refl fit
@@ -208,7 +203,7 @@ lowered_well_formed : WellFormed returns_true_lowered
 unfolding decoding lowering
 lowered_well_formed = well_formed returns_true_lowered refl refl refl
 
-runs_14 : (budget : ℕ) → 9 ≤ budget → ran_in returns_true_lowered 0 [] budget ≡ Ran (Returned (Bare (Const (Truth true)))) 9
+runs_14 : (budget : ℕ) → 9 ≤ budget → ran_in returns_true_lowered 0 [] budget ≡ ran (Returned (Bare (Const (Truth true)))) 9
 unfolding decoding folding proving running lowering ran_in
 runs_14 budget enough =
     ap ran_of (run_same (text_of returns_true_lowered) (plain_function returns_true_lowered 0) [] 9 budget tt enough)

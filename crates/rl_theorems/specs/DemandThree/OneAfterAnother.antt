@@ -2,15 +2,13 @@
 -- of them in the last bytes is its contract reading in the first, and every function that was not lowered runs as it did. The premises
 -- are said of the records of the first image, and of the functions that are lowered.
 -- Assumes nothing.
-use Rattle.std.specs.Prelude.{◌≡◌, ℕ, ◌+◌, ◌<◌, true, ◌⊎◌, List, [], ◌∷◌, map, take, slice_index, refl}
+use Rattle.std.specs.Prelude.{◌≡◌, ℕ, ◌+◌, ◌<◌, true, ◌⊎◌, List, [], ◌∷◌, map, take, slice_index, refl, Ok, Err}
 use Rattle.std.proofs.Math.Path.{ap}
 use Rattle.std.proofs.Common.{sym, ◌∙◌, subst, inl, inr, arith}
 use Rattle.rl_spec.specs.declared.Arguments.{Arguments}
 use Rattle.rl_spec.specs.declared.Cause.{Cause}
-use Rattle.rl_spec.specs.declared.LowerAnswer.TheVariants.{Lowered}
+use Rattle.rl_spec.specs.Answers.{ran, refused, RunAnswer}
 use Rattle.rl_spec.specs.declared.Outcome.{Outcome}
-use Rattle.rl_spec.specs.declared.RunAnswer.{RunAnswer}
-use Rattle.rl_spec.specs.declared.RunAnswer.TheVariants.{Ran, Refused}
 use Rattle.rl_spec.specs.declared.Section.TheVariants.{Expressions, Clauses, Functions}
 use Rattle.rl_spec.specs.Schema.{sort_of, fields_of, fields_in, schema}
 use Rattle.rl_spec.specs.Read.{counts_of}
@@ -21,7 +19,7 @@ use Rattle.rl_spec.specs.Run as run
 use Rattle.rl_spec.specs.Reading.{run_function}
 use Rattle.rl_spec.specs.Mapped.{Text, map_value}
 use Rattle.rl_spec.specs.Functions.{contract_function, reading_in}
-use Rattle.rl_spec.specs.Lowerer.{made, lower_of, lower_answer, lower_out}
+use Rattle.rl_spec.specs.Lowerer.{lower_of, lower_answer, lower_out}
 use Rattle.rl_spec.specs.Runner.{outcome_in, all_have, given, values_of, run_of}
 use Rattle.rl_images.specs.Images.SchemaSorts.{kind_range}
 use Rattle.rl_images.specs.Images.FunctionFields.{function_fits}
@@ -44,7 +42,7 @@ use Rattle.rl_theorems.specs.DemandThree.Demand.{Begins, NoBareLast, RunsAsRead,
 -- twice, since a function that is lowered twice checks its contracts twice, for more steps)
 pub data BytesInTurn : List ℕ → List ℕ → List ℕ → Type 0 where
   none_left : {s : List ℕ} → BytesInTurn s [] s
-  and_then : {s last : List ℕ} {f : ℕ} {fs : List ℕ} (k room n : ℕ) → lower_answer (lower_of s k f room) ≡ Lowered n →
+  and_then : {s last : List ℕ} {f : ℕ} {fs : List ℕ} (k room n : ℕ) → lower_answer (lower_of s k f room) ≡ Ok n →
       BytesInTurn (take n (lower_out room (lower_of s k f room))) fs last → BytesInTurn s (f ∷ fs) last
 
 -- no name that begins with `__ensure_ret_` is looked up (30) or assigned (39) at any depth of the expression i
@@ -61,9 +59,9 @@ NoReservedEnsures im f =
 -- where the runner refuses the run in s, it refuses that in t by the same number; otherwise both end alike, after as many steps
 abbrev pub RunsAsBefore : List ℕ → List ℕ → ℕ → ℕ → Arguments → ℕ → Type 0
 RunsAsBefore s t k f args budget =
-    ((q : Cause) (p : ℕ) → run_of s k f args budget ≡ Refused q p → run_of t k f args budget ≡ Refused q p)
-    × ((o : Outcome) (n : ℕ) → run_of s k f args budget ≡ Ran o n →
-    (o' : Outcome) × (run_of t k f args budget ≡ Ran o' n) × (outcome_in (image_of t) o' ≡ outcome_in (image_of s) o))
+    ((q : Cause) (p : ℕ) → run_of s k f args budget ≡ refused q p → run_of t k f args budget ≡ refused q p)
+    × ((o : Outcome) (n : ℕ) → run_of s k f args budget ≡ ran o n →
+    (o' : Outcome) × (run_of t k f args budget ≡ ran o' n) × (outcome_in (image_of t) o' ≡ outcome_in (image_of s) o))
 
 -- ---- the premises, of trees
 
@@ -95,11 +93,11 @@ module _ (im : Image) (wf : WellFormed im) (f : ℕ) (there : f < size_of im Fun
 
 -- ---- from bytes to images
 
-module _ (s : List ℕ) (f : ℕ) (bytes : AllBytes s) (k room n : ℕ) (e : lower_answer (lower_of s k f room) ≡ Lowered n) where
+module _ (s : List ℕ) (f : ℕ) (bytes : AllBytes s) (k room n : ℕ) (e : lower_answer (lower_of s k f room) ≡ Ok n) where
   abbrev out : List ℕ
   out = take n (lower_out room (lower_of s k f room))
 
-  came : (im' : Image) × (lower_of s k f room ≡ made im') × (out ≡ encode im')
+  came : (im' : Image) × (lower_of s k f room ≡ Ok im') × (out ≡ encode im')
   came = out_made s k f room n e
 
   by : Made s k f room came.0
@@ -141,10 +139,10 @@ either_way P bytes none_left p q = p
 either_way P bytes (and_then {s = s} {f = f} k room n e rest) p q = q (first_whole s f bytes k room n e)
 
 answer : Outcome × ℕ → RunAnswer → Outcome × ℕ
-answer x (Ran o n) = (o, n)
-answer x (Refused q p) = x
+answer x (Ok h) = (h.outcome, h.steps)
+answer x (Err r) = x
 
-same_answer : (o o' : Outcome) (m m' : ℕ) → Ran o m ≡ Ran o' m' → ◌≡◌ {A = Outcome × ℕ} (o, m) (o', m')
+same_answer : (o o' : Outcome) (m m' : ℕ) → ran o m ≡ ran o' m' → ◌≡◌ {A = Outcome × ℕ} (o, m) (o', m')
 unfolding answer
 same_answer o o' m m' e = ap (answer (o, m)) e
 
@@ -195,5 +193,5 @@ module _ (s last : List ℕ) (fs : List ℕ) (bytes : AllBytes s) (in_turn : Byt
             let both : plainly (image_of last) ≡ plainly im =
             ap (λ g. run.used budget (run_function (λ t. t) g (map (map_value (text_of im)) vs) budget)) (others_kept w.well_formed turn f there apart) in
             let ends : ◌≡◌ {A = run.Outcome Text × ℕ} (outcome_in (image_of last) y.0, y.1) (outcome_in im o, m) = y.3 ∙ both ∙ first in
-            (y.0, y.2 ∙ ap (Ran y.0) (ap (λ z. z.1) ends), ap (λ z. z.0) ends),
+            (y.0, y.2 ∙ ap (ran y.0) (ap (λ z. z.1) ends), ap (λ z. z.0) ends),
       ))

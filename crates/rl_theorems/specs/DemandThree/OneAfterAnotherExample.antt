@@ -1,14 +1,14 @@
 -- Three functions, of which the second and then the first are lowered: both have ensures, so that the first is lowered in an image that has
 -- reserved texts already. Each of the two runs as it was read, and the third as it did; by computation.
 -- Assumes nothing.
-use Rattle.std.specs.Prelude.{◌≡◌, ℕ, ◌+◌, Bool, true, false, not, ◌&&◌, ◌||◌, ◌⊎◌, List, [], ◌∷◌, length, ◌==◌, refl}
+use Rattle.std.specs.Prelude.{◌≡◌, ℕ, ◌+◌, Bool, true, false, not, ◌&&◌, ◌||◌, ◌⊎◌, List, [], ◌∷◌, length, ◌==◌, refl, Ok}
 use Rattle.std.proofs.Common.{ap, sym, ◌∙◌, subst, inl, inr, arith, lit<, lit≤}
 use Rattle.std.proofs.Math.Option.{Option, none, some}
 use Rattle.rl_spec.specs.declared.ConstVal.TheVariants.{Bool as Truth}
 use Rattle.rl_spec.specs.declared.Outcome.{Outcome}
 use Rattle.rl_spec.specs.declared.Outcome.TheVariants.{Returned}
 use Rattle.rl_spec.specs.declared.Plain.TheVariants.{Const}
-use Rattle.rl_spec.specs.declared.RunAnswer.TheVariants.{Ran}
+use Rattle.rl_spec.specs.Answers.{ran}
 use Rattle.rl_spec.specs.declared.Value.TheVariants.{Plain as Bare}
 use Rattle.rl_spec.specs.declared.Section.TheVariants.{Expressions, Clauses}
 use Rattle.rl_spec.specs.Image.{num, pair, Rec, Image, record_of, text_of, encode, image_of, AllBytes}
@@ -70,18 +70,18 @@ f_made : lowered middle 0 ≡ some final
 unfolding lowering
 f_made = refl
 
-g_lowered : lower_of (encode original) 8192 1 65535 ≡ lower.made middle
+g_lowered : lower_of (encode original) 8192 1 65535 ≡ Ok middle
 unfolding decoding lowering measuring
 g_lowered =
     lowered_encoded original (well_formed_by (encode original) _ _ refl refl) 8192 (lit≤ tt) 1 65535 (lit< tt) refl (lit≤ tt) ∙ ap or_limit g_made
 
-f_lowered : lower_of (encode middle) 9000 0 70000 ≡ lower.made final
+f_lowered : lower_of (encode middle) 9000 0 70000 ≡ Ok final
 unfolding decoding lowering measuring
 f_lowered =
     lowered_encoded middle (well_formed_by (encode middle) _ _ refl refl) 9000 (lit≤ tt) 0 70000 (lit< tt) refl (lit≤ tt) ∙ ap or_limit f_made
 
 -- one more lowering ahead
-ahead : {last : List ℕ} {fs : List ℕ} (im im' : Image) (k f room : ℕ) → AllBytes (encode im) → lower_of (encode im) k f room ≡ lower.made im' →
+ahead : {last : List ℕ} {fs : List ℕ} (im im' : Image) (k f room : ℕ) → AllBytes (encode im) → lower_of (encode im) k f room ≡ Ok im' →
     BytesInTurn (encode im') fs last → BytesInTurn (encode im) (f ∷ fs) last
 ahead {last} {fs} im im' k f room bytes e rest =
     and_then k room (length (encode im')) (ap lower_answer e)
@@ -129,7 +129,7 @@ yes = Returned (Bare (Const (Truth true)))
 -- f and g return true as they were read, after 12 and 9 steps
 abbrev RunsSo : ℕ → ℕ → Type 0
 RunsSo f steps =
-    (o : Outcome) × (n : ℕ) × (run_of (encode final) 9000 f no_values_lem 1000 ≡ Ran o n)
+    (o : Outcome) × (n : ℕ) × (run_of (encode final) 9000 f no_values_lem 1000 ≡ ran o n)
     × (◌≡◌ {A = Ended Text × ℕ} (outcome_in (image_of (encode final)) o, n) (returned (folds (value.bool true)), steps))
 
 pub f_runs : RunsSo 0 12
@@ -145,7 +145,7 @@ g_runs =
     (no_reserved 1 refl refl) (one_statement 1 refl)).1 yes 2 refl
 
 -- and h as it did, its ensures unread, after 2
-pub h_runs : (o : Outcome) × (run_of (encode final) 9000 2 no_values_lem 1000 ≡ Ran o 2)
+pub h_runs : (o : Outcome) × (run_of (encode final) 9000 2 no_values_lem 1000 ≡ ran o 2)
     × (outcome_in (image_of (encode final)) o ≡ returned (folds (value.bool true)))
 unfolding answering
 h_runs =

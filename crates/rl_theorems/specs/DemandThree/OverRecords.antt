@@ -8,7 +8,7 @@ use Rattle.std.proofs.Math.Option.{none, some}
 use native.Mathlib.Omega.{arith}
 use Rattle.std.proofs.Math.ListN.{get_or-eq_default}
 use Rattle.rl_spec.specs.declared.Interval.{Interval}
-use Rattle.rl_spec.specs.declared.Optional.{Optional}
+use Rattle.rl_spec.specs.Answers.{Optional}
 use Rattle.rl_spec.specs.declared.Section.TheVariants.{Texts, Expressions, Statements, Clauses}
 use Rattle.rl_spec.specs.declared.Sort.TheVariants.{One, Many}
 use Rattle.rl_spec.specs.declared.StatementForm.{StatementForm}

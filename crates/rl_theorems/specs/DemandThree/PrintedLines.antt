@@ -1,12 +1,11 @@
 -- What the printer writes of a call: a line that begins with a call's number is of a violation of that call.
 -- Assumes nothing.
-use Rattle.std.specs.Prelude.{◌≡◌, ℕ, zero, suc, ◌+◌, ◌/◌, ◌%◌, ◌^◌, ◌<◌, ◌≤◌, List, [], ◌∷◌, ◌++◌, map, length, ◌≢◌, slice_index_or, refl}
+use Rattle.std.specs.Prelude.{◌≡◌, ℕ, zero, suc, ◌+◌, ◌/◌, ◌%◌, ◌^◌, ◌<◌, ◌≤◌, List, [], ◌∷◌, ◌++◌, map, length, ◌≢◌, slice_index_or, refl, Ok, Err}
 use Rattle.std.proofs.Common.{ap, ap₂, ◌∙◌, arith, pow-suc, div-lt_iff_lt-mul, lt-ltb, le-ltb, lit<, length-append}
 use Rattle.std.proofs.Math.Path.{sym, subst}
 use mathlib.Core.List.{append_assoc, head-eq_of_cons-eq, tail-eq_of_cons-eq}
 use Rattle.std.proofs.Math.Option.{Option, none, some}
-use Rattle.rl_spec.specs.declared.Answer.{Answer}
-use Rattle.rl_spec.specs.declared.Answer.TheVariants.{Accepted, Refused}
+use Rattle.rl_spec.specs.Answers.{Answer, accepted}
 use Rattle.rl_spec.specs.declared.ArenaNo.{ArenaNo}
 use Rattle.rl_spec.specs.declared.Cause.{Cause}
 use Rattle.rl_spec.specs.declared.Counts.{Counts}
@@ -182,14 +181,14 @@ line_at_lem P (a ∷ lines) h zero l = h.0
 line_at_lem P (a ∷ lines) h (suc i) l = line_at_lem P lines h.1 i (omega (arith, l))
 
 module _ (s : List ℕ) where
-  few_calls : (k : ℕ) (a : ArenaNo) (c : Counts) → answer_of s k ≡ Accepted a c → c.calls ≤ 256
+  few_calls : (k : ℕ) (a : ArenaNo) (c : Counts) → answer_of s k ≡ accepted a c → c.calls ≤ 256
   unfolding counts_of limits
   few_calls k a c e =
       rw (accepted_header s k a c e).1 (accepted_reads s k a c e).header.counts.1.1.1.1.1.1.1.1.0
 
   of_answer : (call : ℕ) (rest : List ℕ) (a : Answer) → answer_of s 8192 ≡ a → AllOf (Tells (image_of s) call rest) (lines_from s a)
-  of_answer call rest (Accepted a c) e = of_calls (image_of s) call rest c.calls 0 (omega (arith, few_calls 8192 a c e))
-  of_answer call rest (Refused q place) e = (λ d. absurd (not_refused call rest q place d), tt)
+  of_answer call rest (Ok h) e = of_calls (image_of s) call rest h.counts.calls 0 (omega (arith, few_calls 8192 h.arena h.counts e))
+  of_answer call rest (Err r) e = (λ d. absurd (not_refused call rest r.cause r.place d), tt)
 
   -- THEOREM: a call whose number a line of the printer begins with has a violation
   pub line_reported : (call i : ℕ) (rest : List ℕ) → i < length (lines_of s) → decimal call ++ ascii " " ++ rest ≡ slice_index_or (lines_of s) i [] →

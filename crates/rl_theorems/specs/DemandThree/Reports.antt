@@ -1,17 +1,13 @@
 -- What is reported of a call: where proving it answers a report, or a report of all calls is one of it, it has a violation, and so a callee.
 -- Assumes nothing.
-use Rattle.std.specs.Prelude.{◌≡◌, ℕ, zero, suc, ◌+◌, ◌*◌, ◌/◌, ◌<◌, Bool, true, false, cond, ◌⊎◌, List, [], ◌∷◌, ◌++◌, length, nat_lt, slice_index}
+use Rattle.std.specs.Prelude.{◌≡◌, ℕ, zero, suc, ◌+◌, ◌*◌, ◌/◌, ◌<◌, Bool, true, false, cond, ◌⊎◌, List, [], ◌∷◌, ◌++◌, length, nat_lt, slice_index, Ok, Err}
 use Rattle.std.proofs.Math.Path.{refl, sym}
 use Rattle.std.proofs.Common.{ap, ◌∙◌, subst, inl, inr, arith}
 use Rattle.std.proofs.Math.Option.{Option, none, some}
 use Rattle.std.proofs.Math.Nat.{div-mul-le_self}
 use Rattle.std.proofs.Math.ListN.{get_or-append}
-use Rattle.rl_spec.specs.declared.Answer.{Answer}
-use Rattle.rl_spec.specs.declared.Answer.TheVariants.{Accepted, Refused}
+use Rattle.rl_spec.specs.Answers.{Answer, refused, ProveAnswer}
 use Rattle.rl_spec.specs.declared.Cause.TheVariants.{NoSuchCall, ReportsTooShort}
-use Rattle.rl_spec.specs.declared.ProveAnswer.{ProveAnswer}
-use Rattle.rl_spec.specs.declared.ProveAnswer.TheVariants as prove
-use Rattle.rl_spec.specs.declared.ProveAnswer.TheVariants.{Proved}
 use Rattle.rl_spec.specs.declared.Violation.{Violation}
 use Rattle.rl_spec.specs.declared.Violation.TheVariants.{Refinement, Requires}
 use Rattle.rl_spec.specs.Read.{counts_of, answer_of}
@@ -23,12 +19,12 @@ use Rattle.rl_theorems.specs.DemandThree.FoldsEntry.{NonEmpty}
 
 -- how many reports an answer has
 abbrev reports_in : ProveAnswer → ℕ
-reports_in (Proved n) = n
-reports_in (prove.Refused q n) = 0
+reports_in (Ok n) = n
+reports_in (Err r) = 0
 
 abbrev IsProved : ProveAnswer → Type 0
-IsProved (Proved n) = Unit {0}
-IsProved (prove.Refused q n) = ⊥
+IsProved (Ok n) = Unit {0}
+IsProved (Err r) = ⊥
 
 -- ---- one call
 
@@ -44,23 +40,23 @@ module _ (s : List ℕ) (call room n : ℕ) (some-reports : n ≡ 0 → ⊥) whe
   by_entries [] span e = nothing_refused e
   by_entries (v ∷ vs) span e = tt
 
-  by_room : (b : Bool) → reports_in (cond b (prove.Refused ReportsTooShort 0) (Proved (length (call_entries im call) / 4))) ≡ n →
+  by_room : (b : Bool) → reports_in (cond b (refused ReportsTooShort 0) (Ok (length (call_entries im call) / 4))) ≡ n →
       NonEmpty (violations_of im call)
   unfolding call_entries
   by_room true e = nothing_refused e
   by_room false e = by_entries (violations_of im call) _ e
 
-  by_call : (b : Bool) → reports_in (cond b (fitting room (call_entries im call)) (prove.Refused NoSuchCall 0)) ≡ n →
+  by_call : (b : Bool) → reports_in (cond b (fitting room (call_entries im call)) (refused NoSuchCall 0)) ≡ n →
       NonEmpty (violations_of im call)
   by_call true e = by_room (nat_lt room (length (call_entries im call))) e
   by_call false e = nothing_refused e
 
   by_answer : (a : Answer) → reports_in (prove_from s call room a) ≡ n → NonEmpty (violations_of im call)
-  by_answer (Accepted a c) e = by_call (nat_lt call c.calls) e
-  by_answer (Refused q p) e = nothing_refused e
+  by_answer (Ok h) e = by_call (nat_lt call h.counts.calls) e
+  by_answer (Err r) e = nothing_refused e
 
   -- THEOREM: a call for which proving answers reports
-  pub reported : (k : ℕ) → prove_of s k call room ≡ Proved n → NonEmpty (violations_of im call)
+  pub reported : (k : ℕ) → prove_of s k call room ≡ Ok n → NonEmpty (violations_of im call)
   unfolding prove_of
   reported k e = by_answer (answer_of s k) (ap reports_in e)
 
@@ -105,16 +101,16 @@ module _ (s : List ℕ) (k room n : ℕ) where
   abbrev entries : List ℕ
   entries = all_entries (image_of s) (counts_of s).calls 0
 
-  all_by : (a : Answer) → answer_of s k ≡ a → prove_all_from s room a ≡ Proved n → length entries / 4 ≡ n
-  all_by (Refused q p) d e = absurd (subst IsProved (sym e) tt)
-  all_by (Accepted a c) d e = fits (nat_lt room (length entries)) (rw (accepted_header s k a c d).1 at e)
+  all_by : (a : Answer) → answer_of s k ≡ a → prove_all_from s room a ≡ Ok n → length entries / 4 ≡ n
+  all_by (Err r) d e = absurd (subst IsProved (sym e) tt)
+  all_by (Ok h) d e = fits (nat_lt room (length entries)) (rw (accepted_header s k h.arena h.counts d).1 at e)
     where
-      fits : (b : Bool) → cond b (prove.Refused ReportsTooShort 0) (Proved (length entries / 4)) ≡ Proved n → length entries / 4 ≡ n
+      fits : (b : Bool) → cond b (refused ReportsTooShort 0) (Ok (length entries / 4)) ≡ Ok n → length entries / 4 ≡ n
       fits true e = absurd (subst IsProved (sym e) tt)
       fits false e = ap reports_in e
 
   -- THEOREM: a call of which a report of all calls is one, by its first entry
-  pub all_reported : (j call : ℕ) → prove_all_of s k room ≡ Proved n → j < n → slice_index (all_reports_of s k room) (j * 4) ≡ call →
+  pub all_reported : (j call : ℕ) → prove_all_of s k room ≡ Ok n → j < n → slice_index (all_reports_of s k room) (j * 4) ≡ call →
       NonEmpty (violations_of (image_of s) call)
   unfolding prove_all_of all_reports_of
   all_reported j call e l d =

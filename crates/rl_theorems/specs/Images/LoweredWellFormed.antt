@@ -8,7 +8,7 @@ use Rattle.rl_spec.specs.declared.Section.{Section}
 use Rattle.rl_spec.specs.declared.Section.TheVariants.{Lists, Expressions, Statements, Functions}
 use Rattle.rl_spec.specs.declared.Target.TheVariants.{Text, Expression, Statement, Branch, ElseBranch, Arm}
 use Rattle.rl_spec.specs.declared.Sort.TheVariants.{Many}
-use Rattle.rl_spec.specs.declared.Answer.TheVariants.{Accepted}
+use Rattle.rl_spec.specs.Answers.{accepted}
 use Rattle.rl_spec.specs.Schema.{sort_of, fields_of, fields_in, schema}
 use Rattle.rl_spec.specs.Read.{answer_of}
 use Rattle.rl_spec.specs.Image.{Field, no_record, Rec, Image, order_of, records_of, size_of, record_of, field_of, first, heights, encode, image_of, Entries, FieldFits, a_list, FieldsFit, RecordFits, WellFormed}
@@ -177,7 +177,7 @@ lowered_well_formed im im' f wf p low lower e = lowering_well_formed im f wf p l
 -- THEOREM: its bytes are accepted, and stand for it
 pub lowered_accepted : (im im' : Image) (f k : ℕ) → WellFormed im → f < size_of im Functions → Under 64 (heights im Expressions) →
     Under 32 (heights im Statements) → lowered im f ≡ some im' → 8192 ≤ k →
-    (answer_of (encode im') k ≡ Accepted (record { 0 = im'.arena }) (counts im')) × (image_of (encode im') ≡ im')
+    (answer_of (encode im') k ≡ accepted (record { 0 = im'.arena }) (counts im')) × (image_of (encode im') ≡ im')
 lowered_accepted im im' f k wf p low lower e l =
     let wf' : WellFormed im' = lowered_well_formed im im' f wf p low lower e in
     (encoded_accepted im' k wf' l, encoded_image im' wf')

@@ -1,11 +1,11 @@
 -- What the refinement of a parameter that fits says: a text that its operand names is there, and a whole number has 64 bits.
 -- Assumes nothing.
-use Rattle.std.specs.Prelude.{◌≡◌, ℕ, zero, suc, ◌-◌, ◌^◌, ◌<◌, ◌≤◌, Bool, true, false, cond, pos, negsuc, ◌==◌, ◌≢◌, nat_lt}
+use Rattle.std.specs.Prelude.{◌≡◌, ℕ, zero, suc, ◌-◌, ◌^◌, ◌<◌, ◌≤◌, Bool, true, false, cond, pos, negsuc, ◌==◌, ◌≢◌, nat_lt, None}
 use Rattle.std.proofs.Math.Path.{refl}
 use Rattle.std.proofs.Math.Option.{Option, none, some}
 use Rattle.std.proofs.Common.{arith}
 use Rattle.std.proofs.lemmas.Bool.{eqb-false}
-use Rattle.rl_spec.specs.declared.ParamRefinement.TheVariants.{Unrefined, Refined}
+use Rattle.rl_spec.specs.Answers.{refined}
 use Rattle.rl_spec.specs.declared.Section.TheVariants.{Texts, Parameters}
 use Rattle.rl_spec.specs.Image.{Rec, Image, size_of, record_of, SortFits, OperandFits}
 use Rattle.rl_spec.specs.Tree.{signed, number}
@@ -45,7 +45,7 @@ module _ (im : Image) where
   operand_says (suc (suc (suc (suc (suc n))))) x l h = absurd h
 
   by_sort : (n sort x : ℕ) → SortFits n sort → OperandFits im sort x → (b : Bool) → (n == 0) ≡ b →
-      RefinementSays im (refinement_of (cond b Unrefined (Refined (refine_op n) (refine_operand sort x))))
+      RefinementSays im (refinement_of (cond b None (refined (refine_op n) (refine_operand sort x))))
   by_sort n sort x h o true e = tt
   by_sort n sort x h o false e = operand_says sort x (sort_some n sort (eqb-false n 0 e) h) o
 

@@ -6,7 +6,7 @@ use Rattle.std.proofs.Common.{sym, inl, inr}
 use Rattle.std.proofs.Math.Option.{Option}
 use native.Mathlib.Omega.{arith}
 use borrow.Author.Tests.{eqb-true}
-use Rattle.rl_spec.specs.declared.Optional.{Optional}
+use Rattle.rl_spec.specs.Answers.{Optional}
 use Rattle.rl_spec.specs.declared.Section.{Section}
 use Rattle.rl_spec.specs.declared.Section.TheVariants.{Statements}
 use Rattle.rl_spec.specs.declared.Target.{Target}

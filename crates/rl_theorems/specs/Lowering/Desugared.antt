@@ -1,6 +1,6 @@
 -- The new body of a function that is made stands for the guards and then for what its body's tree is lowered to.
 -- Assumes nothing.
-use Rattle.std.specs.Prelude.{◌≡◌, ℕ, suc, ◌-◌, ◌%◌, ◌^◌, Bool, true, false, cond, List, [], ◌∷◌, ◌++◌, map, negsuc, ◌==◌}
+use Rattle.std.specs.Prelude.{◌≡◌, ℕ, suc, ◌-◌, ◌%◌, ◌^◌, Bool, true, false, cond, List, [], ◌∷◌, ◌++◌, map, negsuc, ◌==◌, None}
 use Rattle.std.proofs.Math.Path.{refl, subst}
 use Rattle.std.proofs.Common.{ap, arith, lt-ltb, le-ltb}
 use Rattle.std.proofs.Math.Option
@@ -9,7 +9,7 @@ use Rattle.rl_laws.specs.Tests.{by_ltb}
 use Rattle.rl_spec.specs.declared.Section.TheVariants.{Parameters}
 use Rattle.rl_spec.specs.declared.RefineOp as operator
 use Rattle.rl_spec.specs.declared.RefineOperand.TheVariants.{Integer, Str, Bool as Truth, Param as Named}
-use Rattle.rl_spec.specs.declared.ParamRefinement.TheVariants.{Unrefined, Refined}
+use Rattle.rl_spec.specs.Answers.{refined}
 use Rattle.rl_spec.specs.declared.Clause.{Clause}
 use Rattle.rl_spec.specs.Image.{num, Image, record_of, text_of}
 use Rattle.rl_spec.specs.Values as value
@@ -99,7 +99,7 @@ module _ (im : Image) where
       given (a_line (rw (k₁ ⊕ k₂).is_result at (h₃ (refinement_check (text_of im name) (map_refinement (text_of im) p)) (keep k₂.image h₁) h₂)) no_rows)
 
   by_sort : (op : operator.RefineOp) (x t : ℕ) (u : Bool) (absent a b c : Bool) →
-      RangedOption (refinement_of (cond absent Unrefined (Refined op (cond a (Integer (signed 64 x)) (cond b (Str t) (cond c (Truth u) (Named t)))))))
+      RangedOption (refinement_of (cond absent None (refined op (cond a (Integer (signed 64 x)) (cond b (Str t) (cond c (Truth u) (Named t)))))))
   by_sort op x t u true a b c = tt
   by_sort op x t u false true b c = signed_bits x
   by_sort op x t u false false true c = tt

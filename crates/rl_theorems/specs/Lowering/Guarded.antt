@@ -1,11 +1,10 @@
 -- The names, calls and guards that are made stand for those of the trees.
 -- Assumes nothing.
-use Rattle.std.specs.Prelude.{◌≡◌, ℕ, ◌<◌, Bool, true, false, cond, List, [], ◌∷◌, ◌++◌, refl}
+use Rattle.std.specs.Prelude.{◌≡◌, ℕ, ◌<◌, Bool, true, false, cond, List, [], ◌∷◌, ◌++◌, refl, None, Some}
 use Rattle.std.proofs.Common.{subst, arith}
 use Rattle.std.proofs.Math.Option.{some}
 use Rattle.rl_spec.specs.declared.Section.TheVariants.{Statements}
-use Rattle.rl_spec.specs.declared.Optional.{Optional}
-use Rattle.rl_spec.specs.declared.Optional.TheVariants.{None, Some}
+use Rattle.rl_spec.specs.Answers.{Optional}
 use Rattle.rl_spec.specs.declared.Clause.{Clause}
 use Rattle.rl_spec.specs.Image.{num, Image, size_of}
 use Rattle.rl_spec.specs.Values.{same_text}

@@ -14,7 +14,8 @@ use Rattle.rl_spec.specs.declared.Plain.{Plain}
 use Rattle.rl_spec.specs.declared.Plain.TheVariants.{Null, Const}
 use Rattle.rl_spec.specs.declared.Section.TheVariants.{Texts, Functions}
 use Rattle.rl_spec.specs.declared.Value.{Value}
-use Rattle.rl_spec.specs.declared.Value.TheVariants.{Plain as Bare, Ok, Err}
+use Rattle.rl_spec.specs.declared.Value.TheVariants.{Plain as Bare}
+use Rattle.rl_spec.specs.declared.Value.TheVariants as val
 use Rattle.rl_spec.specs.Image.{Rec, Image, no_field, no_record, records_of, size_of, record_of, text_of, WellFormed}
 use Rattle.rl_spec.specs.Values as value
 use Rattle.rl_spec.specs.Folded.{const_of}
@@ -96,8 +97,8 @@ module _ (im im' : Image) (to : Keeps im im') (c c' : Counts) (here : size_of im
 
   value_same : (v : Value) → value_has c v ≡ true → map_value (text_of im') (value_of v) ≡ map_value (text_of im) (value_of v)
   value_same (Bare p) h = ap run.plain (plain_same p h)
-  value_same (Ok p) h = ap run.ok (plain_same p h)
-  value_same (Err p) h = ap run.err (plain_same p h)
+  value_same (val.Ok p) h = ap run.ok (plain_same p h)
+  value_same (val.Err p) h = ap run.err (plain_same p h)
 
   pub values_same : (vs : List Argument) → all_have c vs ≡ true →
       map (map_value (text_of im')) (values_of vs) ≡ map (map_value (text_of im)) (values_of vs)
@@ -121,8 +122,8 @@ module _ (im im' : Image) (to : Keeps im im') (c c' : Counts) (here : size_of im
 
   value_has_lem : (v : Value) → value_has c v ≡ true → value_has c' v ≡ true
   value_has_lem (Bare p) h = plain_has_lem p h
-  value_has_lem (Ok p) h = plain_has_lem p h
-  value_has_lem (Err p) h = plain_has_lem p h
+  value_has_lem (val.Ok p) h = plain_has_lem p h
+  value_has_lem (val.Err p) h = plain_has_lem p h
 
   pub values_have : (vs : List Argument) → all_have c vs ≡ true → all_have c' vs ≡ true
   unfolding all_have

@@ -5,7 +5,7 @@ use Rattle.std.proofs.Math.Path.{refl, ap, ap₂}
 use Rattle.std.proofs.Common.{◌∙◌, arith, get_or-set_other}
 use Rattle.std.proofs.Math.Option
 use Rattle.std.proofs.Math.Option.{some}
-use Rattle.rl_spec.specs.declared.Optional.{Optional}
+use Rattle.rl_spec.specs.Answers.{Optional}
 use Rattle.rl_spec.specs.declared.Function as declared
 use Rattle.rl_spec.specs.declared.Section.TheVariants.{Expressions, Clauses, Functions}
 use Rattle.rl_spec.specs.Image.{Field, Image, records_of, size_of, no_record, record_of, field_of, text_of, WellFormed}

@@ -1,12 +1,11 @@
 -- The transformed statements of an image stand for what the trees are lowered to.
 -- Assumes nothing.
-use Rattle.std.specs.Prelude.{ℕ, zero, suc, ◌<◌, Bool, cond, List, [], ◌∷◌, ◌++◌, ◌==◌, nat_lt}
+use Rattle.std.specs.Prelude.{ℕ, zero, suc, ◌<◌, Bool, cond, List, [], ◌∷◌, ◌++◌, ◌==◌, nat_lt, None, Some}
 use Rattle.std.proofs.Math.Path.{refl}
 use Rattle.std.proofs.Common.{sym, subst, arith, eqb-true, ltb-true, ltb-false}
 use Rattle.std.proofs.Math.Option.{Option, some}
 use Rattle.rl_spec.specs.declared.Section.TheVariants.{Statements}
-use Rattle.rl_spec.specs.declared.Optional.{Optional}
-use Rattle.rl_spec.specs.declared.Optional.TheVariants.{None, Some}
+use Rattle.rl_spec.specs.Answers.{Optional}
 use Rattle.rl_spec.specs.declared.Clause.{Clause}
 use Rattle.rl_spec.specs.Image.{Field, num, Rec, Image, size_of, record_of, field_of, first}
 use Rattle.rl_spec.specs.Tree.{Expr, null, ascii, number, below}

@@ -1,20 +1,16 @@
 -- What stands at a place of an accepted image is what its abstract image holds there.
 -- Assumes nothing.
-use Rattle.std.specs.Prelude.{◌≡◌, ℕ, zero, suc, ◌+◌, ◌*◌, ◌<◌, ◌≤◌, Bool, true, false, cond, ◌&&◌, List, [], ◌∷◌, length, get_or, take, drop, ◌==◌, nat_lt, slice_index, slice_index_or}
+use Rattle.std.specs.Prelude.{◌≡◌, ℕ, zero, suc, ◌+◌, ◌*◌, ◌<◌, ◌≤◌, Bool, true, false, cond, ◌&&◌, List, [], ◌∷◌, length, get_or, take, drop, ◌==◌, nat_lt, slice_index, slice_index_or, Ok, Err}
 use Rattle.std.proofs.Math.Path.{refl}
 use Rattle.std.proofs.lemmas.Bool.{false≢true}
 use native.Mathlib.Omega.{arith}
 use Rattle.std.proofs.Common.{length-take, length-drop, take-append-drop, ltb-false, eqb-true}
 use Rattle.rl_spec.specs.declared.ArenaNo.{ArenaNo}
 use Rattle.rl_spec.specs.declared.Counts.{Counts}
-use Rattle.rl_spec.specs.declared.Answer.TheVariants.{Accepted}
+use Rattle.rl_spec.specs.Answers.{accepted, goes_on, refused, Check, Step}
 use Rattle.rl_spec.specs.declared.Cause.{Cause}
 use Rattle.rl_spec.specs.declared.Section.{Section}
 use Rattle.rl_spec.specs.declared.Section.TheVariants.{Texts, Lists, Expressions, Statements}
-use Rattle.rl_spec.specs.declared.Check.{Check}
-use Rattle.rl_spec.specs.declared.Check.TheVariants.{Holds, Fails}
-use Rattle.rl_spec.specs.declared.Step.{Step}
-use Rattle.rl_spec.specs.declared.Step.TheVariants.{Next, Stop}
 use Rattle.rl_spec.specs.Bytes.{u16_at, u32_at, past}
 use Rattle.rl_spec.specs.Schema.{text_bytes_at, sections, in_section, tallest, part, span, sort_of, schema, fields_in, fields_of}
 use Rattle.rl_spec.specs.Fields.{lists_at, entry_at, part_of, value_of, field_at, checked, fields_from, height_step, record_at}
@@ -97,12 +93,12 @@ module _ (s : List ℕ) (at : ℕ) where
 -- ---- the texts of accepted bytes lie within the text bytes: what a reading that goes on says
 
 data IfHolds (P : Type 0) : Check → Type 0 where
-  holds : {t : ℕ} → P → IfHolds P (Holds t)
-  fails : {c : Cause} → IfHolds P (Fails c)
+  holds : {t : ℕ} → P → IfHolds P (Ok t)
+  fails : {c : Cause} → IfHolds P (Err c)
 
 data IfNext (P : ℕ → Type 0) : Step → Type 0 where
-  goes : {a t : ℕ} → P a → IfNext P (Next a t)
-  stops : {c : Cause} {q : ℕ} → IfNext P (Stop c q)
+  goes : {a t : ℕ} → P a → IfNext P (goes_on a t)
+  stops : {c : Cause} {q : ℕ} → IfNext P (refused c q)
 
 data IfGood (P : Type 0) : Out → Type 0 where
   reads : {a : ℕ} {w p : List ℕ} → P → IfGood P (good a w p)
@@ -113,8 +109,8 @@ holds_cond true x y f g = f
 holds_cond false x y f g = g refl
 
 holds_any : {P : Type 0} (x : Check) → P → IfHolds P x
-holds_any (Holds t) p = holds p
-holds_any (Fails c) p = fails
+holds_any (Ok t) p = holds p
+holds_any (Err c) p = fails
 
 next_cond : {P : ℕ → Type 0} (b : Bool) (x y : Step) → (b ≡ true → IfNext P x) → IfNext P y → IfNext P (cond b x y)
 next_cond true x y f g = f refl
@@ -129,8 +125,8 @@ good_any (good a w p) h = reads h
 good_any (bad c q) h = refuses
 
 good_after : {P : Type 0} (r : Step) (f : ℕ → ℕ → Out) → ((a t : ℕ) → IfGood P (f a t)) → IfGood P (after r f bad)
-good_after (Next a t) f g = g a t
-good_after (Stop c q) f g = refuses
+good_after (Ok s) f g = g s.at s.tall
+good_after (Err r) f g = refuses
 
 good_then : {P : Type 0} (x : Out) (f : ℕ → List ℕ → List ℕ → Out) → IfGood P x → IfGood P (and_then x f)
 good_then (good a w p) f (reads h) = good_any (f a w p) h
@@ -142,12 +138,12 @@ good_end s (good a w p) h = good_cond (nat_lt a (length s)) _ _ refuses h
 good_end s (bad c q) h = refuses
 
 next_height : {P : ℕ → Type 0} (o : Section) (at : ℕ) (r : Step) → IfNext P r → IfNext P (height_step o at r)
-next_height o at (Next a t) (goes h) = next_cond (nat_lt t (tallest o)) _ _ (λ e. goes h) stops
-next_height o at (Stop c q) h = stops
+next_height o at (Ok s) (goes h) = next_cond (nat_lt s.tall (tallest o)) _ _ (λ e. goes h) stops
+next_height o at (Err r) h = stops
 
-next_checked : {P : Type 0} (r : Check) (at to : ℕ) → IfHolds P r → IfNext (λ a. (a ≡ to) × P) (checked r at (λ t. Next to t))
-next_checked (Holds t) at to (holds h) = goes (refl, h)
-next_checked (Fails c) at to h = stops
+next_checked : {P : Type 0} (r : Check) (at to : ℕ) → IfHolds P r → IfNext (λ a. (a ≡ to) × P) (checked r at (λ t. goes_on to t))
+next_checked (Ok t) at to (holds h) = goes (refl, h)
+next_checked (Err c) at to h = stops
 
 -- the text whose record starts at a place lies within the text bytes
 abbrev Within : List ℕ → Counts → ℕ → Type 0
@@ -193,8 +189,8 @@ module _ (s : List ℕ) (c : Counts) where
       more (bad q m) h f = refuses
 
       go : (r : Step) → IfNext (λ a. (a ≡ at + 1 + 4) × Within s c at) r → IfGood (AllWithin n (at + 1 + 4)) (records_from s c Texts n (i + 1) (at + 1 + 4) w p) → IfGood (AllWithin (suc n) at) (after r (λ a tall. records_from s c Texts n (i + 1) a w p) bad)
-      go (Next a t) (goes h) f = rw h.0 (more (records_from s c Texts n (i + 1) (at + 1 + 4) w p) h.1 f)
-      go (Stop q m) h f = refuses
+      go (Ok y) (goes h) f = rw h.0 (more (records_from s c Texts n (i + 1) (at + 1 + 4) w p) h.1 f)
+      go (Err r) h f = refuses
 
 body_within : (s : List ℕ) (w p : List ℕ) → IfGood (AllWithin s (counts_of s) (counts_of s).texts (text_bytes_at + (counts_of s).bytes)) (body_of s (counts_of s) w p)
 unfolding body_of sections_from sections
@@ -224,7 +220,7 @@ part_part s m a n h l =
 
 -- ---- theorems
 
-module _ (s : List ℕ) (k : ℕ) (a : ArenaNo) (c : Counts) (e : answer_of s k ≡ Accepted a c) where
+module _ (s : List ℕ) (k : ℕ) (a : ArenaNo) (c : Counts) (e : answer_of s k ≡ accepted a c) where
   -- THEOREMS: the record that stands at a start
   pub expression_record : (i : ℕ) → i < c.expressions → record_in s (slice_index (starts_of s k) i) ≡ record_of (image_of s) Expressions i
   expression_record i h = (starts_expression s k a c e i h).found
@@ -255,7 +251,7 @@ module _ (s : List ℕ) (k : ℕ) (a : ArenaNo) (c : Counts) (e : answer_of s k 
   unfolding answer_of
   text_within = rw (accepted_header s k a c e).1 (go (read_of s k) (read_within s k) e)
     where
-      go : (x : Out) → IfGood (AllWithin s (counts_of s) (counts_of s).texts (text_bytes_at + (counts_of s).bytes)) x → answer_by s x ≡ Accepted a c → AllWithin s (counts_of s) (counts_of s).texts (text_bytes_at + (counts_of s).bytes)
+      go : (x : Out) → IfGood (AllWithin s (counts_of s) (counts_of s).texts (text_bytes_at + (counts_of s).bytes)) x → answer_by s x ≡ accepted a c → AllWithin s (counts_of s) (counts_of s).texts (text_bytes_at + (counts_of s).bytes)
       go (good at w p) (reads h) f = h
       go (bad q n) h f = let z : ◌≡◌ {A = ℕ} 0 1 = cc in absurd (omega arith)
 

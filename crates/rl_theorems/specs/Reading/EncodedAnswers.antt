@@ -1,7 +1,7 @@
 -- What folding, proving, lowering and running answer for the bytes of a well-formed image; and of bytes that are accepted by
 -- computation.
 -- Assumes nothing.
-use Rattle.std.specs.Prelude.{◌≡◌, ℕ, ◌-◌, ◌/◌, ◌<◌, ◌≤◌, Bool, true, false, cond, List, [], ◌∷◌, ◌++◌, length, replicate, nat_lt}
+use Rattle.std.specs.Prelude.{◌≡◌, ℕ, ◌-◌, ◌/◌, ◌<◌, ◌≤◌, Bool, true, false, cond, List, [], ◌∷◌, ◌++◌, length, replicate, nat_lt, Ok}
 use Rattle.std.proofs.Math.Path.{refl}
 use Rattle.std.proofs.Common.{sym, ◌∙◌, lit≤}
 use Rattle.std.proofs.lemmas.Bool.{false≢true}
@@ -11,9 +11,7 @@ use Rattle.rl_spec.specs.declared.ArenaNo.{ArenaNo}
 use Rattle.rl_spec.specs.declared.Counts.{Counts}
 use Rattle.rl_spec.specs.declared.Arguments.{Arguments}
 use Rattle.rl_spec.specs.declared.Id.{Id}
-use Rattle.rl_spec.specs.declared.Answer.TheVariants.{Accepted}
-use Rattle.rl_spec.specs.declared.FoldAnswer.TheVariants.{Found}
-use Rattle.rl_spec.specs.declared.ProveAnswer.TheVariants.{Proved}
+use Rattle.rl_spec.specs.Answers.{accepted}
 use Rattle.rl_spec.specs.declared.Section.TheVariants.{Expressions, Functions, Calls}
 use Rattle.rl_spec.specs.Read.{answer_of}
 use Rattle.rl_spec.specs.Image.{Image, size_of, text_of, encode, image_of, AllBytes, WellFormed}
@@ -33,7 +31,7 @@ use Rattle.rl_images.specs.Encoding.Accepted.{accepted_well_formed}
 
 module _ (im : Image) (wf : WellFormed im) (k : ℕ) (long : 8192 ≤ k) where
   -- THEOREMS: folding a node
-  pub folded_encoded : (n : ℕ) → n < size_of im Expressions → fold_of (encode im) k (record { arena = record { 0 = im.arena }; node = record { 0 = n } }) ≡ Found (as_folded (const_eval (text_of im) [] (expr_tree im n)))
+  pub folded_encoded : (n : ℕ) → n < size_of im Expressions → fold_of (encode im) k (record { arena = record { 0 = im.arena }; node = record { 0 = n } }) ≡ Ok (as_folded (const_eval (text_of im) [] (expr_tree im n)))
   unfolding fold_of
   folded_encoded n l =
       rw (
@@ -85,7 +83,7 @@ module _ (im : Image) (wf : WellFormed im) (k : ℕ) (long : 8192 ≤ k) where
 
 -- a slice that has room for the entries
 module _ (room : ℕ) (e : List ℕ) (l : length e ≤ room) where
-  pub fitting_room : fitting room e ≡ Proved (length e / 4)
+  pub fitting_room : fitting room e ≡ Ok (length e / 4)
   fitting_room = rw (le-ltb room (length e) l)
 
   pub slice_room : slice_by room e (fitting room e) ≡ e ++ replicate (room - length e) 0
@@ -103,12 +101,12 @@ bytes_by (b ∷ s) e =
     by_ltb b 256 (λ l. (l, bytes_by s (rw (lt-ltb b 256 l) at e)))
     (λ l. absurd (false≢true (rw (le-ltb b 256 l) at e)))
 
-module _ (s : List ℕ) (a : ArenaNo) (c : Counts) (b : are_bytes s ≡ true) (e : answer_of s 8192 ≡ Accepted a c) where
+module _ (s : List ℕ) (a : ArenaNo) (c : Counts) (b : are_bytes s ≡ true) (e : answer_of s 8192 ≡ accepted a c) where
   -- THEOREMS: what is accepted so stands for a well-formed image, and is accepted with a longer slice
   pub well_formed_by : WellFormed (image_of s)
   well_formed_by = accepted_well_formed s 8192 a c (bytes_by s b) e
 
-  pub accepted_longer : (k : ℕ) → 8192 ≤ k → answer_of s k ≡ Accepted a c
+  pub accepted_longer : (k : ℕ) → 8192 ≤ k → answer_of s k ≡ accepted a c
   accepted_longer k l =
       let d : encode (image_of s) ≡ s = accepted_encodes s 8192 a c (bytes_by s b) e in
       let x = encoded_accepted (image_of s) k well_formed_by l in

@@ -2,7 +2,7 @@
 -- Assumes nothing.
 use Rattle.std.specs.Prelude.{◌≡◌, ℕ, zero, suc, ◌<◌, List, [], ◌∷◌, refl}
 use Rattle.std.proofs.Common.{arith, lit<, lit≤}
-use Rattle.rl_spec.specs.declared.Answer.TheVariants.{Accepted}
+use Rattle.rl_spec.specs.Answers.{accepted}
 use Rattle.rl_spec.specs.declared.Section.{Section}
 use Rattle.rl_spec.specs.declared.Section.TheVariants.{Texts, Lists, Expressions, Statements, Parameters, Clauses, Functions, Calls}
 use Rattle.rl_spec.specs.declared.Target.{Target}
@@ -80,6 +80,6 @@ example_well_formed =
     }
 
 -- the reader's definition computes on its bytes to what the theorem says
-pub example_accepted : answer_of (encode example) 8192 ≡ Accepted (record { 0 = 7 }) (record { bytes = 1; texts = 1; lists = 1; expressions = 2; statements = 1; parameters = 0; clauses = 0; functions = 1; calls = 1 })
+pub example_accepted : answer_of (encode example) 8192 ≡ accepted (record { 0 = 7 }) (record { bytes = 1; texts = 1; lists = 1; expressions = 2; statements = 1; parameters = 0; clauses = 0; functions = 1; calls = 1 })
 unfolding encode encode_counts encode_sections encode_records encode_record encode_fields bytes_of fields_of fields_in schema sort_of answer_of read_of header_of counts_from limits counts_of body_of end_of sections_from sections records_from record_at in_section fields_from field_at value_of refer_to allowed kind_of_statement child_height entry_at entries_from list_of range_of part_of byte_in past u16_at u32_at utf8 octets char_width width_by begins utf8_char within
 example_accepted = refl

@@ -8,11 +8,10 @@ use native.Mathlib.Omega.{arith}
 use Rattle.rl_spec.specs.declared.Counts.{Counts}
 use Rattle.rl_spec.specs.declared.Cause.{Cause}
 use Rattle.rl_spec.specs.declared.Cause.TheVariants.{BytesEnd, WrongKind, CountOverLimit, BadText, BadValue, BadReference, TooHigh, BytesLeft}
-use Rattle.rl_spec.specs.declared.Answer.TheVariants.{Refused}
+use Rattle.rl_spec.specs.Answers.{goes_on, refused}
 use Rattle.rl_spec.specs.declared.Section.{Section}
 use Rattle.rl_spec.specs.declared.Sort.{Sort}
 use Rattle.rl_spec.specs.declared.Sort.TheVariants.{Raw, Byte, Scalar, Part, One, Maybe, Many, Range, OperandSort, Operand}
-use Rattle.rl_spec.specs.declared.Step.TheVariants.{Next, Stop}
 use Rattle.rl_spec.specs.Bytes.{u16_at}
 use Rattle.rl_spec.specs.Schema.{limits, sections, count_of, tallest, sort_of, width_of, fields_of}
 use Rattle.rl_spec.specs.Fields.{record_at}
@@ -23,6 +22,7 @@ use Rattle.rl_images.specs.Reading.Rows.{NoText, KindOutside, value_rows, field_
 use Rattle.rl_images.specs.Reading.Causes.{record_by_lem}
 use Rattle.rl_images.specs.Reading.Places.{field_place}
 use Rattle.rl_images.specs.Reading.ReadOutcome.{read_refuses}
+use Rattle.rl_laws.specs.AnswerLaws.{same_refusal}
 
 -- ---- one field
 
@@ -121,10 +121,10 @@ module _ (s p : List ℕ) (seen : Counts) (q : Cause) (n : ℕ) where
 
 module _ (s w p : List ℕ) (seen : Counts) (own : Section) (at : ℕ) where
   -- THEOREM
-  pub record_refuses : (q : Cause) (n : ℕ) → (record_at s w p seen own at ≡ Stop q n) ↔ First (record_rows s w p seen own at) q n
-  record_refuses = refuses_exactly (λ q q' n n' e. (cc, cc)) (λ u q n e. differ e) (record_by_lem s w p seen own at)
+  pub record_refuses : (q : Cause) (n : ℕ) → (record_at s w p seen own at ≡ refused q n) ↔ First (record_rows s w p seen own at) q n
+  record_refuses = refuses_exactly (λ q q' n n' e. same_refusal e) (λ u q n e. differ e) (record_by_lem s w p seen own at)
     where
-      differ : {a tall : ℕ} {q : Cause} {n : ℕ} → Next a tall ≢ Stop q n
+      differ : {a tall : ℕ} {q : Cause} {n : ℕ} → goes_on a tall ≢ refused q n
       differ e = let z : ◌≡◌ {A = ℕ} 0 1 = cc in omega arith
 
   -- by the part of the record that is refused
@@ -139,40 +139,40 @@ module _ (s w p : List ℕ) (seen : Counts) (own : Section) (at : ℕ) where
   -- THEOREMS
 
   -- 3: the kind is past the end, or the j-th field runs past it
-  pub bytes_end : (n : ℕ) → record_at s w p seen own at ≡ Stop BytesEnd n → ((n ≡ at) × (length s ≤ at)) ⊎ ((j : ℕ) × FieldAt s at n j × (length s < n + width_of (sort_at s at j)))
+  pub bytes_end : (n : ℕ) → record_at s w p seen own at ≡ refused BytesEnd n → ((n ≡ at) × (length s ≤ at)) ⊎ ((j : ℕ) × FieldAt s at n j × (length s < n + width_of (sort_at s at j)))
   bytes_end n e =
       refused_by BytesEnd n (λ x d h. inl (h, x)) (λ x d h. absurd (omega (arith, d)))
       (λ j f x. inr (j, f, field_end s p seen (sort_at s at j) n n x)) (λ x d h. absurd (omega (arith, d)))
       ((record_refuses BytesEnd n).0 e)
 
   -- 4: the kind is none of the section's
-  pub kind_outside : (n : ℕ) → record_at s w p seen own at ≡ Stop WrongKind n → (n ≡ at) × KindOutside s own at
+  pub kind_outside : (n : ℕ) → record_at s w p seen own at ≡ refused WrongKind n → (n ≡ at) × KindOutside s own at
   kind_outside n e =
       refused_by WrongKind n (λ x d h. absurd (omega (arith, d))) (λ x d h. (h, x))
       (λ j f x. ⊎_elim (λ d. absurd (omega (arith, d))) (λ d. absurd (omega (arith, d.0))) (field_number s p seen (sort_at s at j) n WrongKind n x)) (λ x d h. absurd (omega (arith, d)))
       ((record_refuses WrongKind n).0 e)
 
   -- 6: the j-th field is a text outside the text bytes, or not UTF-8
-  pub bad_text : (n : ℕ) → record_at s w p seen own at ≡ Stop BadText n → (j : ℕ) × FieldAt s at n j × (sort_at s at j ≡ Part) × NoText s seen n
+  pub bad_text : (n : ℕ) → record_at s w p seen own at ≡ refused BadText n → (j : ℕ) × FieldAt s at n j × (sort_at s at j ≡ Part) × NoText s seen n
   bad_text n e =
       refused_by BadText n (λ x d h. absurd (omega (arith, d))) (λ x d h. absurd (omega (arith, d)))
       (λ j f x. let t = field_text s p seen (sort_at s at j) n n x in (j, f, t.0, t.1)) (λ x d h. absurd (omega (arith, d)))
       ((record_refuses BadText n).0 e)
 
   -- 7: the value of the j-th field is outside its set
-  pub bad_value : (n : ℕ) → record_at s w p seen own at ≡ Stop BadValue n → (j : ℕ) × FieldAt s at n j × First (field_rows s p seen (sort_at s at j) n) BadValue n
+  pub bad_value : (n : ℕ) → record_at s w p seen own at ≡ refused BadValue n → (j : ℕ) × FieldAt s at n j × First (field_rows s p seen (sort_at s at j) n) BadValue n
   bad_value n e =
       refused_by BadValue n (λ x d h. absurd (omega (arith, d))) (λ x d h. absurd (omega (arith, d))) (λ j f x. (j, f, x))
       (λ x d h. absurd (omega (arith, d))) ((record_refuses BadValue n).0 e)
 
   -- 8: the j-th field has a reference or a list that is not allowed
-  pub bad_reference : (n : ℕ) → record_at s w p seen own at ≡ Stop BadReference n → (j : ℕ) × FieldAt s at n j × First (field_rows s p seen (sort_at s at j) n) BadReference n
+  pub bad_reference : (n : ℕ) → record_at s w p seen own at ≡ refused BadReference n → (j : ℕ) × FieldAt s at n j × First (field_rows s p seen (sort_at s at j) n) BadReference n
   bad_reference n e =
       refused_by BadReference n (λ x d h. absurd (omega (arith, d))) (λ x d h. absurd (omega (arith, d))) (λ j f x. (j, f, x))
       (λ x d h. absurd (omega (arith, d))) ((record_refuses BadReference n).0 e)
 
   -- 9: the height is over the section's
-  pub height_over : (n : ℕ) → record_at s w p seen own at ≡ Stop TooHigh n → (n ≡ at) × (tallest own < height_at s w seen own at)
+  pub height_over : (n : ℕ) → record_at s w p seen own at ≡ refused TooHigh n → (n ≡ at) × (tallest own < height_at s w seen own at)
   height_over n e =
       refused_by TooHigh n (λ x d h. absurd (omega (arith, d))) (λ x d h. absurd (omega (arith, d)))
       (λ j f x. ⊎_elim (λ d. absurd (omega (arith, d))) (λ d. absurd (omega (arith, d.1))) (field_number s p seen (sort_at s at j) n TooHigh n x)) (λ x d h. (h, x))
@@ -246,14 +246,14 @@ module _ (s : List ℕ) (n : ℕ) where
 
   module _ (k : ℕ) where
     -- 5: the j-th count of the header is over its limit
-    pub count_over : answer_of s k ≡ Refused CountOverLimit n → (j : ℕ) × (j < length limits) × (n ≡ 5 + 2 * j) × (slice_index limits j < u16_at s n)
+    pub count_over : answer_of s k ≡ refused CountOverLimit n → (j : ℕ) × (j < length limits) × (n ≡ 5 + 2 * j) × (slice_index limits j < u16_at s n)
     count_over e =
         by_parts (content_rows s k) _ CountOverLimit n
         (content_by s CountOverLimit n k (λ h. absurd (omega (arith, h))) header_over (λ h. absurd (h.1 refl)))
         (λ u. ⊎_elim (λ x. absurd (omega (arith, ap number_of x.1))) (λ x. absurd x.1)) ((read_refuses s k CountOverLimit n).0 e)
 
     -- 10: all sections are read, and bytes are left behind them
-    pub bytes_left : (answer_of s k ≡ Refused BytesLeft n) ↔ (Unmet (content_rows s k) × (n ≡ sections_end s) × (n < length s))
+    pub bytes_left : (answer_of s k ≡ refused BytesLeft n) ↔ (Unmet (content_rows s k) × (n ≡ sections_end s) × (n < length s))
     bytes_left = (λ e. there ((read_refuses s k BytesLeft n).0 e), λ x. (read_refuses s k BytesLeft n).1 (back x))
       where
         there : First (read_rows s k) BytesLeft n → Unmet (content_rows s k) × (n ≡ sections_end s) × (n < length s)

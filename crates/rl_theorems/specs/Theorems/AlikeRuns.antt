@@ -1,14 +1,12 @@
 -- DEMAND 3. The run of a lowered body and 01's contract reading of the original are alike, and a call that has a report never passes its
 -- callee's entry checks. First from bytes to bytes; then steps and budgets; then the same of images and of trees, on which it rests.
 -- Assumes nothing.
-use Rattle.std.specs.Prelude.{◌≡◌, ℕ, ◌<◌, ◌≤◌, true, false, List, [], ◌∷◌, ◌++◌, map, length, take, ◌≢◌}
+use Rattle.std.specs.Prelude.{◌≡◌, ℕ, ◌<◌, ◌≤◌, true, false, List, [], ◌∷◌, ◌++◌, map, length, take, ◌≢◌, Ok}
 use Rattle.std.proofs.Math.Option.{some}
-use Rattle.rl_spec.specs.declared.Answer.TheVariants.{Accepted}
+use Rattle.rl_spec.specs.Answers.{accepted, ran}
 use Rattle.rl_spec.specs.declared.Arguments.{Arguments}
-use Rattle.rl_spec.specs.declared.LowerAnswer.TheVariants.{Lowered}
 use Rattle.rl_spec.specs.declared.Outcome.TheVariants.{Spent}
 use Rattle.rl_spec.specs.declared.Outcome.{Outcome as Ending}
-use Rattle.rl_spec.specs.declared.RunAnswer.TheVariants as run
 use Rattle.rl_spec.specs.declared.Section.TheVariants.{Expressions, Statements, Functions}
 use Rattle.rl_spec.specs.Read.{counts_of, answer_of}
 use Rattle.rl_spec.specs.Image.{Image, encode, image_of, text_of, size_of, heights, AllBytes, WellFormed}
@@ -16,7 +14,7 @@ use Rattle.rl_spec.specs.Tree.{ascii}
 use Rattle.rl_spec.specs.FnContracts.{callee_of, arguments_of}
 use Rattle.rl_spec.specs.Prove.{violations_of}
 use Rattle.rl_spec.specs.Lower.{lowered}
-use Rattle.rl_spec.specs.Lowerer.{made, lower_of, lower_answer, lower_out}
+use Rattle.rl_spec.specs.Lowerer.{lower_of, lower_answer, lower_out}
 use Rattle.rl_spec.specs.Run.{Value, Env, spent, got, used}
 use Rattle.rl_spec.specs.Reading.{Function, run_function, entering, reading}
 use Rattle.rl_spec.specs.Functions.{plain_function, contract_function}
@@ -53,7 +51,7 @@ use Rattle.rl_theorems.specs.Runs.TextRuns as TextRuns
 -- ---- THE TWO HALVES, as Demand has them beside what their premises say and closed instances (FirstHalfExamples and SecondHalfExamples show
 -- that each premise is needed; below, both of images and of trees, under weaker premises)
 
-pub first_half : (s : List ℕ) (k f room n : ℕ) → AllBytes s → lower_answer (lower_of s k f room) ≡ Lowered n → Demand.NoReservedText (image_of s) → Demand.NoBareLast (image_of s) f → (k' : ℕ) (args : Arguments) (budget : ℕ) → all_have (counts_of s) (given args) ≡ true → Demand.RunsAsRead s (take n (lower_out room (lower_of s k f room))) k' f args budget
+pub first_half : (s : List ℕ) (k f room n : ℕ) → AllBytes s → lower_answer (lower_of s k f room) ≡ Ok n → Demand.NoReservedText (image_of s) → Demand.NoBareLast (image_of s) f → (k' : ℕ) (args : Arguments) (budget : ℕ) → all_have (counts_of s) (given args) ≡ true → Demand.RunsAsRead s (take n (lower_out room (lower_of s k f room))) k' f args budget
 first_half = Demand.first_half
 
 pub reported_callee : (s : List ℕ) (call : ℕ) → Demand.Reported s call → (f : ℕ) × (callee_of (image_of s) call ≡ some f)
@@ -73,13 +71,13 @@ module _ (s last : List ℕ) (fs : List ℕ) (bytes : AllBytes s) (in_turn : One
 
 -- ---- what lowering makes of bytes
 
-module _ (s : List ℕ) (k f room : ℕ) (im' : Image) (bytes : AllBytes s) (e : lower_of s k f room ≡ made im') where
+module _ (s : List ℕ) (k f room : ℕ) (im' : Image) (bytes : AllBytes s) (e : lower_of s k f room ≡ Ok im') where
   -- what it makes is well formed, the reader accepts its bytes, it is the original's records followed by the new ones, and it is what the
   -- output slice begins with (LoweredBytes)
   pub made_well_formed : WellFormed im'
   made_well_formed = LoweredBytes.made_well_formed s k f room im' bytes e
 
-  pub made_accepted : (answer_of (encode im') k ≡ Accepted (record { 0 = im'.arena }) (counts im')) × (image_of (encode im') ≡ im')
+  pub made_accepted : (answer_of (encode im') k ≡ accepted (record { 0 = im'.arena }) (counts im')) × (image_of (encode im') ≡ im')
   made_accepted = LoweredBytes.made_accepted s k f room im' bytes e
 
   pub made_followed : Followed.Followed (image_of s) f im'
@@ -113,11 +111,11 @@ module _ {Text : Type 0} (bytes : Text → List ℕ) (f : Function Text) (vs : L
   reading_spent = Budget.reading_spent bytes f vs
 
 -- what the runner answers with another budget, which is no larger than may be
-module _ (s : List ℕ) (k f : ℕ) (args : Arguments) (n u : ℕ) (o : Ending) (e : run_of s k f args n ≡ run.Ran o u) (ended : o ≡ Spent → ⊥) where
-  pub runner_same : (b : ℕ) → b ≤ 1000000 → u ≤ b → run_of s k f args b ≡ run.Ran o u
+module _ (s : List ℕ) (k f : ℕ) (args : Arguments) (n u : ℕ) (o : Ending) (e : run_of s k f args n ≡ ran o u) (ended : o ≡ Spent → ⊥) where
+  pub runner_same : (b : ℕ) → b ≤ 1000000 → u ≤ b → run_of s k f args b ≡ ran o u
   runner_same = AtBudgets.runner_same s k f args n u o e ended
 
-  pub runner_spent : (b : ℕ) → b < u → run_of s k f args b ≡ run.Ran Spent b
+  pub runner_spent : (b : ℕ) → b < u → run_of s k f args b ≡ ran Spent b
   runner_spent = AtBudgets.runner_spent s k f args n u o e ended
 
 -- ---- closed runs and readings, a row or more for each sentence of 01's "Runner" and "Contract reading" (RunnerTable, with its first rows in
@@ -165,7 +163,7 @@ module _ (im im' : Image) (f : ℕ) (wf : WellFormed im) (there : f < size_of im
   pub lowered_well_formed : WellFormed im'
   lowered_well_formed = LoweredWellFormed.lowered_well_formed im im' f wf there low lower e
 
-  pub lowered_accepted : (k : ℕ) → 8192 ≤ k → (answer_of (encode im') k ≡ Accepted (record { 0 = im'.arena }) (counts im')) × (image_of (encode im') ≡ im')
+  pub lowered_accepted : (k : ℕ) → 8192 ≤ k → (answer_of (encode im') k ≡ accepted (record { 0 = im'.arena }) (counts im')) × (image_of (encode im') ≡ im')
   lowered_accepted k = LoweredWellFormed.lowered_accepted im im' f k wf there low lower e
 
 -- ---- on records, the function of a lowered image, its texts as bytes, is what the function's tree is lowered to, and so its plain run is the

@@ -1,13 +1,12 @@
 -- WHAT CHANGE REQUESTS KEEP AND BRING, request by request. `before im` is the image as it was taken before request [1].
 -- Assumes nothing.
-use Rattle.std.specs.Prelude.{◌≡◌, ℕ, ◌+◌, ◌-◌, ◌*◌, ◌/◌, ◌%◌, ◌<◌, ◌≤◌, true, false, cond, ◌↔◌, List, [], ◌∷◌, ◌++◌, map, length, take, drop, replicate, pos, ◌-ℤ◌, slice_index_or}
+use Rattle.std.specs.Prelude.{◌≡◌, ℕ, ◌+◌, ◌-◌, ◌*◌, ◌/◌, ◌%◌, ◌<◌, ◌≤◌, true, false, cond, ◌↔◌, List, [], ◌∷◌, ◌++◌, map, length, take, drop, replicate, pos, ◌-ℤ◌, slice_index_or, Ok}
 use mathlib.Core.List.{Mem, Sublist}
 use Rattle.std.proofs.Math.Option.{none, some}
 use Rattle.rl_spec.specs.declared.Form.TheVariants.{Other}
 use Rattle.rl_spec.specs.declared.Section.TheVariants.{Expressions, Calls}
 use Rattle.rl_spec.specs.declared.Cause.TheVariants.{BytesLeft, PagesTooShort}
-use Rattle.rl_spec.specs.declared.PagesAnswer.TheVariants.{Written, Refused}
-use Rattle.rl_spec.specs.declared.ProveAnswer.TheVariants.{Proved}
+use Rattle.rl_spec.specs.Answers.{refused}
 use Rattle.rl_spec.specs.declared.Violation.{Violation}
 use Rattle.rl_spec.specs.declared.Violation.TheVariants.{Refinement, Requires}
 use Rattle.rl_spec.specs.Utf8.{utf8, scalars_of}
@@ -110,7 +109,7 @@ pub report_goes : (violations_of (before twice) 0 ≡ Requires 0 ∷ []) × (vio
 report_goes = Examples.report_goes
 
 -- from the bytes of the three, `prove` answers one report, one, and none
-pub examples_prove : (prove_of (encode priority) 8192 0 4 ≡ Proved 1) × (prove_of (encode level) 8192 0 4 ≡ Proved 1) × (prove_of (encode twice) 8192 0 4 ≡ Proved 0)
+pub examples_prove : (prove_of (encode priority) 8192 0 4 ≡ Ok 1) × (prove_of (encode level) 8192 0 4 ≡ Ok 1) × (prove_of (encode twice) 8192 0 4 ≡ Ok 0)
 examples_prove = Examples.examples_prove
 
 -- ---- [3] Reports on a printed page (PrintedPages has `Every` and what a `Page` is; Paged). Of every image and number of calls, well-formed or
@@ -156,11 +155,11 @@ module _ (im : Image) (n : ℕ) where
   pages_room = PageRoom.pages_room im n
 
 -- from bytes: by the reports that proving all calls answers
-pub proved_pages : (s : List ℕ) (k room r : ℕ) → prove_all_of s k room ≡ Proved r → length (on_pages (all_report_lines (image_of s) (counts_of s).calls)) ≡ (r + 59) / 60
+pub proved_pages : (s : List ℕ) (k room r : ℕ) → prove_all_of s k room ≡ Ok r → length (on_pages (all_report_lines (image_of s) (counts_of s).calls)) ≡ (r + 59) / 60
 proved_pages = PrintedPages.proved_pages
 
 -- what is answered has 32 bits
-pub written_most : (s : List ℕ) (k room n : ℕ) → AllBytes s → pages_answer s k room ≡ Written n → n ≤ 31201800
+pub written_most : (s : List ℕ) (k room n : ℕ) → AllBytes s → pages_answer s k room ≡ Ok n → n ≤ 31201800
 written_most = PageRoom.written_most
 
 -- WHAT STANDS IN A LINE: the i-th of a call has the call's number, span and callee, and the message of its i-th report without the opening
@@ -269,7 +268,7 @@ flow_page_lem = PagesExamples.flow_page_lem
 -- a page slice just long enough, one byte short, without any; no report; bytes that are refused. And what the slice holds
 pub answers_so : pages_answer (encode MarkedImages.flow) 8192 4380 ∷ pages_answer (encode MarkedImages.flow) 8192 4379 ∷ pages_answer (encode MarkedImages.flow) 8192 0
     ∷ pages_answer (encode MarkedImages.returns_true) 8192 0 ∷ pages_answer (encode MarkedImages.flow ++ 0 ∷ []) 8192 0 ∷ []
-    ≡ Written 4380 ∷ Refused PagesTooShort 0 ∷ Refused PagesTooShort 0 ∷ Written 0 ∷ Refused BytesLeft 213 ∷ []
+    ≡ Ok 4380 ∷ refused PagesTooShort 0 ∷ refused PagesTooShort 0 ∷ Ok 0 ∷ refused BytesLeft 213 ∷ []
 answers_so = PagesExamples.answers_so
 
 pub slices_so : (pages_out (encode MarkedImages.flow) 8192 4382 ≡ PagesExamples.flow_page ++ 0 ∷ 0 ∷ []) × (pages_out (encode MarkedImages.flow) 8192 3 ≡ 0 ∷ 0 ∷ 0 ∷ [])

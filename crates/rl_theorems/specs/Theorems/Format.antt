@@ -2,7 +2,7 @@
 -- the number and place that reading them answers, 0 and 0 where they are accepted.
 -- Assumes nothing.
 use Rattle.std.specs.Prelude.{◌≡◌, [], ◌∷◌, ◌++◌, map, replicate}
-use Rattle.rl_spec.specs.declared.Answer.TheVariants.{Accepted}
+use Rattle.rl_spec.specs.Answers.{accepted}
 use Rattle.rl_spec.specs.declared.Section.TheVariants.{Expressions, Statements}
 use Rattle.rl_spec.specs.Read.{answer_of, work_of}
 use Rattle.rl_spec.specs.Image.{encode, image_of, heights}
@@ -14,7 +14,7 @@ use Rattle.rl_examples.specs.RefusalBytes as RefusalBytes
 
 -- ---- one image with a record of each kind: it is accepted, stands for these records, is their encoding, and has these heights (KindBytes)
 
-pub kinds_accepted : answer_of KindBytes.bytes 8192 ≡ Accepted (record { 0 = 0x04030201 }) (record { bytes = 5; texts = 3; lists = 11; expressions = 42; statements = 16; parameters = 5; clauses = 3; functions = 2; calls = 1 })
+pub kinds_accepted : answer_of KindBytes.bytes 8192 ≡ accepted (record { 0 = 0x04030201 }) (record { bytes = 5; texts = 3; lists = 11; expressions = 42; statements = 16; parameters = 5; clauses = 3; functions = 2; calls = 1 })
 kinds_accepted = KindBytes.answer_so
 
 pub kinds_image : image_of KindBytes.bytes ≡ KindBytes.image

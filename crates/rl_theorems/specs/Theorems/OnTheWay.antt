@@ -1,12 +1,11 @@
 -- WHAT IS PROVED ON THE WAY to the three demands: what is answered for the bytes of a well-formed image, where the records of accepted
 -- bytes stand, every part of a run at two budgets, and texts by their bytes.
 -- Assumes nothing.
-use Rattle.std.specs.Prelude.{◌≡◌, ℕ, ◌+◌, ◌*◌, ◌<◌, ◌≤◌, Bool, true, false, List, [], map, take, drop, slice_index}
-use Rattle.rl_spec.specs.declared.Answer.TheVariants.{Accepted}
+use Rattle.std.specs.Prelude.{◌≡◌, ℕ, ◌+◌, ◌*◌, ◌<◌, ◌≤◌, Bool, true, false, List, [], map, take, drop, slice_index, Ok}
+use Rattle.rl_spec.specs.Answers.{accepted}
 use Rattle.rl_spec.specs.declared.ArenaNo.{ArenaNo}
 use Rattle.rl_spec.specs.declared.Arguments.{Arguments}
 use Rattle.rl_spec.specs.declared.Counts.{Counts}
-use Rattle.rl_spec.specs.declared.FoldAnswer.TheVariants.{Found}
 use Rattle.rl_spec.specs.declared.Section.TheVariants.{Expressions, Statements, Functions, Calls}
 use Rattle.rl_spec.specs.declared.Section.{Section}
 use Rattle.rl_spec.specs.Bytes.{u16_at}
@@ -41,7 +40,7 @@ use Rattle.rl_theorems.specs.Runs.Texts as Texts
 -- ---- what folding, proving, lowering and running answer for the bytes of a well-formed image (EncodedAnswers)
 
 module _ (im : Image) (wf : WellFormed im) (k : ℕ) (long : 8192 ≤ k) where
-  pub folded_encoded : (n : ℕ) → n < size_of im Expressions → fold_of (encode im) k (record { arena = record { 0 = im.arena }; node = record { 0 = n } }) ≡ Found (as_folded (const_eval (text_of im) [] (expr_tree im n)))
+  pub folded_encoded : (n : ℕ) → n < size_of im Expressions → fold_of (encode im) k (record { arena = record { 0 = im.arena }; node = record { 0 = n } }) ≡ Ok (as_folded (const_eval (text_of im) [] (expr_tree im n)))
   folded_encoded = EncodedAnswers.folded_encoded im wf k long
 
   -- one call, and what is left in a slice of so many entries
@@ -66,7 +65,7 @@ module _ (im : Image) (wf : WellFormed im) (k : ℕ) (long : 8192 ≤ k) where
   pub ran_encoded : (f : ℕ) (args : Arguments) (budget : ℕ) → f < size_of im Functions → is_for args.count (function_at im f).params.count ≡ true → all_have (counts im) (given args) ≡ true → budget ≤ 1000000 → run_of (encode im) k f args budget ≡ ran_in im f (given args) budget
   ran_encoded = EncodedAnswers.ran_encoded im wf k long
 
-module _ (s : List ℕ) (k : ℕ) (a : ArenaNo) (c : Counts) (e : answer_of s k ≡ Accepted a c) where
+module _ (s : List ℕ) (k : ℕ) (a : ArenaNo) (c : Counts) (e : answer_of s k ≡ accepted a c) where
   pub sizes_are_counts : (o : Section) → size_of (image_of s) o ≡ count_of c o
   sizes_are_counts = Starts.sizes_are_counts s k a c e
 
@@ -78,7 +77,7 @@ module _ (s : List ℕ) (k : ℕ) (a : ArenaNo) (c : Counts) (e : answer_of s k 
 
 -- ---- where the bytes of a list entry and of a text stand (Access)
 
-module _ (s : List ℕ) (k : ℕ) (a : ArenaNo) (c : Counts) (e : answer_of s k ≡ Accepted a c) where
+module _ (s : List ℕ) (k : ℕ) (a : ArenaNo) (c : Counts) (e : answer_of s k ≡ accepted a c) where
   pub entry_of_lem : (n : ℕ) → n < c.lists → entry_at s c n ≡ entry_of (image_of s) n
   entry_of_lem = Access.entry_of_lem s k a c e
 
@@ -87,7 +86,7 @@ module _ (s : List ℕ) (k : ℕ) (a : ArenaNo) (c : Counts) (e : answer_of s k 
 
 -- ---- the image that bytes, starts and counts give, of accepted bytes (Found; rl_records has the functions, which answer for all bytes)
 
-pub found_is_image : (s : List ℕ) (k : ℕ) (a : ArenaNo) (c : Counts) → answer_of s k ≡ Accepted a c → image_found s (starts_of s k) c ≡ image_of s
+pub found_is_image : (s : List ℕ) (k : ℕ) (a : ArenaNo) (c : Counts) → answer_of s k ≡ accepted a c → image_found s (starts_of s k) c ≡ image_of s
 found_is_image = Found.found_is_image
 
 -- ---- the steps of a run at two budgets (Steps)

@@ -9,7 +9,7 @@ use Rattle.std.specs.Float.{binary64}
 use Rattle.std.specs.Float.Ieee.{of_int, fits}
 use Rattle.std.specs.Float.Ieee.Scale.{finite}
 use Rattle.std.specs.Float.Ieee.Positive.{den}
-use Rattle.rl_spec.specs.declared.Answer.TheVariants.{Accepted, Refused}
+use Rattle.rl_spec.specs.Answers.{accepted, refused}
 use Rattle.rl_spec.specs.declared.ArenaNo.{ArenaNo}
 use Rattle.rl_spec.specs.declared.Cause.{Cause}
 use Rattle.rl_spec.specs.declared.Counts.{Counts}
@@ -230,10 +230,10 @@ refusals = PrinterExamples.refusals
 
 -- for all bytes: where they are accepted the lines of all calls, one after another, `in_order` n calls from the k-th on, of each call one for
 -- each report by its number; and else the line of the refusal (InOrder)
-pub output_in_order : (s : List ℕ) (a : ArenaNo) (c : Counts) → answer_of s 8192 ≡ Accepted a c → output_of s ≡ joined (InOrder.in_order (image_of s) c.calls 0)
+pub output_in_order : (s : List ℕ) (a : ArenaNo) (c : Counts) → answer_of s 8192 ≡ accepted a c → output_of s ≡ joined (InOrder.in_order (image_of s) c.calls 0)
 output_in_order = InOrder.output_in_order
 
-pub output_refused : (s : List ℕ) (q : Cause) (p : ℕ) → answer_of s 8192 ≡ Refused q p → output_of s ≡ refused_line q p
+pub output_refused : (s : List ℕ) (q : Cause) (p : ℕ) → answer_of s 8192 ≡ refused q p → output_of s ≡ refused_line q p
 output_refused = InOrder.output_refused
 
 -- a line with a report has the report's message in it and ends in a newline; every line fits the printer's buffer, and every message its

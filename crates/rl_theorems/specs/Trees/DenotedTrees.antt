@@ -1,14 +1,13 @@
 -- A record that stands for a tree has it for its tree.
 -- Assumes nothing.
-use Rattle.std.specs.Prelude.{◌≡◌, ℕ, zero, suc, ◌+◌, ◌^◌, ◌<◌, Bool, true, false, cond, List, [], ◌∷◌, map, length, pos, nat_lt, slice_index}
+use Rattle.std.specs.Prelude.{◌≡◌, ℕ, zero, suc, ◌+◌, ◌^◌, ◌<◌, Bool, true, false, cond, List, [], ◌∷◌, map, length, pos, nat_lt, slice_index, None, Some}
 use Rattle.std.proofs.Math.Path.{refl, ap, ap₂, sym}
 use Rattle.std.proofs.Common.{◌∙◌, arith, ne_eqb}
 use Rattle.std.proofs.lemmas.Simd.{map-map}
 use Rattle.std.proofs.Math.Option
 use Rattle.std.proofs.Math.Option.{Option, none, some}
-use Rattle.rl_spec.specs.declared.Optional.{Optional}
+use Rattle.rl_spec.specs.Answers.{Optional}
 use Rattle.rl_spec.specs.declared.ConstVal.TheVariants.{Int}
-use Rattle.rl_spec.specs.declared.Folded.TheVariants.{Value, Nothing}
 use Rattle.rl_spec.specs.declared.Form.TheVariants.{IsErr, ResultUnwrap, Other}
 use Rattle.rl_spec.specs.Image.{Field, num, Image, first, second, entry_of, text_of}
 use Rattle.rl_spec.specs.Values.{ConstVal, int, str}
@@ -62,7 +61,7 @@ module _ {im : Image} where
 -- ---- expressions
 
 unsigned_is : (f : ℕ → Text) (n : ℕ) (b : Bool) →
-    Option.map (map_const f) (folded_of (cond b (Value (Int (pos n))) Nothing)) ≡ cond b (some (int (pos n))) none
+    Option.map (map_const f) (folded_of (cond b (Some (Int (pos n))) None)) ≡ cond b (some (int (pos n))) none
 unsigned_is f n true = refl
 unsigned_is f n false = refl
 

@@ -4,7 +4,7 @@ use Rattle.std.specs.Prelude.{ℕ, zero, suc, ◌+◌, ◌<◌, ◌≤◌, map}
 use Rattle.std.proofs.Math.Path.{refl}
 use Rattle.std.proofs.Common.{sym, subst, arith}
 use Rattle.std.proofs.Math.Option
-use Rattle.rl_spec.specs.declared.Optional.{Optional}
+use Rattle.rl_spec.specs.Answers.{Optional}
 use Rattle.rl_spec.specs.declared.Section.TheVariants.{Expressions, Clauses, Functions}
 use Rattle.rl_spec.specs.declared.Target.TheVariants.{Statement}
 use Rattle.rl_spec.specs.Image.{Image, size_of, record_of, field_of, first, second, entry_of, text_of, Entries, WellFormed}
