@@ -33,7 +33,14 @@ impl Replay for Running {
             return Ok(());
         };
         let mut outcome = [0u64; 4];
-        let answer = rl_run(case.image, work, case.number(1), values, case.number(2), &mut outcome);
+        let answer = rl_run(
+            case.image,
+            work,
+            case.number(1),
+            values,
+            case.number(2),
+            &mut outcome,
+        );
         match unpacked(answer) {
             Ok(_) => print_outcome(rt, outcome)?,
             Err(refused) => println!(rt; "{refused}")?,
