@@ -5,4 +5,3 @@ pub mod StepLaws
 pub mod ListLaws
 pub mod TurnLaws
 pub mod ViewLaws
-pub mod CycleLaws

@@ -14,6 +14,7 @@ use Rattle.rl_machine.specs.declared.types.State.{State}
 use Rattle.rl_machine.specs.declared.types.State.TheVariants.{Next, Tested, Compound, Ends}
 use Rattle.rl_machine.specs.Machine.{after, Room, Low, Follows, weight}
 use Rattle.rl_statements.specs.declared.types.Block.{Block}
+use Rattle.rl_statements.specs.declared.types.Ran.{Ran}
 use Rattle.rl_statements.specs.Lists.{block_left, statement_run, Runs}
 use Rattle.rl_statements.specs.Steps.{resume, fuel, Goes, Starts, Stands}
 
@@ -72,18 +73,18 @@ module _ (im : Image) (follow : Result ℕ Flow → Result ℕ Flow) (whole : Re
   pub tested_lower : (b : Bool) (st' : State) → st ≡ Tested b → weight st' < 2 → fuel left (length fs) st' < fuel left (length fs) st
   tested_lower b st' e l = omega (arith, l, ap weight e)
 
-  module _ (s : ℕ) (e : st ≡ Compound s) (f : Flow) (env' : Env ℕ) (left' : ℕ) (q : Runs (statement_run im s) env left f env' left') (st' : State) where
-    pub stands_compound : ((im : Image) → Follows im f st') → ((im : Image) (bound t : ℕ) → Room im bound t st') → At env' left' base done fs st'
+  module _ (s : ℕ) (e : st ≡ Compound s) (r : Ran) (q : Runs (statement_run im s) env left r) (st' : State) where
+    pub stands_compound : ((im : Image) → Follows im r.flow st') → ((im : Image) (bound t : ℕ) → Room im bound t st') → At r.env r.left base done fs st'
     stands_compound g m =
         record {
-          means = ap follow (g im base (block_left im block done) (resume im base (block_left im block done) fs) env' left'
+          means = ap follow (g im base (block_left im block done) (resume im base (block_left im block done) fs) r.env r.left
               ∙ ap (λ x. and_then x (after im base (block_left im block done))) q.does) ∙ (as_in (Compound s) e).means;
           room = m im block.bound (length fs);
           frames = h.frames;
           less = omega (arith, q.less, h.less);
         }
 
-    pub compound_lower : weight st' ≤ 1 → fuel left' (length fs) st' < fuel left (length fs) st
+    pub compound_lower : weight st' ≤ 1 → fuel r.left (length fs) st' < fuel left (length fs) st
     compound_lower l = omega (arith, l, q.less, ap weight e)
 
   -- a statement that holds statements is below the bound

@@ -156,11 +156,11 @@ module _ (im : Image) (block : Block) (budget : ℕ) (env₀ : run.Env ℕ) wher
     whole_closed : turned im block.looping c b (result_of f env' left) ≡ block_run im block env₀ budget
     whole_closed = ap (λ e. turned im block.looping c b (result_of f e left)) k ∙ ap (turned im block.looping c b) (closed env base left f) ∙ h.means
 
-    pub list_finished : (t : std.Option Flow) (g : Flow) → t ≡ turn_after block.looping f → t ≡ Some g → Runs (block_run im block) env₀ budget g env' left
+    pub list_finished : (t : std.Option Flow) (g : Flow) → t ≡ turn_after block.looping f → t ≡ Some g → Runs (block_run im block) env₀ budget (record { flow = g; env = env'; left = left })
     list_finished t g d e = record { does = finished im c b env' left block.looping f g (sym d ∙ e) ∙ whole_closed; less = h.less }
 
     module _ (t : turn_after block.looping f ≡ None) where
-      pub turns_spent : left ≡ 0 → Runs (block_run im block) env₀ budget (Over Spent) env' left
+      pub turns_spent : left ≡ 0 → Runs (block_run im block) env₀ budget (record { flow = Over Spent; env = env'; left = left })
       turns_spent z =
           record {
             does =

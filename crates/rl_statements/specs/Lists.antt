@@ -18,6 +18,7 @@ use Rattle.rl_machine.specs.declared.types.Flow.TheVariants.{Onward, Breaks, Con
 use Rattle.rl_machine.specs.declared.types.State.{State}
 use Rattle.rl_machine.specs.Machine.{outcome_of, result_of, flows, item_under, last_as, compound, guarded, meaning, Low}
 use Rattle.rl_statements.specs.declared.types.Block.{Block}
+use Rattle.rl_statements.specs.declared.types.Ran.{Ran}
 
 -- ---- the statements of a list
 
@@ -120,7 +121,7 @@ pub record Sound (im : Image) (classes : List ℕ) : Type 0 where
   pub low : Low im
   pub same : Classes (text_of im) classes
 
--- how a run ends, the bindings and the budget that is left are what the run m comes to
-pub record Runs (m : Run ℕ Flow) (env : Env ℕ) (n : ℕ) (f : Flow) (env' : Env ℕ) (left : ℕ) : Type 0 where
-  pub does : result_of f env' left ≡ m env n
-  pub less : left ≤ n
+-- r is what the run m comes to
+pub record Runs (m : Run ℕ Flow) (env : Env ℕ) (n : ℕ) (r : Ran) : Type 0 where
+  pub does : result_of r.flow r.env r.left ≡ m env n
+  pub less : r.left ≤ n

@@ -1,4 +1,5 @@
-// Lists, statements and branches call one another; the statement's index falls.
+// Lists, statements and branches call one another; the statement's index falls. Each is handed the bindings by value and hands them
+// back (a rule of the project), so that only what holds statements costs a copy.
 ghost use Rattle.std.specs.Prelude.{◌≡◌, ℕ};
 ghost use Rattle.rl_spec.specs.Image.{Image};
 ghost use Rattle.rl_records.specs.Found.{found};
@@ -8,7 +9,7 @@ ghost use Rattle.rl_statements.specs.Lists.{block_run, branch_run, otherwise_run
 use crate::env::Env;
 use crate::stack::Stack;
 use crate::steps::{declared, given, looked, next, pushed, stored, visited};
-use crate::types::{Block, CompoundForm, ElseForm, Source};
+use crate::types::{Block, CompoundForm, ElseForm, Ran, Source};
 use crate::views::{branch_at, compound_at, else_at};
 use rl_machine::{Flow, State, condition_first, followed};
 use rl_spec::Outcome;
@@ -50,18 +51,20 @@ fn unskipped(f: Flow) -> Flow
 
 // Runs the statements of a list.
 #[cycle(branch_list_otherwise_statement)]
-pub fn list(source: Source, block: Block, env: &mut Env, left: &mut u32) -> Flow
+pub fn list(source: Source, block: Block, env: Env, left: u32) -> Ran
     requires { Sound (found source.image) source.classes.now }
-    ensures { Runs (block_run (found source.entry.image) block) env.old left.old result env.new left.new }
+    ensures { Runs (block_run (found source.entry.image) block) env left result }
 {
     let Source { image, classes } = source;
+    let mut env = env;
+    let mut left = left;
     let mut base = env.len();
     let mut done: u32 = 0;
     let mut frames = Stack::new();
     let mut state = first_state(block.looping, block.condition);
     loop {
         state = match state {
-            State::Next => next(image, block, &mut done, &mut frames, left),
+            State::Next => next(image, block, &mut done, &mut frames, &mut left),
             State::Tested(holds) => {
                 base = env.len();
                 if holds {
@@ -70,24 +73,30 @@ pub fn list(source: Source, block: Block, env: &mut Env, left: &mut u32) -> Flow
                     State::Ends(Flow::Skipped)
                 }
             }
-            State::Compound(s) => followed(statement(source, s, env, left)),
-            State::Visit { node, limit } => visited(image, node, limit, left),
-            State::Push { frame, node, limit } => {
-                pushed(image, frame, node, limit, &mut frames, left)
+            State::Compound(s) => {
+                let ran = statement(source, s, env, left);
+                env = ran.env;
+                left = ran.left;
+                followed(ran.flow)
             }
-            State::Look(name) => looked(classes, name, env),
-            State::Store { name, value } => stored(classes, name, value, env),
-            State::Bind { name, value } => declared(name, value, env),
+            State::Visit { node, limit } => visited(image, node, limit, &mut left),
+            State::Push { frame, node, limit } => {
+                pushed(image, frame, node, limit, &mut frames, &mut left)
+            }
+            State::Look(name) => looked(classes, name, &env),
+            State::Store { name, value } => stored(classes, name, value, &mut env),
+            State::Bind { name, value } => declared(name, value, &mut env),
             State::Give(value) => given(image, value, &mut frames),
             State::Ends(flow) => {
                 env.leave(base);
-                if let Some(end) = turn_after(block.looping, flow) {
-                    return end;
+                if let Some(flow) = turn_after(block.looping, flow) {
+                    return Ran { flow, env, left };
                 }
-                if *left == 0 {
-                    return Flow::Over(Outcome::Spent);
+                if left == 0 {
+                    let flow = Flow::Over(Outcome::Spent);
+                    return Ran { flow, env, left };
                 }
-                *left -= 1;
+                left -= 1;
                 done = 0;
                 frames.clear();
                 condition_first(block.condition)
@@ -98,43 +107,63 @@ pub fn list(source: Source, block: Block, env: &mut Env, left: &mut u32) -> Flow
 
 // A branch below a limit: skipped where its condition is false.
 #[cycle(branch_list_otherwise_statement)]
-fn branch(source: Source, b: u16, limit: u16, env: &mut Env, left: &mut u32) -> Flow
+fn branch(source: Source, b: u16, limit: u16, env: Env, left: u32) -> Ran
     requires { Sound (found source.image) source.classes.now }
-    ensures { Runs (branch_run (found source.entry.image) limit b) env.old left.old result env.new left.new }
+    ensures { Runs (branch_run (found source.entry.image) limit b) env left result }
 {
     match branch_at(source.image, b, limit) {
         Some(block) => list(source, block, env, left),
-        None => Flow::Onward,
+        None => Ran {
+            flow: Flow::Onward,
+            env,
+            left,
+        },
     }
 }
 
 // What stands behind a branch that is skipped, below a limit.
 #[cycle(branch_list_otherwise_statement)]
-fn otherwise(source: Source, other: Option<u16>, limit: u16, env: &mut Env, left: &mut u32) -> Flow
+fn otherwise(source: Source, other: Option<u16>, limit: u16, env: Env, left: u32) -> Ran
     requires { Sound (found source.image) source.classes.now }
-    ensures { Runs (otherwise_run (found source.entry.image) limit other) env.old left.old result env.new left.new }
+    ensures { Runs (otherwise_run (found source.entry.image) limit other) env left result }
 {
     match else_at(source.image, other, limit) {
-        Some(ElseForm::Branch(s)) => unskipped(branch(source, s, limit, env, left)),
+        Some(ElseForm::Branch(s)) => {
+            let ran = branch(source, s, limit, env, left);
+            Ran {
+                flow: unskipped(ran.flow),
+                env: ran.env,
+                left: ran.left,
+            }
+        }
         Some(ElseForm::Conditional(s)) => statement(source, s, env, left),
-        None => Flow::Onward,
+        None => Ran {
+            flow: Flow::Onward,
+            env,
+            left,
+        },
     }
 }
 
 // A statement that holds statements, once its step is charged.
 #[cycle(branch_list_otherwise_statement)]
-fn statement(source: Source, s: u16, env: &mut Env, left: &mut u32) -> Flow
+fn statement(source: Source, s: u16, env: Env, left: u32) -> Ran
     requires { Sound (found source.image) source.classes.now }
-    ensures { Runs (statement_run (found source.entry.image) s) env.old left.old result env.new left.new }
+    ensures { Runs (statement_run (found source.entry.image) s) env left result }
 {
     match compound_at(source.image, s) {
         Some(CompoundForm::Conditional { branch: b, other }) => {
-            match branch(source, b, s, env, left) {
-                Flow::Skipped => otherwise(source, other, s, env, left),
-                flow => flow,
+            let ran = branch(source, b, s, env, left);
+            match ran.flow {
+                Flow::Skipped => otherwise(source, other, s, ran.env, ran.left),
+                _ => ran,
             }
         }
         Some(CompoundForm::Loop(block)) => list(source, block, env, left),
-        None => Flow::Over(Outcome::Fault(1)),
+        None => Ran {
+            flow: Flow::Over(Outcome::Fault(1)),
+            env,
+            left,
+        },
     }
 }

@@ -1,22 +1,26 @@
 // The bindings of a run.
 ghost use Rattle.std.specs.Prelude.{◌≡◌, ◌-◌, ◌<◌, ◌≤◌, ◌∷◌, [], List, ℕ, IfSome, cond, drop, length, nat_lt};
 ghost use Rattle.rl_spec.specs.Run.{find, named, update};
-ghost use Rattle.rl_spec.specs.Runner.{value_of};
+ghost use Rattle.rl_spec.specs.Runner.{value_of, value_of_words};
 ghost use Rattle.rl_names.specs.Names.{Classes};
+ghost use Rattle.rl_statements.specs.Bindings.{bound_of};
 ghost use Rattle.rl_statements.specs.Slots.{slot_in, stored, valued};
 
 use rl_bytes::get_or;
-use rl_spec::{Plain, Value};
+use rl_spec::Value;
+use rl_words::{value_of_words, value_payload, value_sort};
 use std::marker::Model;
 
-// A name and its value.
+// A name and its value, in two words: 16 bytes in place of 40, since a call copies the environment and the stack has a bound
+// (`run_limits`).
 #[derive(Clone, Copy)]
 pub struct Binding {
-    pub name: u16,
-    pub value: Value,
+    name: u16,
+    sort: u16,
+    payload: u64,
 }
 
-// At most 128 bindings, the latest last. An array and a length: a run has no heap.
+// At most 128 bindings, the latest last. An array and a length, passed by value: a rule of the project.
 #[derive(Drop)]
 pub struct Env {
     slots: [Binding; 128],
@@ -52,13 +56,32 @@ fn slot_of(classes: &[u16], slots: &[Binding; 128], len: usize, name: u16) -> Op
     None
 }
 
+impl Binding {
+    fn new(name: u16, value: Value) -> Binding
+        ensures { bound_of result ≡ named name (value_of value) }
+    {
+        Binding {
+            name,
+            sort: value_sort(value) as u16,
+            payload: value_payload(value),
+        }
+    }
+
+    fn value(self) -> Value
+        ensures { result ≡ value_of_words self.sort self.payload }
+    {
+        value_of_words(u64::from(self.sort), self.payload)
+    }
+}
+
 impl Env {
     pub fn new() -> Env
         ensures { result ≡ [] }
     {
         let blank = Binding {
             name: 0,
-            value: Value::Plain(Plain::Null),
+            sort: 0,
+            payload: 0,
         };
         Env {
             slots: [blank; 128],
@@ -80,7 +103,7 @@ impl Env {
         if self.len == 128 {
             return false;
         }
-        self.slots[self.len] = Binding { name, value };
+        self.slots[self.len] = Binding::new(name, value);
         self.len += 1;
         true
     }
@@ -90,7 +113,7 @@ impl Env {
         ensures { (bytes : ℕ → List ℕ) → Classes bytes classes.now → valued result ≡ find bytes self.now name }
     {
         let at = slot_of(classes, &self.slots, self.len, name)?;
-        Some(self.slots[at].value)
+        Some(self.slots[at].value())
     }
 
     // Gives a name that is bound a value.
@@ -100,7 +123,7 @@ impl Env {
         let Some(at) = slot_of(classes, &self.slots, self.len, name) else {
             return false;
         };
-        self.slots[at].value = value;
+        self.slots[at] = Binding::new(self.slots[at].name, value);
         true
     }
 

@@ -10,4 +10,4 @@ mod views;
 
 pub use cycle::list;
 pub use env::Env;
-pub use types::{Block, Source};
+pub use types::{Block, Ran, Source};

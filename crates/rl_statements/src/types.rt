@@ -1,4 +1,6 @@
 // What the functions of a run hand one another.
+use crate::env::Env;
+use rl_machine::Flow;
 use rl_records::ImageRef;
 use rl_spec::Interval;
 
@@ -18,6 +20,14 @@ pub struct Block {
     pub looping: bool,
     pub condition: Option<u16>,
     pub body: Interval,
+}
+
+// How a list or a statement ended, the bindings and the budget that is left.
+#[derive(Drop)]
+pub struct Ran {
+    pub flow: Flow,
+    pub env: Env,
+    pub left: u32,
 }
 
 // What stands behind a branch that is skipped, by its index.

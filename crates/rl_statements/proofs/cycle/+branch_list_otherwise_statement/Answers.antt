@@ -14,7 +14,7 @@ pub list-loop-state-preserved : goal.list-loop-state-preserved
 list-loop-state-preserved t c = turns_again _ _ _ _ _ _ _ _ _ _ c.loop-state.invariant _ c.in-Ends.is _ c.leave.ensures (sym c.turn_after.ensures ∙ c.in_default.is) _ _ c.if-left-eq0.false c.clear.ensures c.condition_first-state.ensures.means c.condition_first-state.ensures.room c.requires.low
 
 pub list-loop-state-preserved-in-Compound : goal.list-loop-state-preserved-in-Compound
-list-loop-state-preserved-in-Compound t c = stands_compound _ _ _ _ _ _ _ _ _ _ _ c.loop-state.invariant _ c.in-Compound.is _ _ _ c.statement.ensures _ c.followed-state.ensures.follows c.followed-state.ensures.room
+list-loop-state-preserved-in-Compound t c = stands_compound _ _ _ _ _ _ _ _ _ _ _ c.loop-state.invariant _ c.in-Compound.is _ c.statement-ran.ensures _ c.followed-state.ensures.follows c.followed-state.ensures.room
 
 pub list-loop-state-preserved-in-Visit : goal.list-loop-state-preserved-in-Visit
 list-loop-state-preserved-in-Visit t c = stands_on _ _ _ _ _ _ _ _ _ _ _ c.loop-state.invariant _ _ _ _ _ c.in-Visit.is (c.visited-state.ensures _ _ _)
