@@ -1,22 +1,20 @@
 -- Where a list stands: with each step its machine comes to the same. Assumes nothing.
-use Prim.Native.Nat.{ℕ, ◌+◌, ◌-◌, ◌*◌, ◌<◌, ◌≤◌}
-use mathlib.Core.Path.{◌≡◌, refl, ap, ◌∙◌, sym, subst}
-use mathlib.Core.Bool.{Bool, true, false}
+use Prim.Native.Nat.{ℕ, ◌-◌, ◌<◌}
+use mathlib.Core.Path.{◌≡◌, ap, ◌∙◌, sym, subst}
 use mathlib.Core.List.{List}
 use native.Mathlib.Omega.{arith}
-use lib.ListN.{length, drop}
+use lib.ListN.{length}
 use Rattle.rl_spec.specs.Image.{Image}
-use Rattle.rl_spec.specs.Run.{Env, Result, got, and_then}
+use Rattle.rl_spec.specs.Run.{Env, Result, and_then}
 use Rattle.rl_machine.specs.declared.types.Flow.{Flow}
-use Rattle.rl_machine.specs.declared.types.Flow.TheVariants.{Skipped}
 use Rattle.rl_machine.specs.declared.types.Frame.{Frame}
 use Rattle.rl_machine.specs.declared.types.State.{State}
-use Rattle.rl_machine.specs.declared.types.State.TheVariants.{Next, Tested, Compound, Ends}
-use Rattle.rl_machine.specs.Machine.{after, Room, Low, Follows, weight}
+use Rattle.rl_machine.specs.declared.types.State.TheVariants.{Compound}
+use Rattle.rl_machine.specs.Machine.{after, Room, Follows}
 use Rattle.rl_statements.specs.declared.types.Block.{Block}
 use Rattle.rl_statements.specs.declared.types.Ran.{Ran}
 use Rattle.rl_statements.specs.Lists.{block_left, statement_run, Runs}
-use Rattle.rl_statements.specs.Steps.{resume, fuel, Goes, Starts, Stands}
+use Rattle.rl_statements.specs.Steps.{resume, fuel, Goes, Stands}
 
 all_less : (n : ℕ) → n - n ≡ 0
 all_less n = omega arith
@@ -43,36 +41,6 @@ module _ (im : Image) (follow : Result ℕ Flow → Result ℕ Flow) (whole : Re
       → fuel left' (length fs') st' < fuel left (length fs) st
   goes_lower x st' fs' env' left' e g = subst (λ y. fuel left' (length fs') st' < fuel left (length fs) y) (sym e) g.falls
 
-  pub stands_next : (st' : State) (done' : ℕ) (fs' : List Frame) (left' : ℕ) → st ≡ Next → Low im → Starts im block done fs left st' done' fs' left' → At env left' base done' fs' st'
-  stands_next st' done' fs' left' e low g =
-      record {
-        means = ap follow (g.means base env) ∙ (as_in Next e).means;
-        room = (g.room low h.frames).0;
-        frames = (g.room low h.frames).1;
-        less = omega (arith, g.less, h.less);
-      }
-
-  pub next_lower : (st' : State) (done' : ℕ) (fs' : List Frame) (left' : ℕ) → st ≡ Next → Starts im block done fs left st' done' fs' left'
-      → fuel left' (length fs') st' < fuel left (length fs) st
-  next_lower st' done' fs' left' e g = subst (λ y. fuel left' (length fs') st' < fuel left (length fs) y) (sym e) g.falls
-
-  module _ (b : Bool) (e : st ≡ Tested b) (base' : ℕ) (d : base' ≡ length env) where
-    pub stands_tested : b ≡ true → At env left base' done fs Next
-    stands_tested t = rw d record { means = (as_in (Tested true) (e ∙ ap Tested t)).means; room = tt; frames = h.frames; less = h.less }
-
-    pub stands_skipped : b ≡ false → At env left base' done fs (Ends Skipped)
-    stands_skipped t =
-        rw d
-        record {
-          means = ap follow (ap (λ n. got Skipped (drop n env) left) (all_less (length env))) ∙ (as_in (Tested false) (e ∙ ap Tested t)).means;
-          room = tt;
-          frames = h.frames;
-          less = h.less;
-        }
-
-  pub tested_lower : (b : Bool) (st' : State) → st ≡ Tested b → weight st' < 2 → fuel left (length fs) st' < fuel left (length fs) st
-  tested_lower b st' e l = omega (arith, l, ap weight e)
-
   module _ (s : ℕ) (e : st ≡ Compound s) (r : Ran) (q : Runs (statement_run im s) env left r) (st' : State) where
     pub stands_compound : ((im : Image) → Follows im r.flow st') → ((im : Image) (bound t : ℕ) → Room im bound t st') → At r.env r.left base done fs st'
     stands_compound g m =
@@ -83,10 +51,3 @@ module _ (im : Image) (follow : Result ℕ Flow → Result ℕ Flow) (whole : Re
           frames = h.frames;
           less = omega (arith, q.less, h.less);
         }
-
-    pub compound_lower : weight st' ≤ 1 → fuel r.left (length fs) st' < fuel left (length fs) st
-    compound_lower l = omega (arith, l, q.less, ap weight e)
-
-  -- a statement that holds statements is below the bound
-  pub compound_below : (s : ℕ) → st ≡ Compound s → s < block.bound
-  compound_below s e = (as_in (Compound s) e).room

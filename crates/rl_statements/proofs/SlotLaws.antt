@@ -11,7 +11,6 @@ use lib.Seq.{get_or-set_other}
 use Rattle.std.specs.Prelude.{None, Some}
 use Rattle.rl_spec.specs.Answers.{Optional}
 use Rattle.rl_spec.specs.declared.Value.{Value}
-use Rattle.rl_spec.specs.Values.{same_text}
 use Rattle.rl_spec.specs.Run as run
 use Rattle.rl_spec.specs.Run.{find, update, behind}
 use Rattle.rl_spec.specs.Runner.{value_of, value_of_words}
@@ -19,7 +18,7 @@ use Rattle.rl_names.specs.Names.{Classes}
 use Rattle.rl_statements.specs.declared.env.Binding.{Binding}
 use Rattle.rl_statements.specs.Latest.{latest}
 use Rattle.rl_statements.specs.Bindings.{blank, bound_of}
-use Rattle.rl_statements.specs.Slots.{slot_in, valued, stored}
+use Rattle.rl_statements.specs.Slots.{slot_in, valued}
 use Rattle.rl_statements.proofs.LatestLaws.{latest_pushed}
 
 abbrev slots : List Binding → ℕ → run.Env ℕ

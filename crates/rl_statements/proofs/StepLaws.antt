@@ -3,22 +3,18 @@ use Prim.Native.Nat.{ℕ, suc, ◌+◌, ◌-◌, ◌<◌, ◌≤◌}
 use mathlib.Core.Path.{◌≡◌, refl, ap, ◌∙◌, sym, subst}
 use mathlib.Core.Bool.{Bool, true, false, cond, ◌&&◌}
 use mathlib.Core.List.{List, [], ◌∷◌}
-use mathlib.Core.Option.{Option, none, some}
 use native.Mathlib.Omega.{arith}
 use lib.Dec.{eqb, ltb}
 use lib.ListN.{length, drop}
-use borrow.Author.Tests.{ltb-true, ltb-false, le-ltb}
 use Rattle.std.specs.Prelude as std
 use Rattle.std.specs.Prelude.{None, Some}
-use Rattle.rl_spec.specs.declared.Outcome.TheVariants.{Fault, Spent}
+use Rattle.rl_spec.specs.declared.Outcome.TheVariants.{Spent}
 use Rattle.rl_spec.specs.declared.Value.{Value}
 use Rattle.rl_spec.specs.Image.{Image, entry_of, text_of}
 use Rattle.rl_spec.specs.Statement.{Body, ◌▸◌, as_statement}
-use Rattle.rl_spec.specs.Run as run
-use Rattle.rl_spec.specs.Run.{Env, Run, got, ended, and_then, leaving, or_fault, find, update, eval}
+use Rattle.rl_spec.specs.Run.{Env, and_then, leaving, eval}
 use Rattle.rl_spec.specs.Runner.{value_of}
 use Rattle.rl_spec.specs.Reading.{body}
-use Rattle.rl_machine.specs.declared.types.Flow.{Flow}
 use Rattle.rl_machine.specs.declared.types.Flow.TheVariants.{Onward, Over}
 use Rattle.rl_machine.specs.declared.types.Frame.{Frame}
 use Rattle.rl_machine.specs.declared.types.State.{State}
@@ -26,9 +22,8 @@ use Rattle.rl_machine.specs.declared.types.State.TheVariants.{Next, Tested, Comp
 use Rattle.rl_machine.specs.Machine.{body_run, by_frame, FrameRoom, tree_under, item_under, last_as, Room, Low, Enters, EntersRoom, Resumes, ResumesRoom, Begins, weight}
 use Rattle.rl_statements.specs.declared.types.Block.{Block}
 use Rattle.rl_statements.specs.Frames.{newest}
-use Rattle.rl_statements.specs.Slots.{valued, stored}
 use Rattle.rl_statements.specs.Lists.{block_left}
-use Rattle.rl_statements.specs.Steps.{resume, comes_to, Goes, Starts}
+use Rattle.rl_statements.specs.Steps.{resume, Goes, Starts}
 use Rattle.rl_statements.proofs.Rests.{eval_spent, first_spent, first_begun, none_left, some_left}
 
 pub weight_most : (st : State) → weight st ≤ 6
@@ -82,28 +77,9 @@ module _ (im : Image) (bound : ℕ) (fs : List Frame) (env : Env ℕ) (left : �
           less = (q bound (f ∷ fs) env).less;
         }
 
-    pub push_full : b ≡ false → r ≡ Ends (Over (Fault 1)) → Goes im bound (Push f n limit) fs env left r fs' env left
-    push_full h d =
-        rw (g, h, d)
-        record {
-          means = λ k base rest. absurd (omega (arith, k.0, ltb-false (length fs) 69 (sym e ∙ h)));
-          room = λ k l. (tt, l);
-          falls = omega arith;
-          less = omega arith;
-        }
-
 -- ---- a value for the newest frame
 
 module _ (im : Image) (bound : ℕ) (env : Env ℕ) (left : ℕ) (v : Value) (r : State) where
-  pub give_none : (fs fs' : List Frame) (p : std.Option Frame) → p ≡ newest fs → fs' ≡ drop 1 fs → p ≡ None → r ≡ Ends (Over (Fault 1))
-      → Goes im bound (Give v) fs env left r fs' env left
-  give_none [] fs' p e g h d = rw (g, d) record { means = λ k base rest. refl; room = λ k l. (tt, tt); falls = omega arith; less = omega arith }
-  give_none (f ∷ fs) fs' p e g h d = absurd (subst Empty (sym e ∙ h) tt)
-    where
-      Empty : std.Option Frame → Type 0
-      Empty None = ⊥
-      Empty (Some x) = Unit {0}
-
   pub give_frame : (fs fs' : List Frame) (p : std.Option Frame) → p ≡ newest fs → fs' ≡ drop 1 fs → (f : Frame) → p ≡ Some f → Resumes im f (value_of v) r → ResumesRoom im f r
       → Goes im bound (Give v) fs env left r fs' env left
   give_frame [] fs' p e g f h m q = absurd (subst Full (sym e ∙ h) tt)
@@ -126,69 +102,6 @@ module _ (im : Image) (bound : ℕ) (env : Env ℕ) (left : ℕ) (v : Value) (r 
 
       same : x ≡ f
       same = ap or_x (sym e ∙ h)
-
--- ---- names
-
-module _ (im : Image) (bound : ℕ) (fs : List Frame) (left x : ℕ) (r : State) (env : Env ℕ) where
-  pub look_found : (p : std.Option Value) (v : Value) → valued p ≡ find (text_of im) env x → p ≡ Some v → Goes im bound (Look x) fs env left (Give v) fs env left
-  look_found p v e h =
-      record {
-        means = λ k base rest. ap (λ o. and_then (or_fault 3 o env left) (resume im base rest fs)) (sym (ap valued h) ∙ e);
-        room = λ k l. (tt, l);
-        falls = omega arith;
-        less = omega arith;
-      }
-
-  pub look_missing : (p : std.Option Value) → valued p ≡ find (text_of im) env x → p ≡ None → r ≡ Ends (Over (Fault 3)) → Goes im bound (Look x) fs env left r fs env left
-  look_missing p e h d =
-      rw d
-      record {
-        means = λ k base rest. ap (λ o. and_then (or_fault 3 o env left) (resume im base rest fs)) (sym (ap valued h) ∙ e);
-        room = λ k l. (tt, l);
-        falls = omega arith;
-        less = omega arith;
-      }
-
-  module _ (v : Value) (b : Bool) (env' : Env ℕ) where
-    pub store_done : update (text_of im) env x (value_of v) ≡ stored b env' → b ≡ true → Goes im bound (Store x v) fs env left (Give v) fs env' left
-    store_done e h =
-        record {
-          means = λ k base rest. ap (λ o. and_then (and_then (or_fault 3 o env left) (λ env' _ n'. got tt env' n')) (λ _. resume im base rest fs (value_of v))) (sym (e ∙ ap (λ c. stored c env') h));
-          room = λ k l. (tt, l);
-          falls = omega arith;
-          less = omega arith;
-        }
-
-    pub store_missing : update (text_of im) env x (value_of v) ≡ stored b env' → b ≡ false → r ≡ Ends (Over (Fault 3)) → Goes im bound (Store x v) fs env left r fs env' left
-    store_missing e h d =
-        rw d
-        record {
-          means = λ k base rest. ap (λ o. and_then (and_then (or_fault 3 o env left) (λ env' _ n'. got tt env' n')) (λ _. resume im base rest fs (value_of v))) (sym (e ∙ ap (λ c. stored c env') h));
-          room = λ k l. (tt, l);
-          falls = omega arith;
-          less = omega arith;
-        }
-
-    module _ (e : b ≡ ltb (length env) 128) (g : env' ≡ cond b (run.named x (value_of v) ∷ env) env) where
-      pub bind_done : b ≡ true → Goes im bound (Bind x v) fs env left Next fs env' left
-      bind_done h =
-          rw (g, h)
-          record {
-            means = λ k base rest. sym (rw (sym e ∙ h) refl);
-            room = λ k l. (tt, l);
-            falls = omega arith;
-            less = omega arith;
-          }
-
-      pub bind_full : b ≡ false → r ≡ Ends (Over (Fault 5)) → Goes im bound (Bind x v) fs env left r fs env' left
-      bind_full h d =
-          rw (d, g, h)
-          record {
-            means = λ k base rest. sym (rw (sym e ∙ h) refl);
-            room = λ k l. (tt, l);
-            falls = omega arith;
-            less = omega arith;
-          }
 
 -- ---- statements
 

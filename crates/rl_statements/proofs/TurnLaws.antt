@@ -1,5 +1,5 @@
 -- A list's end: another turn of its loop, or the end of the run of the list. Assumes nothing.
-use Prim.Native.Nat.{ℕ, suc, ◌+◌, ◌-◌, ◌*◌, ◌<◌}
+use Prim.Native.Nat.{ℕ, suc, ◌-◌}
 use mathlib.Core.Path.{◌≡◌, refl, ap, ◌∙◌, sym, subst}
 use mathlib.Core.Bool.{Bool, true, false}
 use mathlib.Core.List.{List, []}
@@ -20,14 +20,13 @@ use Rattle.rl_machine.specs.declared.types.Flow.{Flow}
 use Rattle.rl_machine.specs.declared.types.Flow.TheVariants.{Onward, Breaks, Continues, Skipped, Over}
 use Rattle.rl_machine.specs.declared.types.State.{State}
 use Rattle.rl_machine.specs.declared.types.State.TheVariants.{Ends}
-use Rattle.rl_machine.specs.Machine.{result_of, flows, guarded, tested, weight, Room, Low, Means}
+use Rattle.rl_machine.specs.Machine.{result_of, flows, guarded, tested, Room, Low, Means}
 use Rattle.std.specs.Prelude as std
 use Rattle.std.specs.Prelude.{None, Some}
 use Rattle.rl_machine.specs.declared.types.Frame.{Frame}
 use Rattle.rl_statements.specs.declared.types.Block.{Block}
 use Rattle.rl_statements.specs.Lists.{block_left, block_run, turn_of, by_turn, loop_rest, turned, turn_after, BeginsList, Runs}
-use Rattle.rl_statements.specs.Steps.{resume, fuel, Stands}
-use Rattle.rl_statements.proofs.StepLaws.{weight_most}
+use Rattle.rl_statements.specs.Steps.{resume, Stands}
 
 -- ---- a turn
 
@@ -104,10 +103,6 @@ all_less n = omega arith
 pub loop_first : (condition : Optional) → BeginsList true condition (Ends Onward)
 loop_first condition im rest k env n = ap (λ m. turned im true (optional_tree im condition) rest (got Onward (drop m env) n)) (all_less (length env))
 
-pub list_first : (condition : Optional) (st : State)
-    → ((im : Image) → Means im st (λ base rest k. guarded im (optional_tree im condition) rest)) → BeginsList false condition st
-list_first condition st m im rest k env n = m im (length env) rest k env n
-
 -- ---- the end of a list
 
 one_more : (n : ℕ) → (n ≡ 0 → ⊥) → suc (n - 1) ≡ n
@@ -156,9 +151,6 @@ module _ (im : Image) (block : Block) (budget : ℕ) (env₀ : run.Env ℕ) wher
     whole_closed : turned im block.looping c b (result_of f env' left) ≡ block_run im block env₀ budget
     whole_closed = ap (λ e. turned im block.looping c b (result_of f e left)) k ∙ ap (turned im block.looping c b) (closed env base left f) ∙ h.means
 
-    pub list_finished : (t : std.Option Flow) (g : Flow) → t ≡ turn_after block.looping f → t ≡ Some g → Runs (block_run im block) env₀ budget (record { flow = g; env = env'; left = left })
-    list_finished t g d e = record { does = finished im c b env' left block.looping f g (sym d ∙ e) ∙ whole_closed; less = h.less }
-
     module _ (t : turn_after block.looping f ≡ None) where
       pub turns_spent : left ≡ 0 → Runs (block_run im block) env₀ budget (record { flow = Over Spent; env = env'; left = left })
       turns_spent z =
@@ -187,6 +179,3 @@ module _ (im : Image) (block : Block) (budget : ℕ) (env₀ : run.Env ℕ) wher
             frames = tt;
             less = omega (arith, h.less);
           }
-
-pub again_lower : (left top : ℕ) (st st' : State) → (left ≡ 0 → ⊥) → fuel (left - 1) 0 st' < fuel left top st
-again_lower left top st st' p = omega (arith, p, weight_most st')

@@ -10,7 +10,6 @@ use Rattle.rl_spec.specs.declared.Counts.{Counts}
 use Rattle.rl_spec.specs.declared.Interval.{Interval}
 use Rattle.rl_spec.specs.Answers.{Optional}
 use Rattle.std.specs.Prelude.{Option as Maybe, None, Some}
-use Rattle.rl_spec.specs.declared.Outcome.{Outcome}
 use Rattle.rl_spec.specs.declared.StatementForm.{StatementForm}
 use Rattle.rl_spec.specs.declared.StatementForm.TheVariants as form
 use Rattle.rl_spec.specs.Image.{Image, text_of}
@@ -206,4 +205,3 @@ module _ (b p : List ℕ) (c : Counts) where
 
   pub compound_view : (s : ℕ) (x : StatementForm) (r : Maybe CompoundForm) → x ≡ statement_of here s → r ≡ compound_of x s → CompoundIs here s r
   compound_view s x r e f = subst (CompoundIs here s) (sym f) (compound_is here s x (sym e))
-

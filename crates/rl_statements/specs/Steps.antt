@@ -8,7 +8,7 @@ use Rattle.rl_machine.specs.declared.types.Flow.{Flow}
 use Rattle.rl_machine.specs.declared.types.Frame.{Frame}
 use Rattle.rl_machine.specs.declared.types.State.{State}
 use Rattle.rl_machine.specs.declared.types.State.TheVariants.{Next}
-use Rattle.rl_machine.specs.Machine.{body_run, by_frame, meaning, FrameRoom, Room, Low, weight}
+use Rattle.rl_machine.specs.Machine.{by_frame, meaning, FrameRoom, Room, Low, weight}
 use Rattle.rl_statements.specs.declared.types.Block.{Block}
 use Rattle.rl_statements.specs.Lists.{block_left}
 

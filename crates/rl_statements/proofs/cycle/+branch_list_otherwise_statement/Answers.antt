@@ -1,7 +1,6 @@
 use mathlib.Core.Path.{sym, ◌∙◌}
 use Rattle.rl_statements.proofs.ListLaws.{stands_on, goes_lower, stands_compound}
 use Rattle.rl_statements.proofs.TurnLaws.{list_begins, turns_spent, turns_again}
-use Rattle.std.proofs.Common.{rules}
 use Rattle.rl_statements.proofs.cycle.+branch_list_otherwise_statement.Goals as goal
 
 pub list-loop-state-init : goal.list-loop-state-init

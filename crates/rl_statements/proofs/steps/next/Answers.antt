@@ -16,7 +16,7 @@ pub returns : goal.returns
 returns c =
     start_next (found c.args.image) c.args.block c.args.done.now _ _ c.if-block.begun _ _ _ (omega (arith, c.from-count.ensures, c.if-count-done.false)) c.if-left-eq0.false
     (elim c.if-block.branch [
-      then-block w ↦ is_last _ _ _ _ _ w.if-block.true w.begun-is c.from-count.ensures
-    | else-block w ↦ not_last _ _ _ 0 _ w.if-block.false w.begun-is
+      | then-block w ↦ is_last _ _ _ _ _ w.if-block.true w.begun-is c.from-count.ensures
+      | else-block w ↦ not_last _ _ _ 0 _ w.if-block.false w.begun-is
     ])
     (c.entry-s.ensures c.args.image.starts.now ∙ ap (λ k. entry_of (found c.args.image) (k + c.args.done.now)) c.from.ensures) c.clear.ensures c.begun.ensures.begins c.begun.ensures.room
