@@ -1,6 +1,6 @@
 #![tactic(auto)]
 
-ghost use Rattle.std.specs.Prelude.{◌≡◌, cond, [], ◌∷◌, ◌+◌, ◌<◌, max, length, drop};
+ghost use Rattle.std.specs.Prelude.{◌≡◌, cond, [], ◌∷◌, ◌+◌, ◌<◌, length, drop};
 ghost use Rattle.rl_text.specs.Highest.{highest_of};
 ghost use Rattle.rl_spec.specs.Utf8.{◌to◌, utf8_tail, begins, char_width, utf8, is_scalar};
 
