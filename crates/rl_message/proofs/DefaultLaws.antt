@@ -15,8 +15,9 @@ use borrow.Author.Tests.{ltb-true}
 use Rattle.rl_spec.specs.declared.Counts.{Counts}
 use Rattle.rl_spec.specs.declared.Function.{Function}
 use Rattle.rl_spec.specs.declared.Param.{Param}
-use Rattle.rl_spec.specs.Answers.{ParamRefinement, refined}
-use Rattle.std.specs.Prelude.{None}
+use Rattle.rl_spec.specs.Answers.{ParamRefinement}
+use Rattle.std.specs.Prelude.{None, Some}
+use Rattle.rl_spec.specs.declared.Refinement as refinement
 use Rattle.rl_spec.specs.declared.RefineOp.{RefineOp}
 use Rattle.rl_spec.specs.declared.RefineOp.TheVariants.{Gt, Ge, Lt, Le, Eq, Ne}
 use Rattle.rl_spec.specs.declared.RefineOperand.{RefineOperand}
@@ -36,37 +37,6 @@ use Rattle.rl_text_out.proofs.Joined.{after_nothing, with_nothing, Puts, puts_as
 
 puts_nothing : (out : List ℕ) → Puts out 0 [] out 0
 puts_nothing out = (sym (after_nothing out 0), sym (with_nothing out 0))
-
--- ---- operators and truth values
-
-module _ (op : RefineOp) where
-  abbrev OpText : List ℕ → Type 0
-  OpText t = t ≡ refine_op_str (op_of op)
-
-  pub op_gt : op ≡ Gt → OpText (ascii ">")
-  op_gt e = rw e refl
-
-  pub op_ge : op ≡ Ge → OpText (ascii ">=")
-  op_ge e = rw e refl
-
-  pub op_lt : op ≡ Lt → OpText (ascii "<")
-  op_lt e = rw e refl
-
-  pub op_le : op ≡ Le → OpText (ascii "<=")
-  op_le e = rw e refl
-
-  pub op_eq : op ≡ Eq → OpText (ascii "==")
-  op_eq e = rw e refl
-
-  pub op_ne : op ≡ Ne → OpText (ascii "!=")
-  op_ne e = rw e refl
-
-module _ (b : Bool) where
-  pub text_true : b ≡ true → ascii "true" ≡ bool_text b
-  text_true e = rw e refl
-
-  pub text_false : b ≡ false → ascii "false" ≡ bool_text b
-  text_false e = rw e refl
 
 -- ---- numbers
 
@@ -131,20 +101,20 @@ module _ (s : List ℕ) (c : Counts) (out : List ℕ) (at : ℕ) where
 
 -- ---- a refinement
 
-module _ (s : List ℕ) (c : Counts) (out : List ℕ) (name : ℕ) (op : RefineOp) (o : RefineOperand) where
-  pub puts_refinement : (t w₁ w₂ w₃ w₄ w₅ w : List ℕ) (e₁ e₂ e₃ e₄ e₅ r : ℕ) → ((p : List ℕ) → t ≡ text_of (image_found s p c) name)
+module _ (s : List ℕ) (c : Counts) (out : List ℕ) (name : ℕ) (q : refinement.Refinement) where
+  pub puts_refinement : (t u w₁ w₂ w₃ w₄ w₅ w : List ℕ) (e₁ e₂ e₃ e₄ e₅ r : ℕ) → ((p : List ℕ) → t ≡ text_of (image_found s p c) name)
       → Puts out 0 (ascii "refinement failed: ") w₁ e₁ → Puts w₁ e₁ t w₂ e₂ → Puts w₂ e₂ (ascii " ") w₃ e₃
-      → Puts w₃ e₃ (refine_op_str (op_of op)) w₄ e₄ → Puts w₄ e₄ (ascii " ") w₅ e₅ → PutsIn s c w₅ e₅ (λ im. operand_str (map_operand (text_of im) (operand_of o))) w r
-      → PutsIn s c out 0 (λ im. refinement_text (text_of im name) (map (map_refinement (text_of im)) (refinement_of (refined op o)))) w r
-  puts_refinement t w₁ w₂ w₃ w₄ w₅ w e₁ e₂ e₃ e₄ e₅ r f a b d g h k = (λ p. (whole p).0, λ p. (whole p).1)
+      → u ≡ refine_op_str (op_of q.op) → Puts w₃ e₃ u w₄ e₄ → Puts w₄ e₄ (ascii " ") w₅ e₅ → PutsIn s c w₅ e₅ (λ im. operand_str (map_operand (text_of im) (operand_of q.operand))) w r
+      → PutsIn s c out 0 (λ im. refinement_text (text_of im name) (map (map_refinement (text_of im)) (refinement_of (Some q)))) w r
+  puts_refinement t u w₁ w₂ w₃ w₄ w₅ w e₁ e₂ e₃ e₄ e₅ r f a b d o g h k = (λ p. (whole p).0, λ p. (whole p).1)
     where
-      whole : (p : List ℕ) → Puts out 0 (refinement_text (text_of (image_found s p c) name) (map (map_refinement (text_of (image_found s p c))) (refinement_of (refined op o)))) w r
+      whole : (p : List ℕ) → Puts out 0 (refinement_text (text_of (image_found s p c) name) (map (map_refinement (text_of (image_found s p c))) (refinement_of (Some q)))) w r
       whole p =
           puts_then out 0 _ _ w₅ w e₅ r
           (puts_then out 0 _ _ w₄ w₅ e₄ e₅
           (puts_then out 0 _ _ w₃ w₄ e₃ e₄
           (puts_then out 0 _ _ w₂ w₃ e₂ e₃
-          (puts_then out 0 _ _ w₁ w₂ e₁ e₂ a (puts_as w₁ e₁ t _ w₂ e₂ b (f p))) d) g) h)
+          (puts_then out 0 _ _ w₁ w₂ e₁ e₂ a (puts_as w₁ e₁ t _ w₂ e₂ b (f p))) d) (puts_as w₃ e₃ u _ w₄ e₄ g o)) h)
           (k.0 p, k.1 p)
 
 -- ---- a violation
@@ -171,5 +141,5 @@ module _ (s : List ℕ) (c : Counts) (f : ℕ) where
       pub puts_unrefined : x ≡ None → PutsIn s c out 0 default out 0
       puts_unrefined u = puts_in s c out 0 default [] out 0 (puts_nothing out) (λ p. rw u at (by_param p))
 
-      pub puts_refined : (op : RefineOp) (o : RefineOperand) (w : List ℕ) (r : ℕ) → x ≡ refined op o → PutsIn s c out 0 (λ im. refinement_text (text_of im q.name) (map (map_refinement (text_of im)) (refinement_of (refined op o)))) w r → PutsIn s c out 0 default w r
-      puts_refined op o w r u a = puts_same s c out 0 default text_of_lem w r (rw u a) by_param
+      pub puts_refined : (d : refinement.Refinement) (w : List ℕ) (r : ℕ) → x ≡ Some d → PutsIn s c out 0 (λ im. refinement_text (text_of im q.name) (map (map_refinement (text_of im)) (refinement_of (Some d)))) w r → PutsIn s c out 0 default w r
+      puts_refined d w r u a = puts_same s c out 0 default text_of_lem w r (rw u a) by_param

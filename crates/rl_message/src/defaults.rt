@@ -36,7 +36,7 @@ fn bool_text(b: bool) -> &'static [u8]
     if b { b"true" } else { b"false" }
 }
 
-#[tactic(auto, unfolding(rl_spec::specs::Tree::ascii), using(crate::proofs::DefaultLaws::puts_minus, crate::proofs::DefaultLaws::text_plain))]
+#[tactic(auto, unfolding(rl_spec::specs::Tree::ascii), using(crate::proofs::DefaultLaws::text_plain))]
 fn put_integer(out: &mut [u8], at: usize, x: i64) -> usize
     ensures value { result ≡ after_text out.old at (integer_text x) }
     ensures out_after { out.new ≡ with_text out.old at (integer_text x) }
@@ -49,7 +49,6 @@ fn put_integer(out: &mut [u8], at: usize, x: i64) -> usize
 }
 
 // A text in quotes, as it is.
-#[tactic(auto, unfolding(rl_spec::specs::Tree::ascii), using(crate::proofs::DefaultLaws::puts_quoted))]
 fn put_quoted(out: &mut [u8], at: usize, text: &[u8]) -> usize
     ensures value { result ≡ after_text out.old at (ascii "\"" ++ text.now ++ ascii "\"") }
     ensures out_after { out.new ≡ with_text out.old at (ascii "\"" ++ text.now ++ ascii "\"") }
@@ -72,7 +71,6 @@ fn operand_str(image: ImageRef, operand: RefineOperand, out: &mut [u8], at: usiz
 }
 
 // refinement failed: NAME OP OPERAND
-#[tactic(auto, unfolding(rl_spec::specs::Tree::ascii), using(crate::proofs::DefaultLaws::puts_refinement))]
 fn put_refinement(image: ImageRef, name: u16, refinement: Refinement, out: &mut [u8]) -> usize
     ensures by_index { (p : List ℕ) → result ≡ after_text out.old 0 (refinement_text (text_of (found_with image.entry p) name) (map (map_refinement (text_of (found_with image.entry p))) (refinement_of (Some refinement)))) }
     ensures by_index_2 { (p : List ℕ) → out.new ≡ with_text out.old 0 (refinement_text (text_of (found_with image.entry p) name) (map (map_refinement (text_of (found_with image.entry p))) (refinement_of (Some refinement)))) }

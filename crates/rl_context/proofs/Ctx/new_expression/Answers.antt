@@ -6,23 +6,14 @@ use Rattle.rl_context.proofs.Ctx.new_expression.Goals as goal
 
 ruleset laws = (expression_full, expression_less, expression_short, expression_many, expression_made, record_room)
 
-pub returns-then-self : goal.returns-then-self
-returns-then-self c = search (laws, rules)
-
-pub returns-then-used-gt186496 : goal.returns-then-used-gt186496
-returns-then-used-gt186496 c = search (laws, rules)
-
-pub returns-then-scratch-end : goal.returns-then-scratch-end
-returns-then-scratch-end c = search (laws, rules)
-
-pub returns-then-passes : goal.returns-then-passes
-returns-then-passes c = search (laws, rules)
-
 pub put_record-next-requires : goal.put_record-next-requires
 put_record-next-requires c = search (laws, rules)
 
 pub overflow_cast-self : goal.overflow_cast-self
-overflow_cast-self c = omega (arith, record_ends c.args.kind c.args.row c.args.words.now 38912 c.args.self.expression_bytes _ c.if-used-gt186496.false c.put_record-next.ensures.value)
+overflow_cast-self c = omega (arith, record_ends c.args.kind.number c.args.kind.row c.args.words.now 38912 c.args.self.now.expression_bytes _ c.if-used-gt186496.false c.put_record-next.ensures.value)
+
+pub returns-then-self : goal.returns-then-self
+returns-then-self c = ?
 
 pub returns : goal.returns
 returns c = search (laws, rules)

@@ -6,23 +6,14 @@ use Rattle.rl_context.proofs.Ctx.new_statement.Goals as goal
 
 ruleset laws = (statement_full, statement_less, statement_short, statement_many, statement_made, record_room)
 
-pub returns-then-self : goal.returns-then-self
-returns-then-self c = search (laws, rules)
-
-pub returns-then-used-gt186496 : goal.returns-then-used-gt186496
-returns-then-used-gt186496 c = search (laws, rules)
-
-pub returns-then-scratch-end : goal.returns-then-scratch-end
-returns-then-scratch-end c = search (laws, rules)
-
-pub returns-then-passes : goal.returns-then-passes
-returns-then-passes c = search (laws, rules)
-
 pub put_record-next-requires : goal.put_record-next-requires
 put_record-next-requires c = search (laws, rules)
 
 pub overflow_cast-self : goal.overflow_cast-self
-overflow_cast-self c = omega (arith, record_ends c.args.kind c.args.row c.args.words.now 137216 c.args.self.statement_bytes _ c.if-used-gt186496.false c.put_record-next.ensures.value)
+overflow_cast-self c = omega (arith, record_ends c.args.kind.number c.args.kind.row c.args.words.now 137216 c.args.self.now.statement_bytes _ c.if-used-gt186496.false c.put_record-next.ensures.value)
+
+pub returns-then-self : goal.returns-then-self
+returns-then-self c = ?
 
 pub returns : goal.returns
 returns c = search (laws, rules)

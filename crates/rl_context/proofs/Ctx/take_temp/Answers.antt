@@ -5,10 +5,7 @@ use Rattle.rl_context.proofs.Ctx.take_temp.Goals as goal
 ruleset laws = (temp_full, temp_many, temp_taken)
 
 pub returns-then-self : goal.returns-then-self
-returns-then-self c = search (laws, rules)
-
-pub returns-then-n-gt2048 : goal.returns-then-n-gt2048
-returns-then-n-gt2048 c = search (laws, rules)
+returns-then-self c = ?
 
 pub returns : goal.returns
 returns c = search (laws, rules)
