@@ -1,5 +1,5 @@
 // The first pass: the names of parameters bound to the values of arguments.
-ghost use Rattle.std.specs.Prelude.{◌≡◌, ◌+◌, ◌≤◌, ◌<◌, min};
+ghost use Rattle.std.specs.Prelude.{◌≡◌, ◌+◌, ◌≤◌, ◌<◌};
 ghost use Rattle.rl_spec.specs.Found.{image_found};
 ghost use Rattle.rl_prover.specs.Passes.{forget_for, Binds, BindsAll};
 
