@@ -8,7 +8,7 @@ ruleset laws = (list_full, list_order, list_short, list_waiting, list_many, list
 pub returns-then-self : goal.returns-then-self
 returns-then-self c =
     elim c.then-self.branch [
-      then-self-via-then-self b ↦ list_full _ _ _ _ _ _ refl b.if-self.true
+      | then-self-via-then-self b ↦ list_full _ _ _ _ _ _ refl b.if-self.true
       | then-self-via-else-self+then-end-first b ↦ list_order _ _ _ _ _ _ refl b.if-end-first.true
       | then-self-via-else-self+else-end-first+then-scratch-lt186496 b ↦ list_short _ _ _ _ _ _ refl b.if-scratch-lt186496.true
       | then-self-via-else-self+else-end-first+else-scratch-lt186496+then-waiting-end b ↦ list_waiting _ _ _ _ _ _ refl b.if-waiting-end.true

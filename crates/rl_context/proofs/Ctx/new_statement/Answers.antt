@@ -16,7 +16,7 @@ overflow_cast-self c = omega (arith, record_ends c.args.kind.number c.args.kind.
 pub returns-then-self : goal.returns-then-self
 returns-then-self c im k w e =
     elim c.then-self.branch [
-      then-self-via-then-self b ↦ statement_full _ _ _ _ _ _ _ _ refl _ b.if-self.true
+      | then-self-via-then-self b ↦ statement_full _ _ _ _ _ _ _ _ refl _ b.if-self.true
       | then-self-via-else-self+then-used-gt186496 b ↦ statement_less _ _ _ _ _ _ _ _ refl _ b.if-used-gt186496.true
       | then-self-via-else-self+else-used-gt186496+then-scratch-used b ↦ statement_short _ _ _ _ _ _ _ _ refl _ b.if-scratch-used.true
       | then-self-via-else-self+else-used-gt186496+else-scratch-used+then-passes b ↦ statement_many _ _ _ _ _ _ _ _ refl _ _ b.passes.ensures b.if-passes.true

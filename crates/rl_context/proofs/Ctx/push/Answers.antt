@@ -8,7 +8,7 @@ ruleset laws = (push_full, push_many, push_made)
 pub returns-then-self : goal.returns-then-self
 returns-then-self c s =
     elim c.then-self.branch [
-      then-self-via-then-self b ↦ push_full _ _ _ _ _ refl b.if-self.true
+      | then-self-via-then-self b ↦ push_full _ _ _ _ _ refl b.if-self.true
       | then-self-via-else-self+then-end-ge4096 b ↦ push_many _ _ _ _ _ refl b.if-end-ge4096.true
     ]
 

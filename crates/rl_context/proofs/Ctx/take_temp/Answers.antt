@@ -8,7 +8,7 @@ ruleset laws = (temp_full, temp_many, temp_taken)
 pub returns-then-self : goal.returns-then-self
 returns-then-self c im s w =
     elim c.then-self.branch [
-      then-self-via-then-self b ↦ temp_full _ _ _ _ _ refl b.if-self.true
+      | then-self-via-then-self b ↦ temp_full _ _ _ _ _ refl b.if-self.true
       | then-self-via-else-self+then-n-gt2048 b ↦ temp_many _ _ _ _ _ refl b.if-n-gt2048.true
     ]
 

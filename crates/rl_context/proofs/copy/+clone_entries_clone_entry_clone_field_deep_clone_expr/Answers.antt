@@ -27,7 +27,7 @@ clone_entry-returns-then-n-id t c = λ r h.
 pub clone_entry-returns-else-is_node : goal.clone_entry-returns-else-is_node
 clone_entry-returns-else-is_node t c = λ r h.
     elim c.else-is_node.branch [
-      clone_entry-else-is_node-via-then-is_node+else-n-id b ↦ entry_late _ _ _ _ _ _ b.if-n-id.false (c.push-else-is_node.ensures _)
+      | clone_entry-else-is_node-via-then-is_node+else-n-id b ↦ entry_late _ _ _ _ _ _ b.if-n-id.false (c.push-else-is_node.ensures _)
       | clone_entry-else-is_node-via-else-is_node b ↦ entry_kept _ _ _ _ _ _ _ c.is_node.ensures b.if-is_node.false (c.push-else-is_node.ensures _)
     ]
 
@@ -54,7 +54,7 @@ deep_clone_expr-returns-then-ctx t c = λ r h. copies_full _ _ _ _ _ _ h refl re
 pub deep_clone_expr-returns-then-kind-eq56 : goal.deep_clone_expr-returns-then-kind-eq56
 deep_clone_expr-returns-then-kind-eq56 t c = λ r h. copies_lambda _ _ _ _ _ _ h c.expression_start-start.ensures (c.kind_at-kind.ensures ∙ kind_in _ _) _
     (elim c.then-kind-eq56.branch [
-      deep_clone_expr-then-kind-eq56-via-then-kind-eq56 b ↦ ap is_lambda b.if-kind-eq56.true
+      | deep_clone_expr-then-kind-eq56-via-then-kind-eq56 b ↦ ap is_lambda b.if-kind-eq56.true
       | deep_clone_expr-then-kind-eq56-via-else-kind-eq56+then-kind-eq57 b ↦ ap is_lambda b.if-kind-eq57.true
     ])
 
