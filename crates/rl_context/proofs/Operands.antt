@@ -2,6 +2,7 @@
 -- Assumes nothing.
 use Rattle.std.proofs.Common.{◌≡◌, ℕ, ◌<◌, ◌≤◌, Bool, true, false, cond, List, [], ◌∷◌, length, take, drop, ℤ, sym, refl, ap, ◌∙◌, subst, arith, length-take-le, to_z-of_z, w64, SFits, to_z, of_z}
 use mathlib.Core.Option.{Option, none}
+use mir.Val.{bool_byte}
 use Rattle.rl_spec.specs.declared.RefineOperand as operand
 use Rattle.rl_spec.specs.declared.RefineOperand.TheVariants.{Integer, Str, Bool as Truth, Param as Named}
 use Rattle.rl_spec.specs.Schema.{limits, sort_of, schema, fields_in, fields_of}
@@ -54,8 +55,14 @@ module _ {im : Image} (image : Image) (x : operand.RefineOperand) (s : State) wh
       of_operand image x (operand_as 17 1027 w) (Integer v) e
       (record { does = subst (λ n. Does {A = ℕ × ℕ} im 0 0 nothing (give (17, bits64 v)) s (17, n) s) (sym (q ∙ ap bits64 (to_z-of_z h))) (does_give im 0 (17, bits64 v) s); leaf = an_integer; row = row_integer })
 
-  pub truth_made : (b : Bool) → x ≡ Truth b → OperandMade im (leaf_of image (operand_of x)) s (operand_as 26 1283 (cond b 1 0)) s
-  truth_made b e = of_operand image x (operand_as 26 1283 (cond b 1 0)) (Truth b) e (record { does = does_give im 0 (26, cond b 1 0) s; leaf = a_bool; row = row_bool })
+  pub truth_made : (b : Bool) → x ≡ Truth b → OperandMade im (leaf_of image (operand_of x)) s (operand_as 26 1283 (bool_byte b)) s
+  truth_made b e =
+      of_operand image x (operand_as 26 1283 (bool_byte b)) (Truth b) e
+      (record { does = subst (λ n. Does {A = ℕ × ℕ} im 0 0 nothing (give (26, cond b 1 0)) s (26, n) s) (byte_is b) (does_give im 0 (26, cond b 1 0) s); leaf = a_bool; row = row_bool })
+    where
+      byte_is : (b : Bool) → cond b 1 0 ≡ bool_byte b
+      byte_is true = refl
+      byte_is false = refl
 
 -- ---- the nodes: a leaf's fields are its span and its number
 

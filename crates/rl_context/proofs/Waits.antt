@@ -21,8 +21,8 @@ more_over : (ws : List ℕ) {x : Context} (n : ℕ) → Over (ws ++ []) x → Ov
 more_over ws n h = record { sections = h.sections; more = rw (length-append ws (n ∷ [])) (omega (arith, h.more, length-append ws [])) }
 
 module _ (entry : ℕ) (self : Ctx) (scratch w : List ℕ) where
-  pub push_full : self.full ≡ true → Pushes entry (at self scratch w) (at self scratch w)
-  push_full f = record { pushes = λ im k ws o e. ends_full f (weaker (e.full f) (λ b x h. more_over ws b h)) }
+  pub push_full : (t : State) → t.ctx.full ≡ true → self.full ≡ true → Pushes entry (at self scratch w) t
+  push_full t g f = record { pushes = λ im k ws o e. ends_full g (weaker (e.full f) (λ b x h. more_over ws b h)) }
 
   pub push_many : (t : State) → t.ctx.full ≡ true → 4096 ≤ self.waiting → Pushes entry (at self scratch w) t
   push_many t g h =

@@ -89,10 +89,10 @@ impl Ctx {
     )
         ensures { rows.now ≡ table → ConditionsIn (found image.entry) ensured image.entry.counts.expressions → Gathers (found image.entry) 0 (wrap_return value (clauses_in (found image.entry) ensured)) (at self.old scratch.old waiting.old) (at self.new scratch.new waiting.new) }
     {
+        let n = self.take_temp();
         let mut room = [0u8; 33];
         let start = put_text(&mut room, 0, b"__ensure_ret_");
-        let end = put_number(&mut room, start, self.temp_counter as u64);
-        self.take_temp();
+        let end = put_number(&mut room, start, n as u64);
         let is_result = self.is_result;
         let temp = part(&room, 0, end);
         self.wrap_as(
