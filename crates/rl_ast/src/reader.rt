@@ -13,6 +13,10 @@ use rl_fields::Scope;
 use rl_schema::{SECTIONS, count_in};
 use rl_spec::{Accepted, ArenaNo, Cause, Counts, Next, Refusal, Section};
 
+// The longest image, and the shortest work slice.
+const LONGEST: usize = 65535;
+const SHORTEST_WORK: usize = 8192;
+
 // The largest counts that the header may have, in its order.
 const LIMITS: [u16; 9] = [16384, 2048, 4096, 4096, 2048, 256, 256, 64, 256];
 
@@ -235,10 +239,10 @@ pub fn read_starts(
 {
     work.fill(0);
     starts.fill(0);
-    if 65535 < image.len() {
+    if image.len() > LONGEST {
         return Err(Cause::ImageTooLong.into());
     }
-    if work.len() < 8192 {
+    if work.len() < SHORTEST_WORK {
         return Err(Cause::WorkTooShort.into());
     }
     if let Err(refusal) = content(image, work, starts) {
