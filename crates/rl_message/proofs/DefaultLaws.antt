@@ -18,8 +18,6 @@ use Rattle.rl_spec.specs.declared.Param.{Param}
 use Rattle.rl_spec.specs.Answers.{ParamRefinement}
 use Rattle.std.specs.Prelude.{None, Some}
 use Rattle.rl_spec.specs.declared.Refinement as refinement
-use Rattle.rl_spec.specs.declared.RefineOp.{RefineOp}
-use Rattle.rl_spec.specs.declared.RefineOp.TheVariants.{Gt, Ge, Lt, Le, Eq, Ne}
 use Rattle.rl_spec.specs.declared.RefineOperand.{RefineOperand}
 use Rattle.rl_spec.specs.declared.RefineOperand.TheVariants as operand
 use Rattle.rl_spec.specs.declared.Violation.{Violation}

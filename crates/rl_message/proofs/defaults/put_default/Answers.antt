@@ -1,7 +1,6 @@
 use mathlib.Core.Path.{refl}
 use Rattle.rl_spec.specs.Tree.{ascii}
 use Rattle.rl_message.proofs.DefaultLaws.{puts_requires, puts_unrefined, puts_refined}
-use Rattle.std.proofs.Common.{rules}
 use Rattle.rl_message.proofs.defaults.put_default.Goals as goal
 
 pub returns-in_default-clause-bytes : goal.returns-in_default-clause-bytes
