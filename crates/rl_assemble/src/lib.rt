@@ -34,7 +34,6 @@ fn put_part(out: &mut Out, s: &[u8], from: usize, n: usize)
 }
 
 // A number in two bytes.
-#[tactic(auto, using(crate::proofs::Puts::text_put, crate::proofs::Puts::filled))]
 fn put_two(out: &mut Out, n: u32)
     ensures same_reference { out.new.bytes.ghost_name ≡ out.old.bytes.ghost_name }
     ensures puts { Puts out.old (bytes_of 2 n) out.new }
@@ -44,7 +43,6 @@ fn put_two(out: &mut Out, n: u32)
     out.text(&two);
 }
 
-#[tactic(auto, using(crate::proofs::Puts::puts_then), unfolding(crate::specs::Pieces::new_counts))]
 fn put_counts(out: &mut Out, ctx: Ctx)
     ensures same_reference { out.new.bytes.ghost_name ≡ out.old.bytes.ghost_name }
     ensures puts { Puts out.old (new_counts ctx) out.new }
@@ -58,7 +56,6 @@ fn put_counts(out: &mut Out, ctx: Ctx)
 
 // Each `put_` function puts a piece behind what is there.
 impl Sources<'_> {
-    #[tactic(auto, using(crate::proofs::Puts::puts_then), unfolding(crate::specs::Pieces::new_header))]
     fn put_header(self, out: &mut Out)
         ensures same_reference { out.new.bytes.ghost_name ≡ out.old.bytes.ghost_name }
         ensures puts { Puts out.old (new_header self.entry.image.bytes.now self.entry.ctx) out.new }
@@ -69,7 +66,6 @@ impl Sources<'_> {
     }
 
     // What the image has, then what is new.
-    #[tactic(auto, using(crate::proofs::Puts::puts_then))]
     fn put_both(self, out: &mut Out, from: usize, n: usize, place: usize, m: usize)
         ensures same_reference { out.new.bytes.ghost_name ≡ out.old.bytes.ghost_name }
         ensures puts { Puts out.old (both self.entry.image.bytes.now from n self.entry.scratch.now place m) out.new }
@@ -120,7 +116,6 @@ impl Sources<'_> {
     }
 
     // The expressions and the statements, from where they start and end.
-    #[tactic(auto, using(crate::proofs::Puts::puts_then), unfolding(crate::specs::Pieces::new_trees))]
     fn put_trees(self, out: &mut Out, expressions: usize, statements: usize, parameters: usize)
         ensures same_reference { out.new.bytes.ghost_name ≡ out.old.bytes.ghost_name }
         ensures puts { Puts out.old (new_trees self.entry.image.bytes.now expressions statements parameters self.entry.ctx self.entry.scratch.now) out.new }
@@ -142,7 +137,6 @@ impl Sources<'_> {
     }
 
     // The other sections, with another body list at a place.
-    #[tactic(auto, using(crate::proofs::Puts::puts_then), unfolding(crate::specs::Pieces::new_rest))]
     fn put_rest(self, out: &mut Out, parameters: usize, body: usize, list: Interval)
         requires { body ≤ 4294967295 }
         ensures same_reference { out.new.bytes.ghost_name ≡ out.old.bytes.ghost_name }
@@ -173,7 +167,6 @@ impl Sources<'_> {
             + (ctx.statement_bytes as usize)
     }
 
-    #[tactic(auto, using(crate::proofs::Puts::puts_then), unfolding(crate::specs::Pieces::new_bytes))]
     fn put_image(self, out: &mut Out, function: u16, list: Interval)
         requires { length self.image.bytes.now ≤ 65535 }
         ensures same_reference { out.new.bytes.ghost_name ≡ out.old.bytes.ghost_name }
