@@ -1,6 +1,6 @@
 // Lists, statements and branches call one another; the statement's index falls. Each is handed the bindings by value, so that only
 // what holds statements costs a call.
-ghost use Rattle.std.specs.Prelude.{◌≡◌, ◌&&◌, ℕ, min, eqb, get_or};
+ghost use Rattle.std.specs.Prelude.{◌≡◌, ◌&&◌, ℕ, eqb, get_or};
 ghost use Rattle.rl_spec.specs.Image.{Image};
 ghost use Rattle.rl_spec.specs.Run.{named};
 ghost use Rattle.rl_spec.specs.Runner.{value_of};
