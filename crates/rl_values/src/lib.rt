@@ -27,7 +27,8 @@ fn compare<T: PartialOrd + Copy>(op: RefineOp, x: T, y: T) -> bool
     }
 }
 
-// One pass for each, eight bytes at a step: at most is not above.
+// Not by `compare`, for speed: std's order of slices takes a byte at a step, as the form that the bar for long texts is measured by
+// (docs/BENCHMARKS.md). One pass for each: at most is not above.
 #[tactic(auto, using(crate::proofs::Laws::at_most))]
 fn compare_texts(op: RefineOp, a: &[u8], b: &[u8]) -> bool
     ensures { result ≡ compare_by less_text same_text (op_of op) a.now b.now }
