@@ -167,14 +167,6 @@ module _ (s p : List ℕ) (c : Counts) (id a n : ℕ) (l r : Target) (start : St
   abbrev of : Image
   of = image_found s p c
 
-  pub entries_none : CopyingEntries s p c id a n l r start start 0 l r
-  entries_none =
-      record {
-        some = omega arith;
-        done = [];
-        follows = λ ns t d. subst (λ z. Does of 0 0 all (clone_entries (clone_below id) l r (map (entry_of of) z)) start ns t) (ap₂ up_from (add-zero a) (sub-zero n)) d;
-      }
-
   module _ (here : State) (i : ℕ) (left right : Target) (w : CopyingEntries s p c id a n l r start here i left right) where
     next_entry : i < n → up_from (a + i) (n - i) ≡ (a + i) ∷ up_from (a + (i + 1)) (n - (i + 1))
     next_entry h = cons (n - i) (n - (i + 1)) (omega arith) ∙ ap (λ z. (a + i) ∷ up_from z (n - (i + 1))) (add_assoc a i 1)

@@ -36,10 +36,3 @@ module _ (s : list.List ℕ) (code place : ℕ) (o : Sort) (e : o ≡ sort_of co
           cond d (pair (r % 65536) (r / 65536)) (num r) ≡ cond d (pair (u16_at s place) (u16_at s (place + 2))) (num (num_at s place (width_of (sort_of code))))
       go true q k = absurd (subst T q tt)
       go false q k = ap num k
-
-module _ (sort : Sort) (left right : Target) (n : ℕ) (e : sort ≡ Many left right n) (b : Bool) (q : b ≡ is_node left || is_node right) where
-  pub plan_list : b ≡ true → List left right ≡ plan_of sort
-  plan_list t = sym (ap plan_of e ∙ ap (λ z. cond z (List left right) Keep) (sym q ∙ t))
-
-  pub plan_keep : b ≡ false → Keep ≡ plan_of sort
-  plan_keep t = sym (ap plan_of e ∙ ap (λ z. cond z (List left right) Keep) (sym q ∙ t))

@@ -31,9 +31,6 @@ guard_does pred msg d e =
     (keeps_more nothing (λ copy. adds_bind (adds_expr 33 (num 5 ∷ num copy ∷ [])) (λ neg. adds_bind (adds_violation msg) (λ stm. adds_only_if neg stm)))) e
 
 module _ {im : Image} {k : ℕ} {s : State} (clause : Clause) (default : List ℕ) where
-  pub message_default : {t : State} {m : ℕ} → clause.message ≡ None → Does im k k nothing (str_lit default) s m t → Does im k k nothing (msg_expr clause default) s m t
-  message_default {t} {m} e d = subst (λ o. Does im k k nothing (msg_expr_by o default) s m t) (sym e) d
-
   pub message_own : (n : ℕ) → clause.message ≡ Some n → Does im k k nothing (msg_expr clause default) s n s
   message_own n e = subst (λ o. Does im k k nothing (msg_expr_by o default) s n s) (sym e) (does_give im k n s)
 
