@@ -2,13 +2,13 @@
 -- Assumes nothing.
 use Rattle.std.proofs.Common.{◌≡◌, ℕ, suc, ◌+◌, ◌-◌, ◌<◌, ◌≤◌, List, [], ◌∷◌, map, length, sym, refl, ap, ◌∙◌, subst, ap₂, arith}
 use Rattle.rl_spec.specs.declared.Clause.{Clause}
-use Rattle.std.specs.Prelude.{None, Some}
+use Rattle.std.specs.Prelude.{Some}
 use Rattle.rl_spec.specs.declared.Interval.{Interval}
 use Rattle.rl_spec.specs.Image.{num, Image}
 use Rattle.rl_spec.specs.Records.{clause_at}
 use Rattle.rl_spec.specs.Ranges.{up_from}
 use Rattle.rl_spec.specs.Make.{Make, each}
-use Rattle.rl_spec.specs.Lower.{expr, str_lit, deep_clone_expr, violation, only_if, guard, msg_expr_by, msg_expr, clause_guard}
+use Rattle.rl_spec.specs.Lower.{expr, deep_clone_expr, violation, only_if, guard, msg_expr_by, msg_expr, clause_guard}
 use Rattle.rl_schema.specs.Codes.{table}
 use Rattle.rl_context.specs.Does.{State, nothing, Does, Pushes}
 use Rattle.rl_context.proofs.Composed.{does_bind, does_give, does_push, does_each}
