@@ -24,7 +24,7 @@ pub use copy::{deep_clone_expr, word_of};
 pub use kinds::Kind;
 pub use nodes::{list_word, optional_word};
 pub use refinements::{Operand, Predicate};
-use rl_bytes::{get_or, put};
+use rl_bytes::put;
 use rl_encode::{put_number, put_record};
 use rl_spec::Interval;
 use rl_text_out::put_text;
@@ -82,9 +82,8 @@ fn put_entries(scratch: &mut [u8], waiting: &[u16], at: usize, first: usize, cou
     requires count_in_bounds_2 { first + count ≤ length waiting.now }
     ensures { scratch.new ≡ over scratch.old at (encode_records (list_records (take count (drop first waiting.now)))) }
 {
-    for i in 0..count {
-        let entry = get_or(waiting, first + i, 0);
-        put_number(scratch, at + i * 3, 3 + (entry as u64) * 256, 3);
+    for (i, entry) in waiting[first..first + count].iter().enumerate() {
+        put_number(scratch, at + i * 3, 3 + (*entry as u64) * 256, 3);
     }
 }
 
