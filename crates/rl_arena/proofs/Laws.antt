@@ -69,18 +69,12 @@ module _ (s : List ℕ) (c at : ℕ) (o : Sort) (e : o ≡ sort_of c) (b : Bool)
     pub first_pair : r ≡ u16_at s at → r ≡ first (field_in s (sort_of c) at)
     first_pair g = rw (← e, ← f, t) g
 
-    pub second_pair : r ≡ u16_at s (at + 2) → r ≡ second (field_in s (sort_of c) at)
-    second_pair g = rw (← e, ← f, t) g
-
   module _ (t : b ≡ false) where
     pub first_number : (m : ℕ) → m ≡ width_of o → (r : ℕ) → r ≡ number_in s at m → r ≡ first (field_in s (sort_of c) at)
     unfolding number_in
     first_number m g r h =
         let w : is_width m ≡ true = rw (g, e) (narrow c).0 in
         rw (← e, ← f, t, ← g) (rw w at h)
-
-    pub second_number : 0 ≡ second (field_in s (sort_of c) at)
-    second_number = rw (← e, ← f, t) refl
 
 -- ---- the fields: `whole` is what the loop has to answer, and v its invariant after k of j steps
 
