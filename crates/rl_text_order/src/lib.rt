@@ -1,7 +1,7 @@
 // Texts: equal, and ordered by their bytes. Eight bytes are compared at a step where both texts have eight more, the last ones one by one.
 #![tactic(auto)]
 
-ghost use Rattle.std.specs.Prelude.{◌≡◌, ◌+◌, ◌*◌, ◌≤◌, length};
+ghost use Rattle.std.specs.Prelude.{◌≡◌, ◌+◌, ◌≤◌, length};
 ghost use Rattle.rl_laws.specs.Words.{Word};
 ghost use Rattle.rl_spec.specs.Values.{same_text, less_text};
 
