@@ -11,7 +11,7 @@ ghost use Rattle.rl_arena.specs.Find.{number_in, spot_of, lookup};
 use rl_bytes::{get_or, second_u16, u16_at, u32_at, u64_at};
 pub use rl_schema::entry_at;
 use rl_schema::{sort_of, width_of};
-use rl_spec::{ArenaNo, Counts, Id, Sort};
+use rl_spec::{ArenaNo, Cause, Counts, Id, Sort};
 
 // ---- where records start
 
@@ -58,50 +58,38 @@ pub fn number_at(image: &[u8], at: usize, width: u8) -> u64
 }
 
 // A field's code and its place.
-#[derive(Drop)]
-pub enum Spot {
-    Field { code: u8, at: usize },
-    Nothing,
+#[derive(Clone, Copy)]
+pub struct Spot {
+    pub code: u8,
+    pub at: usize,
 }
 
 // The j-th field of a record, by the schema's row of its kind.
-fn field_spot(row: u64, at: u16, j: u8) -> Spot
+fn field_spot(row: u64, at: u16, j: u8) -> Option<Spot>
     ensures { result ≡ spot_of (codes row) (at + 1) j }
 {
     let mut rest = row;
     let mut place = (at as usize) + 1;
-    let mut left = j;
-    while rest != 0 {
-        let code = (rest % 256) as u8;
-        if left == 0 {
-            return Spot::Field { code, at: place };
+    for _ in 0..j {
+        if rest == 0 {
+            return None;
         }
-        place += width_of(sort_of(code));
-        rest = rest / 256;
-        left -= 1;
+        place += width_of(sort_of((rest % 256) as u8));
+        rest /= 256;
     }
-    Spot::Nothing
+    if rest == 0 {
+        return None;
+    }
+    Some(Spot {
+        code: (rest % 256) as u8,
+        at: place,
+    })
 }
 
 pub fn is_pair(sort: Sort) -> bool
     ensures { result ≡ is_pair sort }
 {
-    match sort {
-        Sort::Raw { width: _ } => false,
-        Sort::Byte { low: _, high: _ } => false,
-        Sort::Scalar => false,
-        Sort::Part => true,
-        Sort::One { target: _ } => false,
-        Sort::Maybe { target: _ } => false,
-        Sort::Many {
-            left: _,
-            right: _,
-            step: _,
-        } => true,
-        Sort::Range { section: _ } => true,
-        Sort::OperandSort => false,
-        Sort::Operand => false,
-    }
+    matches!(sort, Sort::Part | Sort::Many { .. } | Sort::Range { .. })
 }
 
 fn first_at(image: &[u8], code: u8, at: usize) -> u64
@@ -127,10 +115,9 @@ fn second_at(image: &[u8], code: u8, at: usize) -> u16
 pub fn field_first(image: &[u8], row: u64, at: u16, j: u8) -> u64
     ensures { result ≡ first (get_or (fields_at image.now (codes row) (at + 1)) j no_field) }
 {
-    let spot = field_spot(row, at, j);
-    match spot {
-        Spot::Field { code, at: place } => first_at(image, code, place),
-        Spot::Nothing => 0,
+    match field_spot(row, at, j) {
+        Some(spot) => first_at(image, spot.code, spot.at),
+        None => 0,
     }
 }
 
@@ -138,35 +125,25 @@ pub fn field_first(image: &[u8], row: u64, at: u16, j: u8) -> u64
 pub fn field_second(image: &[u8], row: u64, at: u16, j: u8) -> u16
     ensures { result ≡ second (get_or (fields_at image.now (codes row) (at + 1)) j no_field) }
 {
-    let spot = field_spot(row, at, j);
-    match spot {
-        Spot::Field { code, at: place } => second_at(image, code, place),
-        Spot::Nothing => 0,
+    match field_spot(row, at, j) {
+        Some(spot) => second_at(image, spot.code, spot.at),
+        None => 0,
     }
 }
 
 // ---- ids
 
-// What an id finds in an arena: the arena's number is compared first, then the node's number with the count of expressions.
-#[derive(Drop)]
-pub enum Lookup {
-    Node(u16),
-    OtherArena,
-    NoSuchNode,
-}
-
-pub fn node_of(arena: ArenaNo, counts: Counts, id: Id) -> Lookup
+// The node that an id finds in an arena: the arena's number is compared first, then the node's number with the count of expressions.
+#[tactic(auto, unfolding(crate::specs::Find::lookup))]
+pub fn node_of(arena: ArenaNo, counts: Counts, id: Id) -> Result<u16, Cause>
     ensures { result ≡ lookup arena counts id }
 {
-    let other = id.arena;
-    if other.0 != arena.0 {
-        return Lookup::OtherArena;
+    if id.arena.0 != arena.0 {
+        return Err(Cause::OtherArena);
     }
-    let node = id.node;
-    let n = node.0;
-    let most = counts.expressions as u32;
-    if n < most {
-        return Lookup::Node(n as u16);
+    let n = id.node.0;
+    if n >= counts.expressions as u32 {
+        return Err(Cause::NoSuchNode);
     }
-    Lookup::NoSuchNode
+    Ok(n as u16)
 }

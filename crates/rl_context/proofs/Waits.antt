@@ -1,7 +1,6 @@
 -- Entries that wait, and the lists that they become.
 -- Assumes nothing.
 use Rattle.std.proofs.Common.{◌≡◌, ℕ, suc, ◌+◌, ◌*◌, ◌<◌, ◌≤◌, true, false, List, [], ◌∷◌, ◌++◌, length, get_or, take, drop, set, sym, refl, ap, ◌∙◌, subst, ap₂, append-nil, arith, length-append, length-drop, length-set, length-take-le, get_or-drop, take-suc, take-suc-set}
-use mathlib.Core.Option.{some}
 use Rattle.rl_spec.specs.Image.{num, Image, bytes_of, encode_records}
 use Rattle.rl_spec.specs.Make.{Context, made}
 use Rattle.rl_images.specs.Lowering.Gives.{Gives, gives, weaker}
@@ -21,8 +20,8 @@ more_over : (ws : List ℕ) {x : Context} (n : ℕ) → Over (ws ++ []) x → Ov
 more_over ws n h = record { sections = h.sections; more = rw (length-append ws (n ∷ [])) (omega (arith, h.more, length-append ws [])) }
 
 module _ (entry : ℕ) (self : Ctx) (scratch w : List ℕ) where
-  pub push_full : self.full ≡ true → Pushes entry (at self scratch w) (at self scratch w)
-  push_full f = record { pushes = λ im k ws o e. ends_full f (weaker (e.full f) (λ b x h. more_over ws b h)) }
+  pub push_full : (t : State) → t.ctx.full ≡ true → self.full ≡ true → Pushes entry (at self scratch w) t
+  push_full t g f = record { pushes = λ im k ws o e. ends_full g (weaker (e.full f) (λ b x h. more_over ws b h)) }
 
   pub push_many : (t : State) → t.ctx.full ≡ true → 4096 ≤ self.waiting → Pushes entry (at self scratch w) t
   push_many t g h =

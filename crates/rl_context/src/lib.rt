@@ -5,6 +5,7 @@
 
 mod clauses;
 mod copy;
+mod kinds;
 mod nodes;
 mod refinements;
 mod wrapping;
@@ -17,12 +18,12 @@ ghost use Rattle.rl_encode.specs.Words.{word_record, over};
 ghost use Rattle.rl_spec.specs.declared.Section.TheVariants.{Expressions, Statements};
 ghost use Rattle.rl_spec.specs.Make.{append, new_text, take_temp};
 ghost use Rattle.rl_schema.specs.Codes.{codes};
-ghost use Rattle.rl_context.specs.Additions.{waiting_with};
 ghost use Rattle.rl_context.specs.Does.{Does, nothing, at, Pushes, Listed};
 
 pub use copy::{deep_clone_expr, word_of};
+pub use kinds::Kind;
 pub use nodes::{list_word, optional_word};
-pub use refinements::Predicate;
+pub use refinements::{Operand, Predicate};
 use rl_bytes::{get_or, put};
 use rl_encode::{put_number, put_record};
 use rl_spec::Interval;
@@ -46,19 +47,6 @@ pub struct Ctx {
     pub full: bool,
 }
 
-// The context, and the number of what was made.
-#[derive(Drop)]
-pub struct Made {
-    pub ctx: Ctx,
-    pub index: u16,
-}
-
-#[derive(Drop)]
-pub struct MadeList {
-    pub ctx: Ctx,
-    pub list: Interval,
-}
-
 // Whether so many more would pass a limit.
 fn passes(used: u32, more: usize, most: u32) -> bool
     ensures { result ≡ nat_lt most (used + more) }
@@ -75,54 +63,28 @@ fn put_entries(scratch: &mut [u8], waiting: &[u16], at: usize, first: usize, cou
     requires count_in_bounds_2 { first + count ≤ length waiting.now }
     ensures { scratch.new ≡ over scratch.old at (encode_records (list_records (take count (drop first waiting.now)))) }
 {
-    let mut i = 0;
-    while i < count {
+    for i in 0..count {
         let entry = get_or(waiting, first + i, 0);
         put_number(scratch, at + i * 3, 3 + (entry as u64) * 256, 3);
-        i += 1;
     }
 }
 
+// Where a limit would be passed, the context is full: what else is answered then is left open.
 impl Ctx {
-    // A limit would be passed: what else is answered is left open.
-    fn stopped(mut self) -> Made
-        ensures { result.ctx.full ≡ true }
-    {
-        self.full = true;
-        Made {
-            ctx: self,
-            index: 0,
-        }
-    }
-
-    fn without_list(mut self) -> MadeList
-        ensures { result.ctx.full ≡ true }
-    {
-        self.full = true;
-        MadeList {
-            ctx: self,
-            list: Interval { first: 0, count: 0 },
-        }
-    }
-
     // A text, even one that the image has.
-    pub fn new_text(mut self, scratch: &mut [u8], text: &[u8]) -> Made
-        ensures { (im : Image) (k : ℕ) (w : List ℕ) → Does im k k nothing (new_text text.now) (at self scratch.old w) result.index (at result.ctx scratch.new w) }
+    pub fn new_text(&mut self, scratch: &mut [u8], text: &[u8]) -> u16
+        ensures { (im : Image) (k : ℕ) (w : List ℕ) → Does im k k nothing (new_text text.now) (at self.old scratch.old w) result (at self.new scratch.new w) }
     {
         let offset = self.bytes;
         let index = self.texts;
         let size = text.len();
-        if self.full {
-            return self.stopped();
-        }
-        if scratch.len() < 186496 {
-            return self.stopped();
-        }
-        if passes(offset, size, 16384) {
-            return self.stopped();
-        }
-        if passes(index, 1, 2048) {
-            return self.stopped();
+        if self.full
+            || scratch.len() < 186496
+            || passes(offset, size, 16384)
+            || passes(index, 1, 2048)
+        {
+            self.full = true;
+            return 0;
         }
         put_text(scratch, offset as usize, text);
         put_number(
@@ -133,75 +95,51 @@ impl Ctx {
         );
         self.bytes = offset + (size as u32);
         self.texts = index + 1;
-        Made {
-            ctx: self,
-            index: index as u16,
-        }
+        index as u16
     }
 
     // The number of a temporary, which is then taken.
-    pub fn take_temp(mut self) -> Ctx
-        ensures { (im : Image) (s w : List ℕ) → Does im 0 1 nothing take_temp (at self s w) self.temp_counter (at result s w) }
+    pub fn take_temp(&mut self) -> u32
+        ensures { (im : Image) (s w : List ℕ) → Does im 0 1 nothing take_temp (at self.old s w) result (at self.new s w) }
     {
         let n = self.temp_counter;
-        if self.full {
-            return self;
-        }
-        if 2048 < n {
+        if self.full || 2048 < n {
             self.full = true;
-            return self;
+            return n;
         }
         self.temp_counter = n + 1;
-        self
+        n
     }
 
     // An entry of a list that is being made.
-    pub fn push(mut self, waiting: &mut [u16], entry: u16) -> Ctx
-        ensures { (s : List ℕ) → Pushes entry (at self s waiting.old) (at result s waiting.new) }
+    pub fn push(&mut self, waiting: &mut [u16], entry: u16)
+        ensures { (s : List ℕ) → Pushes entry (at self.old s waiting.old) (at self.new s waiting.new) }
     {
         let end = self.waiting;
-        if self.full {
-            return self;
-        }
-        if 4096 <= end {
+        if self.full || 4096 <= end {
             self.full = true;
-            return self;
+            return;
         }
         put(waiting, end as usize, entry);
         self.waiting = end + 1;
-        self
-    }
-
-    // With another count of entries that wait.
-    pub fn with_waiting(mut self, n: u32) -> Ctx
-        ensures { result ≡ waiting_with self n }
-    {
-        self.waiting = n;
-        self
     }
 
     // The entries that wait, but for the first so many, as a list.
-    pub fn new_list(mut self, scratch: &mut [u8], waiting: &[u16], first: u32) -> MadeList
-        ensures { Listed first (at self scratch.old waiting.now) result.list (at result.ctx scratch.new waiting.now) }
+    pub fn new_list(&mut self, scratch: &mut [u8], waiting: &[u16], first: u32) -> Interval
+        ensures { Listed first (at self.old scratch.old waiting.now) result (at self.new scratch.new waiting.now) }
     {
         let end = self.waiting;
         let at = self.lists;
-        if self.full {
-            return self.without_list();
-        }
-        if end < first {
-            return self.without_list();
-        }
-        if scratch.len() < 186496 {
-            return self.without_list();
-        }
-        if waiting.len() < (end as usize) {
-            return self.without_list();
+        if self.full
+            || end < first
+            || scratch.len() < 186496
+            || waiting.len() < (end as usize)
+            || passes(at, (end - first) as usize, 4096)
+        {
+            self.full = true;
+            return Interval { first: 0, count: 0 };
         }
         let count = end - first;
-        if passes(at, count as usize, 4096) {
-            return self.without_list();
-        }
         put_entries(
             scratch,
             waiting,
@@ -211,68 +149,49 @@ impl Ctx {
         );
         self.lists = at + count;
         self.waiting = first;
-        MadeList {
-            ctx: self,
-            list: Interval {
-                first: at as u16,
-                count: count as u16,
-            },
+        Interval {
+            first: at as u16,
+            count: count as u16,
         }
     }
 
-    // A record of the expressions, whose row of the schema is given, with its span.
-    pub fn new_expression(mut self, scratch: &mut [u8], kind: u8, row: u64, words: &[u64]) -> Made
-        ensures { (im : Image) (k : ℕ) (w : List ℕ) → codes row ≡ fields_of kind → Does im k k nothing (append Expressions (word_record kind words.now ∷ [])) (at self scratch.old w) result.index (at result.ctx scratch.new w) }
+    // A record of the expressions, with its span.
+    pub fn new_expression(&mut self, scratch: &mut [u8], kind: Kind, words: &[u64]) -> u16
+        ensures { (im : Image) (k : ℕ) (w : List ℕ) → codes kind.row ≡ fields_of kind.number → Does im k k nothing (append Expressions (word_record kind.number words.now ∷ [])) (at self.old scratch.old w) result (at self.new scratch.new w) }
     {
         let index = self.expressions;
         let used = self.expression_bytes as usize;
-        if self.full {
-            return self.stopped();
+        if self.full
+            || 186496 < used
+            || scratch.len() < 38912 + used + 65
+            || passes(index, 1, 4096)
+        {
+            self.full = true;
+            return 0;
         }
-        if 186496 < used {
-            return self.stopped();
-        }
-        let end = 38912 + used;
-        if scratch.len() < end + 65 {
-            return self.stopped();
-        }
-        if passes(index, 1, 4096) {
-            return self.stopped();
-        }
-        let next = put_record(scratch, end, kind, row, words);
+        let next = put_record(scratch, 38912 + used, kind.number, kind.row, words);
         self.expressions = index + 1;
         self.expression_bytes = (next - 38912) as u32;
-        Made {
-            ctx: self,
-            index: index as u16,
-        }
+        index as u16
     }
 
     // A record of the statements, the same way.
-    pub fn new_statement(mut self, scratch: &mut [u8], kind: u8, row: u64, words: &[u64]) -> Made
-        ensures { (im : Image) (k : ℕ) (w : List ℕ) → codes row ≡ fields_of kind → Does im k (k - 1) nothing (append Statements (word_record kind words.now ∷ [])) (at self scratch.old w) result.index (at result.ctx scratch.new w) }
+    pub fn new_statement(&mut self, scratch: &mut [u8], kind: Kind, words: &[u64]) -> u16
+        ensures { (im : Image) (k : ℕ) (w : List ℕ) → codes kind.row ≡ fields_of kind.number → Does im k (k - 1) nothing (append Statements (word_record kind.number words.now ∷ [])) (at self.old scratch.old w) result (at self.new scratch.new w) }
     {
         let index = self.statements;
         let used = self.statement_bytes as usize;
-        if self.full {
-            return self.stopped();
+        if self.full
+            || 186496 < used
+            || scratch.len() < 137216 + used + 65
+            || passes(index, 1, 2048)
+        {
+            self.full = true;
+            return 0;
         }
-        if 186496 < used {
-            return self.stopped();
-        }
-        let end = 137216 + used;
-        if scratch.len() < end + 65 {
-            return self.stopped();
-        }
-        if passes(index, 1, 2048) {
-            return self.stopped();
-        }
-        let next = put_record(scratch, end, kind, row, words);
+        let next = put_record(scratch, 137216 + used, kind.number, kind.row, words);
         self.statements = index + 1;
         self.statement_bytes = (next - 137216) as u32;
-        Made {
-            ctx: self,
-            index: index as u16,
-        }
+        index as u16
     }
 }

@@ -10,6 +10,7 @@ ghost use Rattle.rl_operators.specs.Texts.{TextIs};
 use rl_spec::{ArithOp, ConstVal, RefineOp};
 use rl_values::{arith_values, bang, compare_values, negate};
 
+#[tactic(auto, unfolding(rl_spec::specs::Fold::unary_value))]
 pub fn unary_value(operator: u8, v: ConstVal) -> Option<ConstVal>
     ensures { folded_of result ≡ unary_value operator (const_of v) }
 {
@@ -20,6 +21,7 @@ pub fn unary_value(operator: u8, v: ConstVal) -> Option<ConstVal>
     }
 }
 
+#[tactic(auto, using(crate::proofs::Laws::compare_at))]
 fn comparison(op: RefineOp, a: ConstVal, b: ConstVal, left: &[u8], right: &[u8]) -> Option<ConstVal>
     ensures { (bytes : ℕ → List ℕ) → TextIs bytes a left.now → TextIs bytes b right.now → folded_of result ≡ boolean (compare_values bytes (op_of op) (const_of a) (const_of b)) }
 {
@@ -27,7 +29,14 @@ fn comparison(op: RefineOp, a: ConstVal, b: ConstVal, left: &[u8], right: &[u8])
 }
 
 // left and right are the bytes of a and of b where they are texts.
-pub fn binary_value(operator: u8, a: ConstVal, b: ConstVal, left: &[u8], right: &[u8]) -> Option<ConstVal>
+#[tactic(auto, unfolding(rl_spec::specs::Fold::binary_value))]
+pub fn binary_value(
+    operator: u8,
+    a: ConstVal,
+    b: ConstVal,
+    left: &[u8],
+    right: &[u8],
+) -> Option<ConstVal>
     ensures { (bytes : ℕ → List ℕ) → TextIs bytes a left.now → TextIs bytes b right.now → folded_of result ≡ binary_value bytes operator (const_of a) (const_of b) }
 {
     match operator {

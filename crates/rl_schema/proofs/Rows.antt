@@ -1,20 +1,15 @@
 -- Laws on the schema's table and the sections.
 -- Assumes nothing.
-use Prim.Native.Nat.{ℕ, zero, suc, ◌+◌, ◌*◌, ◌/◌, ◌%◌, ◌^◌, ◌≤◌, ◌<◌}
+use Prim.Native.Nat.{ℕ, zero, suc, ◌/◌, ◌%◌, ◌^◌, ◌≤◌, ◌<◌}
 use mathlib.Core.Path.{◌≡◌, refl, sym, ap, ◌∙◌}
 use mathlib.Core.Bool.{Bool, true, false, cond}
 use mathlib.Core.List.{List, [], ◌∷◌}
 use native.Mathlib.Omega.{arith}
 use native.Mathlib.Nat.{pow-zero, pow-suc}
-use lib.Dec.{T, ltb, leb, eqb}
+use lib.Dec.{T, ltb, eqb}
 use lib.ListN.{length, get_or}
 use borrow.Author.Tests.{lt-ltb, le-ltb, ne_eqb, eqb-true}
-use Rattle.rl_spec.specs.declared.Counts.{Counts}
-use Rattle.rl_spec.specs.declared.Section.{Section}
-use Rattle.rl_spec.specs.declared.Section.TheVariants.{Calls}
-use Rattle.rl_spec.specs.Bytes.{u16_at}
-use Rattle.rl_spec.specs.Fields.{entry_at}
-use Rattle.rl_spec.specs.Schema.{Row, schema, fields_in, fields_of, in_section, lowest, highest, sections}
+use Rattle.rl_spec.specs.Schema.{Row, schema, fields_in, fields_of}
 use Rattle.rl_laws.specs.Tests.{by_ltb}
 use Rattle.std.proofs.lemmas.List.{get_or_past}
 use Rattle.rl_schema.specs.Codes.{codes_in, codes, table}
@@ -97,31 +92,6 @@ row_codes rows k r e f =
     ap codes (f ∙ ap (λ (l : List ℕ). get_or l k 0) e)
     ∙ by_ltb k 84 (λ h. row_below k h) (λ h. ap codes (get_or_past table k 0 (omega (arith, table_rows))) ∙ row_none k h)
 
--- ---- sections
-
-module _ (o : Section) (k low : ℕ) (e : low ≡ lowest o) where
-  pub section_below : k < low → false ≡ in_section o k
-  unfolding in_section
-  section_below h = rw (← e, lt-ltb k low h) refl
-
-  pub section_from : low ≤ k → (high : ℕ) → high ≡ highest o → leb k high ≡ in_section o k
-  unfolding in_section
-  section_from h high f = rw (← e, ← f, le-ltb k low h) refl
-
-pub section_last : (j : ℕ) → (j ≡ 0 → ⊥) → (j ≡ 1 → ⊥) → (j ≡ 2 → ⊥) → (j ≡ 3 → ⊥) → (j ≡ 4 → ⊥) → (j ≡ 5 → ⊥) → (j ≡ 6 → ⊥) → Calls ≡ get_or sections j Calls
-unfolding sections
-section_last zero h0 h1 h2 h3 h4 h5 h6 = absurd (h0 refl)
-section_last (suc zero) h0 h1 h2 h3 h4 h5 h6 = absurd (h1 refl)
-section_last (suc (suc zero)) h0 h1 h2 h3 h4 h5 h6 = absurd (h2 refl)
-section_last (suc (suc (suc zero))) h0 h1 h2 h3 h4 h5 h6 = absurd (h3 refl)
-section_last (suc (suc (suc (suc zero)))) h0 h1 h2 h3 h4 h5 h6 = absurd (h4 refl)
-section_last (suc (suc (suc (suc (suc zero))))) h0 h1 h2 h3 h4 h5 h6 = absurd (h5 refl)
-section_last (suc (suc (suc (suc (suc (suc zero)))))) h0 h1 h2 h3 h4 h5 h6 = absurd (h6 refl)
-section_last (suc (suc (suc (suc (suc (suc (suc zero))))))) h0 h1 h2 h3 h4 h5 h6 = refl
-section_last (suc (suc (suc (suc (suc (suc (suc (suc j)))))))) h0 h1 h2 h3 h4 h5 h6 = refl
-
--- ---- list entries
-
-pub entry_is : (s : List ℕ) (seen : Counts) (k r : ℕ) → r ≡ u16_at s (23 + seen.bytes + seen.texts * 5 + k * 3 + 1) → r ≡ entry_at s seen k
-unfolding entry_at
-entry_is s seen k r e = e
+-- a row by itself
+pub row_is : (k r : ℕ) → r ≡ get_or table k 0 → codes r ≡ fields_of k
+row_is k r e = row_codes table k r refl e

@@ -2,15 +2,15 @@
 #![tactic(auto)]
 
 ghost use Rattle.std.specs.Prelude.{◌≡◌, length, get_or};
-ghost use Rattle.rl_spec.specs.Schema.{sort_of, width_of, lowest, highest, in_section, tallest, sections, count_of};
-ghost use Rattle.rl_spec.specs.Fields.{entry_at};
-ghost use Rattle.rl_schema.specs.Codes.{table};
+ghost use Rattle.rl_spec.specs.Schema.{sort_of, width_of, in_section, tallest, count_of, fields_of};
+ghost use Rattle.rl_spec.specs.Fields.{entry_at, lists_at};
+ghost use Rattle.rl_schema.specs.Codes.{codes, table};
 
-use rl_bytes::u16_at;
+use rl_bytes::{get_or, u16_at};
 use rl_spec::{Counts, Section, Sort, Target};
 
 // The schema: for each kind its fields' codes, one byte each, the first lowest; 0 where it is no kind.
-const SCHEMA: [u64; 84] = [
+static SCHEMA: [u64; 84] = [
     0,
     0,
     // 2 Text
@@ -161,7 +161,20 @@ const SCHEMA: [u64; 84] = [
     0x13_03_0c,
 ];
 
-// The table. It is made once for an image and lent on, since each use of the constant makes it anew.
+// The sections, in the image's order.
+pub const SECTIONS: [Section; 8] = [
+    Section::Texts,
+    Section::Lists,
+    Section::Expressions,
+    Section::Statements,
+    Section::Parameters,
+    Section::Clauses,
+    Section::Functions,
+    Section::Calls,
+];
+
+// A copy of the table, to lend.
+#[tactic(auto, unfolding(crate::specs::Codes::table))]
 pub fn schema_table() -> [u64; 84]
     ensures value { result ≡ table }
     ensures value_2 { 84 ≡ length result }
@@ -169,16 +182,28 @@ pub fn schema_table() -> [u64; 84]
     SCHEMA
 }
 
+// A kind's row in a table; 0 where there is none.
 pub fn row_of(rows: &[u64], kind: u8) -> u64
     ensures { result ≡ get_or rows.now kind 0 }
 {
-    let k = kind as usize;
-    if k < rows.len() { rows[k] } else { 0 }
+    get_or(rows, usize::from(kind), 0)
 }
 
+// A kind's row in the schema; 0 where it is none.
+#[tactic(auto, using(crate::proofs::Rows::row_is), unfolding(crate::specs::Codes::table))]
+pub fn schema_row(kind: u8) -> u64
+    ensures row { result ≡ get_or table kind 0 }
+    ensures fields { codes result ≡ fields_of kind }
+{
+    get_or(&SCHEMA, usize::from(kind), 0)
+}
+
+#[tactic(auto, unfolding(rl_spec::specs::Schema::sort_of))]
 pub fn sort_of(code: u8) -> Sort
     ensures { result ≡ sort_of code }
 {
+    use Target::{Arm, Branch, ElseBranch, Expression, Statement, Text};
+
     match code {
         1 => Sort::Raw { width: 1 },
         2 => Sort::Raw { width: 2 },
@@ -191,52 +216,40 @@ pub fn sort_of(code: u8) -> Sort
         9 => Sort::Operand,
         10 => Sort::Scalar,
         11 => Sort::Part,
-        12 => Sort::One {
-            target: Target::Text,
-        },
-        13 => Sort::One {
-            target: Target::Expression,
-        },
-        14 => Sort::Maybe {
-            target: Target::Expression,
-        },
-        15 => Sort::One {
-            target: Target::Statement,
-        },
-        16 => Sort::One {
-            target: Target::Branch,
-        },
-        17 => Sort::Maybe {
-            target: Target::ElseBranch,
-        },
+        12 => Sort::One { target: Text },
+        13 => Sort::One { target: Expression },
+        14 => Sort::Maybe { target: Expression },
+        15 => Sort::One { target: Statement },
+        16 => Sort::One { target: Branch },
+        17 => Sort::Maybe { target: ElseBranch },
         18 => Sort::Many {
-            left: Target::Text,
-            right: Target::Text,
+            left: Text,
+            right: Text,
             step: 1,
         },
         19 => Sort::Many {
-            left: Target::Expression,
-            right: Target::Expression,
+            left: Expression,
+            right: Expression,
             step: 1,
         },
         20 => Sort::Many {
-            left: Target::Expression,
-            right: Target::Expression,
+            left: Expression,
+            right: Expression,
             step: 2,
         },
         21 => Sort::Many {
-            left: Target::Text,
-            right: Target::Expression,
+            left: Text,
+            right: Expression,
             step: 2,
         },
         22 => Sort::Many {
-            left: Target::Statement,
-            right: Target::Statement,
+            left: Statement,
+            right: Statement,
             step: 1,
         },
         23 => Sort::Many {
-            left: Target::Arm,
-            right: Target::Arm,
+            left: Arm,
+            right: Arm,
             step: 1,
         },
         24 => Sort::Range {
@@ -252,90 +265,39 @@ pub fn width_of(sort: Sort) -> usize
     ensures { result ≡ width_of sort }
 {
     match sort {
-        Sort::Raw { width } => width as usize,
-        Sort::Byte { low: _, high: _ } => 1,
-        Sort::Scalar => 4,
-        Sort::Part => 4,
-        Sort::One { target: _ } => 2,
-        Sort::Maybe { target: _ } => 2,
-        Sort::Many {
-            left: _,
-            right: _,
-            step: _,
-        } => 4,
-        Sort::Range { section: _ } => 4,
-        Sort::OperandSort => 1,
+        Sort::Raw { width } => usize::from(width),
+        Sort::Byte { .. } | Sort::OperandSort => 1,
+        Sort::One { .. } | Sort::Maybe { .. } => 2,
+        Sort::Scalar | Sort::Part | Sort::Many { .. } | Sort::Range { .. } => 4,
         Sort::Operand => 8,
     }
 }
 
-fn lowest_in(section: Section) -> u8
-    ensures { result ≡ lowest section }
-{
-    match section {
-        Section::Texts => 2,
-        Section::Lists => 3,
-        Section::Expressions => 16,
-        Section::Statements => 64,
-        Section::Parameters => 80,
-        Section::Clauses => 81,
-        Section::Functions => 82,
-        Section::Calls => 83,
-    }
-}
-
-fn highest_in(section: Section) -> u8
-    ensures { result ≡ highest section }
-{
-    match section {
-        Section::Texts => 2,
-        Section::Lists => 3,
-        Section::Expressions => 57,
-        Section::Statements => 79,
-        Section::Parameters => 80,
-        Section::Clauses => 81,
-        Section::Functions => 82,
-        Section::Calls => 83,
-    }
-}
-
 // Whether a kind is one of a section's.
+#[tactic(auto, unfolding(rl_spec::specs::Schema::in_section))]
 pub fn in_section(section: Section, kind: u8) -> bool
     ensures { result ≡ in_section section kind }
 {
-    if kind < lowest_in(section) {
-        return false;
-    }
-    kind <= highest_in(section)
+    let kinds = match section {
+        Section::Texts => 2..=2,
+        Section::Lists => 3..=3,
+        Section::Expressions => 16..=57,
+        Section::Statements => 64..=79,
+        Section::Parameters => 80..=80,
+        Section::Clauses => 81..=81,
+        Section::Functions => 82..=82,
+        Section::Calls => 83..=83,
+    };
+    kinds.contains(&kind)
 }
 
 pub fn tallest_in(section: Section) -> u16
     ensures { result ≡ tallest section }
 {
     match section {
-        Section::Texts => 1,
-        Section::Lists => 1,
         Section::Expressions => 68,
         Section::Statements => 36,
-        Section::Parameters => 1,
-        Section::Clauses => 1,
-        Section::Functions => 1,
-        Section::Calls => 1,
-    }
-}
-
-pub fn section_at(j: usize) -> Section
-    ensures { result ≡ get_or sections j Section.Calls }
-{
-    match j {
-        0 => Section::Texts,
-        1 => Section::Lists,
-        2 => Section::Expressions,
-        3 => Section::Statements,
-        4 => Section::Parameters,
-        5 => Section::Clauses,
-        6 => Section::Functions,
-        _ => Section::Calls,
+        _ => 1,
     }
 }
 
@@ -354,10 +316,17 @@ pub fn count_in(c: Counts, section: Section) -> u16
     }
 }
 
+// Where the list entries start.
+pub fn lists_at(seen: Counts) -> usize
+    ensures { result ≡ lists_at seen }
+{
+    23 + usize::from(seen.bytes) + usize::from(seen.texts) * 5
+}
+
 // The k-th list entry.
+#[tactic(auto, unfolding(rl_spec::specs::Fields::entry_at))]
 pub fn entry_at(s: &[u8], seen: Counts, k: u32) -> u16
     ensures { result ≡ entry_at s.now seen k }
 {
-    let from = 23 + (seen.bytes as usize) + (seen.texts as usize) * 5;
-    u16_at(s, from + (k as usize) * 3 + 1)
+    u16_at(s, lists_at(seen) + (k as usize) * 3 + 1)
 }

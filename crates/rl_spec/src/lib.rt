@@ -29,31 +29,31 @@ pub struct Counts {
     pub calls: u16,
 }
 
-// Why an argument is refused. `number_of` gives each cause its number.
+// Why an argument is refused, with the number that programs in C see (`number_of`).
 #[derive(Clone, Copy)]
 pub enum Cause {
-    ImageTooLong,
-    WorkTooShort,
-    BytesEnd,
-    WrongKind,
-    CountOverLimit,
-    BadText,
-    BadValue,
-    BadReference,
-    TooHigh,
-    BytesLeft,
-    OtherArena,
-    NoSuchNode,
-    NoSuchCall,
-    ReportsTooShort,
-    NoSuchFunction,
-    HeightOverLimit,
-    OutputTooShort,
-    LimitPassed,
-    WrongValues,
-    NoSuchText,
-    BudgetOverLimit,
-    PagesTooShort,
+    ImageTooLong = 1,
+    WorkTooShort = 2,
+    BytesEnd = 3,
+    WrongKind = 4,
+    CountOverLimit = 5,
+    BadText = 6,
+    BadValue = 7,
+    BadReference = 8,
+    TooHigh = 9,
+    BytesLeft = 10,
+    NoSuchFunction = 11,
+    HeightOverLimit = 12,
+    OutputTooShort = 13,
+    LimitPassed = 14,
+    OtherArena = 15,
+    NoSuchNode = 16,
+    NoSuchCall = 17,
+    ReportsTooShort = 18,
+    WrongValues = 19,
+    NoSuchText = 20,
+    BudgetOverLimit = 21,
+    PagesTooShort = 22,
 }
 
 // A refusal: its cause, and the place in the image. What answers may refuse is a `Result` with this error.
@@ -61,6 +61,17 @@ pub enum Cause {
 pub struct Refusal {
     pub cause: Cause,
     pub place: usize,
+}
+
+impl Cause {
+    ghost use Rattle.std.specs.Prelude.{◌≡◌};
+
+    // A refusal for this cause at a place in the image.
+    pub fn at(self, place: usize) -> Refusal
+        ensures { result ≡ record { cause = self; place = place } }
+    {
+        Refusal { cause: self, place }
+    }
 }
 
 // What is refused for an argument other than the image has place 0.
@@ -260,13 +271,25 @@ pub struct Call {
 // What a record of the section of statements is to the runner; its parts by their indices.
 #[derive(Clone, Copy)]
 pub enum StatementForm {
-    Declaration { name: u16, value: u16 },
+    Declaration {
+        name: u16,
+        value: u16,
+    },
     Expression(u16),
     Return(u16),
     ReturnAlone,
-    Conditional { branch: u16, other: Option<u16> },
-    Branch { condition: Option<u16>, body: Interval },
-    While { condition: u16, body: Interval },
+    Conditional {
+        branch: u16,
+        other: Option<u16>,
+    },
+    Branch {
+        condition: Option<u16>,
+        body: Interval,
+    },
+    While {
+        condition: u16,
+        body: Interval,
+    },
     Loop(Interval),
     Break,
     Continue,

@@ -12,6 +12,7 @@ ghost use Rattle.rl_spec.specs.Words.{bits64, sort_word_of, payload_word_of, wor
 
 pub use literals::{float32, float64, signed8, signed16, signed32, signed64, unsigned64};
 use rl_spec::ConstVal;
+use std::num::f64_to_bits_with_nan;
 pub use values::{value_of_words, value_payload, value_sort};
 
 pub fn bits_of_int(x: i64) -> u64
@@ -21,14 +22,12 @@ pub fn bits_of_int(x: i64) -> u64
     x.cast_unsigned()
 }
 
+#[tactic(auto, using(crate::proofs::Laws::float_back))]
 pub fn bits_of_float(x: f64) -> u64
     ensures value { result ≡ to_bits binary64 x }
     ensures result_value { of_bits binary64 result ≡ x }
 {
-    if x.is_nan() {
-        return 0x7ff8_0000_0000_0000;
-    }
-    x.to_bits()
+    f64_to_bits_with_nan(x)
 }
 
 pub fn sort_word(v: Option<ConstVal>) -> u64
@@ -44,6 +43,7 @@ pub fn sort_word(v: Option<ConstVal>) -> u64
 }
 
 // The value that the words stand for is this one.
+#[tactic(auto, unfolding(rl_spec::specs::Words::words_value))]
 pub fn payload_word(v: Option<ConstVal>) -> u64
     ensures value { result ≡ payload_word_of v }
     ensures result_value { words_value (sort_word_of v) result ≡ v }
@@ -61,9 +61,10 @@ pub fn payload_word(v: Option<ConstVal>) -> u64
 fn text_index(payload: u64) -> u16
     ensures { result ≡ min payload 65535 }
 {
-    u16::try_from(payload).unwrap_or(65535)
+    u16::try_from(payload).unwrap_or(u16::MAX)
 }
 
+#[tactic(auto, unfolding(rl_spec::specs::Words::words_value))]
 pub fn words_value(sort: u64, payload: u64) -> Option<ConstVal>
     ensures { result ≡ words_value sort payload }
 {

@@ -5,6 +5,7 @@ ghost use Rattle.std.specs.Float.{binary32, binary64};
 ghost use Rattle.rl_spec.specs.Tree.{signed, unsigned};
 
 use rl_spec::ConstVal;
+use std::num::{f32_from_bits_with_nan, f64_from_bits_with_nan};
 
 // One for each width, as std's `cast_signed` is a method of each type and of no trait: the blocks of a trait of our own would say the
 // same line once for each width too.
@@ -42,17 +43,11 @@ pub fn unsigned64(n: u64) -> Option<ConstVal>
 pub fn float64(n: u64) -> f64
     ensures { result ≡ of_bits binary64 n }
 {
-    if n % 9223372036854775808 > 9218868437227405312 {
-        return f64::NAN;
-    }
-    f64::from_bits(n)
+    f64_from_bits_with_nan(n)
 }
 
 pub fn float32(n: u32) -> f64
     ensures { result ≡ of_bits binary32 n }
 {
-    if n % 2147483648 > 2139095040 {
-        return f64::NAN;
-    }
-    f64::from(f32::from_bits(n))
+    f64::from(f32_from_bits_with_nan(n))
 }

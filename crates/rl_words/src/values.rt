@@ -10,7 +10,8 @@ fn content(v: Value) -> Option<ConstVal>
     ensures { result ≡ folded_in (content_of v) }
 {
     match v {
-        Value::Plain(Plain::Const(w)) | Value::Ok(Plain::Const(w)) | Value::Err(Plain::Const(w)) => Some(w),
+        Value::Plain(Plain::Const(w)) | Value::Ok(Plain::Const(w)) | Value::Err(Plain::Const(w)) =>
+            Some(w),
         _ => None,
     }
 }
@@ -28,6 +29,7 @@ pub fn value_sort(v: Value) -> u64
 }
 
 // The value that the words stand for is this one.
+#[tactic(auto, using(crate::proofs::Laws::value_back))]
 pub fn value_payload(v: Value) -> u64
     ensures value { result ≡ value_payload v }
     ensures result_value { value_of_words (value_sort v) result ≡ v }
@@ -41,6 +43,7 @@ fn plain_of_words(sort: u64, payload: u64) -> Plain
     words_value(sort, payload).map_or(Plain::Null, Plain::Const)
 }
 
+#[tactic(auto, unfolding(rl_spec::specs::Runner::value_of_words))]
 pub fn value_of_words(sort: u64, payload: u64) -> Value
     ensures { result ≡ value_of_words sort payload }
 {

@@ -4,8 +4,8 @@ use Rattle.rl_arena.proofs.field_second.Goals as goal
 
 ruleset laws = (second_nothing, second_found)
 
-pub returns-in-Field : goal.returns-in-Field
-returns-in-Field c = search (laws, rules)
+pub returns-in-Some : goal.returns-in-Some
+returns-in-Some c = search (laws, rules)
 
-pub returns-in-Nothing : goal.returns-in-Nothing
-returns-in-Nothing c = search (laws, rules)
+pub returns-in-None : goal.returns-in-None
+returns-in-None c = search (laws, rules)
