@@ -19,6 +19,11 @@ use rl_records::ImageRef;
 use rl_schema::{row_of, sort_of, width_of};
 use rl_spec::{Interval, Sort, Target};
 
+// The kinds of expression that are not copied.
+const LAMBDA: u8 = 56;
+
+const RESOLVED_LAMBDA: u8 = 57;
+
 // What is done with a field.
 #[derive(Clone, Copy)]
 enum Plan {
@@ -73,7 +78,7 @@ pub fn deep_clone_expr(
     }
     let start = expression_start(image.starts, id);
     let kind = kind_at(image.bytes, start);
-    if kind == 56 || kind == 57 {
+    if kind == LAMBDA || kind == RESOLVED_LAMBDA {
         return id;
     }
     let row = row_of(rows, kind);

@@ -24,7 +24,7 @@ pub use copy::{deep_clone_expr, word_of};
 pub use kinds::Kind;
 pub use nodes::{list_word, optional_word};
 pub use refinements::{Operand, Predicate};
-use rl_bytes::{get_or, put};
+use rl_bytes::put;
 use rl_encode::{put_number, put_record};
 use rl_spec::Interval;
 use rl_text_out::put_text;
@@ -47,14 +47,33 @@ pub struct Ctx {
     pub full: bool,
 }
 
+// Each section's place in the scratch slice, and how long the slice is.
+const TEXTS: usize = 16384;
+
+const LISTS: usize = 26624;
+
+const EXPRESSIONS: usize = 38912;
+
+const STATEMENTS: usize = 137216;
+
+const SCRATCH: usize = 186496;
+
+// The format's limits.
+const MOST_BYTES: u32 = 16384;
+
+const MOST_TEXTS: u32 = 2048;
+
+const MOST_LISTS: u32 = 4096;
+
+const MOST_EXPRESSIONS: u32 = 4096;
+
+const MOST_STATEMENTS: u32 = 2048;
+
 // Whether so many more would pass a limit.
 fn passes(used: u32, more: usize, most: u32) -> bool
     ensures { result ≡ nat_lt most (used + more) }
 {
-    if most < used {
-        return true;
-    }
-    ((most - used) as usize) < more
+    most < used || ((most - used) as usize) < more
 }
 
 // List entries, from those that wait.
@@ -63,9 +82,8 @@ fn put_entries(scratch: &mut [u8], waiting: &[u16], at: usize, first: usize, cou
     requires count_in_bounds_2 { first + count ≤ length waiting.now }
     ensures { scratch.new ≡ over scratch.old at (encode_records (list_records (take count (drop first waiting.now)))) }
 {
-    for i in 0..count {
-        let entry = get_or(waiting, first + i, 0);
-        put_number(scratch, at + i * 3, 3 + (entry as u64) * 256, 3);
+    for (i, entry) in waiting[first..first + count].iter().enumerate() {
+        put_number(scratch, at + i * 3, 3 + (*entry as u64) * 256, 3);
     }
 }
 
@@ -79,9 +97,9 @@ impl Ctx {
         let index = self.texts;
         let size = text.len();
         if self.full
-            || scratch.len() < 186496
-            || passes(offset, size, 16384)
-            || passes(index, 1, 2048)
+            || scratch.len() < SCRATCH
+            || passes(offset, size, MOST_BYTES)
+            || passes(index, 1, MOST_TEXTS)
         {
             self.full = true;
             return 0;
@@ -89,7 +107,7 @@ impl Ctx {
         put_text(scratch, offset as usize, text);
         put_number(
             scratch,
-            16384 + (index as usize) * 5,
+            TEXTS + (index as usize) * 5,
             2 + (offset as u64) * 256 + (size as u64) * 16777216,
             5,
         );
@@ -103,7 +121,7 @@ impl Ctx {
         ensures { (im : Image) (s w : List ℕ) → Does im 0 1 nothing take_temp (at self.old s w) result (at self.new s w) }
     {
         let n = self.temp_counter;
-        if self.full || 2048 < n {
+        if self.full || MOST_STATEMENTS < n {
             self.full = true;
             return n;
         }
@@ -116,7 +134,7 @@ impl Ctx {
         ensures { (s : List ℕ) → Pushes entry (at self.old s waiting.old) (at self.new s waiting.new) }
     {
         let end = self.waiting;
-        if self.full || 4096 <= end {
+        if self.full || MOST_LISTS <= end {
             self.full = true;
             return;
         }
@@ -132,9 +150,9 @@ impl Ctx {
         let at = self.lists;
         if self.full
             || end < first
-            || scratch.len() < 186496
+            || scratch.len() < SCRATCH
             || waiting.len() < (end as usize)
-            || passes(at, (end - first) as usize, 4096)
+            || passes(at, (end - first) as usize, MOST_LISTS)
         {
             self.full = true;
             return Interval { first: 0, count: 0 };
@@ -143,7 +161,7 @@ impl Ctx {
         put_entries(
             scratch,
             waiting,
-            26624 + (at as usize) * 3,
+            LISTS + (at as usize) * 3,
             first as usize,
             count as usize,
         );
@@ -162,16 +180,16 @@ impl Ctx {
         let index = self.expressions;
         let used = self.expression_bytes as usize;
         if self.full
-            || 186496 < used
-            || scratch.len() < 38912 + used + 65
-            || passes(index, 1, 4096)
+            || SCRATCH < used
+            || scratch.len() < EXPRESSIONS + used + 65
+            || passes(index, 1, MOST_EXPRESSIONS)
         {
             self.full = true;
             return 0;
         }
-        let next = put_record(scratch, 38912 + used, kind.number, kind.row, words);
+        let next = put_record(scratch, EXPRESSIONS + used, kind.number, kind.row, words);
         self.expressions = index + 1;
-        self.expression_bytes = (next - 38912) as u32;
+        self.expression_bytes = (next - EXPRESSIONS) as u32;
         index as u16
     }
 
@@ -182,16 +200,16 @@ impl Ctx {
         let index = self.statements;
         let used = self.statement_bytes as usize;
         if self.full
-            || 186496 < used
-            || scratch.len() < 137216 + used + 65
-            || passes(index, 1, 2048)
+            || SCRATCH < used
+            || scratch.len() < STATEMENTS + used + 65
+            || passes(index, 1, MOST_STATEMENTS)
         {
             self.full = true;
             return 0;
         }
-        let next = put_record(scratch, 137216 + used, kind.number, kind.row, words);
+        let next = put_record(scratch, STATEMENTS + used, kind.number, kind.row, words);
         self.statements = index + 1;
-        self.statement_bytes = (next - 137216) as u32;
+        self.statement_bytes = (next - STATEMENTS) as u32;
         index as u16
     }
 }
