@@ -69,6 +69,13 @@ const MOST_EXPRESSIONS: u32 = 4096;
 
 const MOST_STATEMENTS: u32 = 2048;
 
+// The context, and what was made.
+#[derive(Drop)]
+pub struct Made<T> {
+    pub ctx: Ctx,
+    pub made: T,
+}
+
 // Whether so many more would pass a limit.
 fn passes(used: u32, more: usize, most: u32) -> bool
     ensures { result ≡ nat_lt most (used + more) }
@@ -90,8 +97,8 @@ fn put_entries(scratch: &mut [u8], waiting: &[u16], at: usize, first: usize, cou
 // Where a limit would be passed, the context is full: what else is answered then is left open.
 impl Ctx {
     // A text, even one that the image has.
-    pub fn new_text(&mut self, scratch: &mut [u8], text: &[u8]) -> u16
-        ensures { (im : Image) (k : ℕ) (w : List ℕ) → Does im k k nothing (new_text text.now) (at self.old scratch.old w) result (at self.new scratch.new w) }
+    pub fn new_text(mut self, scratch: &mut [u8], text: &[u8]) -> Made<u16>
+        ensures { (im : Image) (k : ℕ) (w : List ℕ) → Does im k k nothing (new_text text.now) (at self scratch.old w) result.made (at result.ctx scratch.new w) }
     {
         let offset = self.bytes;
         let index = self.texts;
@@ -102,7 +109,7 @@ impl Ctx {
             || passes(index, 1, MOST_TEXTS)
         {
             self.full = true;
-            return 0;
+            return Made { ctx: self, made: 0 };
         }
         put_text(scratch, offset as usize, text);
         put_number(
@@ -113,38 +120,42 @@ impl Ctx {
         );
         self.bytes = offset + (size as u32);
         self.texts = index + 1;
-        index as u16
+        Made {
+            ctx: self,
+            made: index as u16,
+        }
     }
 
     // The number of a temporary, which is then taken.
-    pub fn take_temp(&mut self) -> u32
-        ensures { (im : Image) (s w : List ℕ) → Does im 0 1 nothing take_temp (at self.old s w) result (at self.new s w) }
+    pub fn take_temp(mut self) -> Made<u32>
+        ensures { (im : Image) (s w : List ℕ) → Does im 0 1 nothing take_temp (at self s w) result.made (at result.ctx s w) }
     {
         let n = self.temp_counter;
         if self.full || MOST_STATEMENTS < n {
             self.full = true;
-            return n;
+            return Made { ctx: self, made: n };
         }
         self.temp_counter = n + 1;
-        n
+        Made { ctx: self, made: n }
     }
 
     // An entry of a list that is being made.
-    pub fn push(&mut self, waiting: &mut [u16], entry: u16)
-        ensures { (s : List ℕ) → Pushes entry (at self.old s waiting.old) (at self.new s waiting.new) }
+    pub fn push(mut self, waiting: &mut [u16], entry: u16) -> Ctx
+        ensures { (s : List ℕ) → Pushes entry (at self s waiting.old) (at result s waiting.new) }
     {
         let end = self.waiting;
         if self.full || MOST_LISTS <= end {
             self.full = true;
-            return;
+            return self;
         }
         put(waiting, end as usize, entry);
         self.waiting = end + 1;
+        self
     }
 
     // The entries that wait, but for the first so many, as a list.
-    pub fn new_list(&mut self, scratch: &mut [u8], waiting: &[u16], first: u32) -> Interval
-        ensures { Listed first (at self.old scratch.old waiting.now) result (at self.new scratch.new waiting.now) }
+    pub fn new_list(mut self, scratch: &mut [u8], waiting: &[u16], first: u32) -> Made<Interval>
+        ensures { Listed first (at self scratch.old waiting.now) result.made (at result.ctx scratch.new waiting.now) }
     {
         let end = self.waiting;
         let at = self.lists;
@@ -155,7 +166,10 @@ impl Ctx {
             || passes(at, (end - first) as usize, MOST_LISTS)
         {
             self.full = true;
-            return Interval { first: 0, count: 0 };
+            return Made {
+                ctx: self,
+                made: Interval { first: 0, count: 0 },
+            };
         }
         let count = end - first;
         put_entries(
@@ -167,15 +181,18 @@ impl Ctx {
         );
         self.lists = at + count;
         self.waiting = first;
-        Interval {
-            first: at as u16,
-            count: count as u16,
+        Made {
+            ctx: self,
+            made: Interval {
+                first: at as u16,
+                count: count as u16,
+            },
         }
     }
 
     // A record of the expressions, with its span.
-    pub fn new_expression(&mut self, scratch: &mut [u8], kind: Kind, words: &[u64]) -> u16
-        ensures { (im : Image) (k : ℕ) (w : List ℕ) → codes kind.row ≡ fields_of kind.number → Does im k k nothing (append Expressions (word_record kind.number words.now ∷ [])) (at self.old scratch.old w) result (at self.new scratch.new w) }
+    pub fn new_expression(mut self, scratch: &mut [u8], kind: Kind, words: &[u64]) -> Made<u16>
+        ensures { (im : Image) (k : ℕ) (w : List ℕ) → codes kind.row ≡ fields_of kind.number → Does im k k nothing (append Expressions (word_record kind.number words.now ∷ [])) (at self scratch.old w) result.made (at result.ctx scratch.new w) }
     {
         let index = self.expressions;
         let used = self.expression_bytes as usize;
@@ -185,17 +202,20 @@ impl Ctx {
             || passes(index, 1, MOST_EXPRESSIONS)
         {
             self.full = true;
-            return 0;
+            return Made { ctx: self, made: 0 };
         }
         let next = put_record(scratch, EXPRESSIONS + used, kind.number, kind.row, words);
         self.expressions = index + 1;
         self.expression_bytes = (next - EXPRESSIONS) as u32;
-        index as u16
+        Made {
+            ctx: self,
+            made: index as u16,
+        }
     }
 
     // A record of the statements, the same way.
-    pub fn new_statement(&mut self, scratch: &mut [u8], kind: Kind, words: &[u64]) -> u16
-        ensures { (im : Image) (k : ℕ) (w : List ℕ) → codes kind.row ≡ fields_of kind.number → Does im k (k - 1) nothing (append Statements (word_record kind.number words.now ∷ [])) (at self.old scratch.old w) result (at self.new scratch.new w) }
+    pub fn new_statement(mut self, scratch: &mut [u8], kind: Kind, words: &[u64]) -> Made<u16>
+        ensures { (im : Image) (k : ℕ) (w : List ℕ) → codes kind.row ≡ fields_of kind.number → Does im k (k - 1) nothing (append Statements (word_record kind.number words.now ∷ [])) (at self scratch.old w) result.made (at result.ctx scratch.new w) }
     {
         let index = self.statements;
         let used = self.statement_bytes as usize;
@@ -205,11 +225,14 @@ impl Ctx {
             || passes(index, 1, MOST_STATEMENTS)
         {
             self.full = true;
-            return 0;
+            return Made { ctx: self, made: 0 };
         }
         let next = put_record(scratch, STATEMENTS + used, kind.number, kind.row, words);
         self.statements = index + 1;
         self.statement_bytes = (next - STATEMENTS) as u32;
-        index as u16
+        Made {
+            ctx: self,
+            made: index as u16,
+        }
     }
 }

@@ -11,7 +11,7 @@ pub put_record-next-requires : goal.put_record-next-requires
 put_record-next-requires c = search (laws, rules)
 
 pub overflow_cast-self : goal.overflow_cast-self
-overflow_cast-self c = omega (arith, record_ends c.args.kind.number c.args.kind.row c.args.words.now 38912 c.args.self.now.expression_bytes _ c.if-used-gt-SCRATCH.false c.put_record-next.ensures.value)
+overflow_cast-self c = omega (arith, record_ends c.args.kind.number c.args.kind.row c.args.words.now 38912 c.args.self.expression_bytes _ c.if-used-gt-SCRATCH.false c.put_record-next.ensures.value)
 
 pub returns-then-self : goal.returns-then-self
 returns-then-self c im k w e =

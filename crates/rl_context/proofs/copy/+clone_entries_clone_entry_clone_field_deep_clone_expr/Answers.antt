@@ -13,7 +13,7 @@ clone_entries-loop-i-preserved t c = (
   search rules,
   (
     search rules,
-    λ r h. entries_more _ _ _ _ _ _ _ _ _ _ _ _ _ (c.loop-i.invariant.1.1 r h) c.loop-i-test.true _ _ (c.entry-n.ensures _) (c.clone_entry.ensures r h),
+    λ r h. entries_more _ _ _ _ _ _ _ _ _ _ _ _ _ (c.loop-i.invariant.1.1 r h) c.loop-i-test.true _ _ (c.entry-n.ensures _) (c.clone_entry-ctx.ensures r h),
   ),
 )
 
@@ -40,13 +40,13 @@ clone_field-returns-in-Keep t c = λ r h k. field_kept _ _ _ _ _ _ _ _ c.sort_of
 pub clone_field-returns-else-id-child : goal.clone_field-returns-else-id-child
 clone_field-returns-else-id-child t c = λ r h k.
     field_copied _ _ _ _ _ _ _ _ c.sort_of.ensures c.plan_of.ensures _ c.in-Node.is c.u16_at-child.ensures _ _ _ c.if-id-child.false
-    (c.deep_clone_expr.ensures r (omega (arith, c.if-id-child.false, h)))
+    (c.deep_clone_expr-copy.ensures r (omega (arith, c.if-id-child.false, h)))
 
 pub clone_field-returns-in-List : goal.clone_field-returns-in-List
 clone_field-returns-in-List t c = λ r h k.
     field_listed _ _ _ _ _ _ _ _ c.sort_of.ensures c.plan_of.ensures _ _ c.in-List.is _ _ c.u16_at.ensures c.second_u16.ensures _ _ _ _ _ _ k refl
-    (c.clone_entries.ensures r h (list_fits _ _ _ _ _ _ _ _ c.sort_of.ensures c.plan_of.ensures _ _ c.in-List.is _ _ c.u16_at.ensures c.second_u16.ensures k))
-    c.new_list.ensures c.list_word.ensures
+    (c.clone_entries-entries.ensures r h (list_fits _ _ _ _ _ _ _ _ c.sort_of.ensures c.plan_of.ensures _ _ c.in-List.is _ _ c.u16_at.ensures c.second_u16.ensures k))
+    c.new_list-copy.ensures c.list_word.ensures
 
 pub deep_clone_expr-returns-then-ctx : goal.deep_clone_expr-returns-then-ctx
 deep_clone_expr-returns-then-ctx t c = λ r h. copies_full _ _ _ _ _ _ h refl refl _ _ _ c.if-ctx.true c.if-ctx.true
@@ -91,8 +91,8 @@ deep_clone_expr-loop-rest-preserved t c = (
         (
           place_left _ _ _ c.loop-rest.invariant.1.1.1.1.0 (width_small _ _ c.sort_of.ensures _ c.width_of-place.ensures),
           (
-            still_eight c.loop-rest.words _ c.loop-rest.j c.clone_field-word.result c.loop-rest.invariant.1.1.1.1.1.0 c.put.ensures,
-            λ r h. copying_more _ _ _ _ _ _ _ _ _ _ _ _ (c.loop-rest.invariant.1.1.1.1.1.1 r h) c.loop-rest-test.true _ _ _ _ (c.clone_field-word.ensures r h (copying_field _ _ _ _ _ _ _ _ _ _ _ _ (c.loop-rest.invariant.1.1.1.1.1.1 r h) c.loop-rest-test.true)) (c.width_of-place.ensures ∙ ap width_of c.sort_of.ensures) c.put.ensures,
+            still_eight c.loop-rest.words _ c.loop-rest.j c.clone_field-field.result.made c.loop-rest.invariant.1.1.1.1.1.0 c.put.ensures,
+            λ r h. copying_more _ _ _ _ _ _ _ _ _ _ _ _ (c.loop-rest.invariant.1.1.1.1.1.1 r h) c.loop-rest-test.true _ _ _ _ (c.clone_field-field.ensures r h (copying_field _ _ _ _ _ _ _ _ _ _ _ _ (c.loop-rest.invariant.1.1.1.1.1.1 r h) c.loop-rest-test.true)) (c.width_of-place.ensures ∙ ap width_of c.sort_of.ensures) c.put.ensures,
           ),
         ),
       ),
