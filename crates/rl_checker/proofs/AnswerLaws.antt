@@ -1,6 +1,6 @@
 -- One law for each way out of `prove` and `prove_all`.
 -- Assumes nothing.
-use Prim.Native.Nat.{ℕ, ◌+◌, ◌-◌, ◌/◌, ◌≤◌, ◌<◌, min}
+use Prim.Native.Nat.{ℕ, ◌+◌, ◌-◌, ◌≤◌, ◌<◌, min}
 use mathlib.Core.Path.{◌≡◌, refl, sym, ap, subst, ◌∙◌}
 use mathlib.Core.List.{List, [], append-nil}
 use native.Mathlib.Omega.{arith}
@@ -10,7 +10,7 @@ use mir.Val.{Fits}
 use borrow.Author.Tests.{lt-ltb, le-ltb}
 use Rattle.rl_laws.specs.Tests.{by_ltb}
 use Rattle.rl_spec.specs.Answers.{Answer, accepted, refused, at_zero, ProveAnswer}
-use Rattle.std.specs.Prelude.{Ok, Err}
+use Rattle.std.specs.Prelude.{Err}
 use Rattle.rl_spec.specs.declared.ArenaNo.{ArenaNo}
 use Rattle.rl_spec.specs.declared.Cause.TheVariants.{NoSuchCall, ReportsTooShort}
 use Rattle.rl_spec.specs.declared.Counts.{Counts}
@@ -55,14 +55,6 @@ module _ (l e : List ℕ) (at room : ℕ) (n : length l ≡ room) (sh : Shown l 
       by_ltb room (length e)
       (λ h. rw (n, ← p, lt-ltb room (length e) h, m) (zeros_unless ReportsTooShort s k))
       (λ h. rw (n, ← p, le-ltb room (length e) h) w)
-
-pub fitted_short : (room at : ℕ) (r : Refusal) → room < at → r ≡ at_zero ReportsTooShort → Err r ≡ fitting_at room at
-unfolding fitting_at
-fitted_short room at r h e = rw (lt-ltb room at h) (ap Err e)
-
-pub fitted_all : (room at : ℕ) → at ≤ room → Ok (at / 4) ≡ fitting_at room at
-unfolding fitting_at
-fitted_all room at h = rw (le-ltb room at h) refl
 
 -- ---- an accepted image
 

@@ -35,6 +35,7 @@ fn prove_each(
 }
 
 // The same with classes and scratch of its own.
+#[tactic(auto, using(crate::proofs::ProveLaws::calls_prove))]
 fn prove_calls(image: ImageRef, first: u16, end: u16, reports: &mut [u32]) -> usize
     requires order { first ≤ end }
     requires few { end ≤ first + 256 }
@@ -59,6 +60,7 @@ fn prove_calls(image: ImageRef, first: u16, end: u16, reports: &mut [u32]) -> us
 }
 
 // Answers for entries up to a place, or refuses a slice that is too short for them; then both slices are cleared.
+#[tactic(auto, unfolding(crate::specs::Entries::fitting_at, rl_prover::specs::Reports::kept_at))]
 fn fitted(work: &mut [u16], reports: &mut [u32], at: usize) -> Result<u32, Refusal>
     requires { at ≤ 134215680 }
     ensures value { result ≡ fitting_at (length reports.old) at }
