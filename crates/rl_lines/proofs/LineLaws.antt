@@ -170,11 +170,6 @@ module _ (s p : List ℕ) (c : Counts) (kn : Known s p c) (lines : Lines) (a : l
         pub message_out_lem : (w : List ℕ) → Roomy (w ≡ with_text l 0 (opening ++ message_by (image_found s p c) lines.function v)) → w ≡ padded 65535 (message_at im lines.call number)
         message_out_lem w g = g room ∙ ap (with_text l 0) message_is ∙ put_whole n l _ z told ∙ ap (λ (k : ℕ). padded k (message_at im lines.call number)) m
 
--- ---- the length of a message
-
-pub message_word : (s p : List ℕ) (c : Counts) → Known s p c → (call number n : ℕ) → n ≡ length (message_at (image_of s) call number) → Fits w32 n
-message_word s p c kn call number n e = omega (arith, e, message_fits (image_of s) kn.whole call number)
-
 -- ---- a refusal
 
 module _ (q : Cause) (place n : ℕ) (l : List ℕ) (m : n ≡ 65536) (z : l ≡ replicate n 0) where
