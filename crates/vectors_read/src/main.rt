@@ -15,7 +15,8 @@ impl Replay for Reading {
     // The work slice is not zero beforehand, so that a reader that does not clear it is seen.
     fn replay(rt: &impl Print, case: &Case<'_>) -> Result<(), Stop> {
         let mut space = [65535u16; 9000];
-        match space.get_mut(..case.number(0) as usize) {
+        let work_len = case.number(0) as usize;
+        match space.get_mut(..work_len) {
             Some(work) => {
                 match rl_ast::read(case.image, work) {
                     Ok(accepted) => print_accepted(rt, accepted.counts, work)?,
