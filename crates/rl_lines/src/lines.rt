@@ -46,7 +46,15 @@ pub fn lines_with(
     ensures reports_after { reports.new ≡ entries_for (image_of opened.entry.image.bytes.now) call }
 {
     reports.fill(0);
-    let end = prove_call(opened.image, opened.classes, call, names, memory, reports, 0);
+    let end = prove_call(
+        opened.image,
+        opened.classes,
+        call,
+        names,
+        memory,
+        reports,
+        0,
+    );
     let record = opened.image.call(call);
     let callee = find_callee(opened.image, opened.classes, record.callee);
     Lines {

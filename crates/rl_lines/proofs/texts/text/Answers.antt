@@ -1,5 +1,5 @@
 use mathlib.Core.Path.{refl, ap, ◌∙◌}
-use Rattle.std.proofs.Common.{rules, Err}
+use Rattle.std.proofs.Common.{Err}
 use Rattle.rl_lines.proofs.AnswerLaws.{text_unread_work, text_missing, text_missing_work, text_found, text_found_work}
 use Rattle.rl_lines.proofs.texts.text.Goals as goal
 
