@@ -26,7 +26,7 @@ use Rattle.rl_spec.specs.Ranges.{up_from, optional, optional_field}
 use Rattle.rl_spec.specs.Make.{Context, Make, and_then, ◌>>=◌, give, image_so_far, append, made, new_list, stmt, each, flat_map, entries_of}
 use Rattle.rl_spec.specs.Lower.{expr, wrap_return, transform_list, transform_branch_by, transform_branch, transform_else, transform_arm_by, transform_arm, conditional, match, only, transform_statement_by, transform_statement}
 use mir.Val.{Fits}
-use mir.Syntax.{w16, w64}
+use mir.Syntax.{w64}
 use Rattle.rl_laws.specs.Descend.{descend_is}
 use Rattle.rl_laws.specs.Found.{size_found}
 use Rattle.rl_laws.specs.Tests.{by_eqb}
@@ -476,6 +476,3 @@ place_fits start kind place h e = omega (arith, subst (λ z. z ≤ 11) (sym e) (
     low false false false false false true i = omega arith
     low false false false false false false true = omega arith
     low false false false false false false false = omega arith
-
-pub next_fits : (i count : ℕ) → i < count → count < 65536 → Fits w16 (i + 1)
-next_fits i count h k = omega arith
