@@ -12,9 +12,7 @@ use Rattle.rl_spec.specs.declared.Counts.{Counts}
 use Rattle.rl_spec.specs.declared.Section.TheVariants.{Statements}
 use Rattle.rl_spec.specs.declared.Sort.{Sort}
 use Rattle.rl_spec.specs.Schema.{sort_of, width_of, fields_of}
-use Rattle.rl_spec.specs.Answers.{Optional}
-use Rattle.rl_spec.specs.Ranges.{optional_field}
-use Rattle.rl_spec.specs.Image.{Field, num, record_of, first, field_in, fields_at}
+use Rattle.rl_spec.specs.Image.{Field, record_of, field_in, fields_at}
 use Rattle.rl_spec.specs.Found.{record_as, record_found, image_found}
 use Rattle.rl_spec.specs.Make.{append, made}
 use Rattle.rl_laws.specs.Found.{record_found_lem}
@@ -151,10 +149,3 @@ module _ (s p : List ℕ) (c : Counts) (id start kind : ℕ) (h : id < c.stateme
     pub makes_rebuilt : (t : State) (index : ℕ) (u : State) → Makes (image_found s p c) (append Statements (word_record kind vs ∷ [])) t index u →
         Makes (image_found s p c) (append Statements (rebuilt (record_of (image_found s p c) Statements id) j w k v ∷ [])) t index u
     makes_rebuilt t index u d = subst (λ x. Makes (image_found s p c) (append Statements (x ∷ [])) t index u) record_rebuilt d
-
--- a conditional's other branch, by its word
-pub same_other : (s p : List ℕ) (c : Counts) (id m : ℕ) (o : Optional) (word : ℕ) (t : State) (index : ℕ) (u : State) → num word ≡ optional_field o →
-    Makes (image_found s p c) (append Statements (rebuilt (record_of (image_found s p c) Statements id) 1 m 2 word ∷ [])) t index u →
-    Makes (image_found s p c) (append Statements (rebuilt (record_of (image_found s p c) Statements id) 1 m 2 (first (optional_field o)) ∷ [])) t index u
-same_other s p c id m o word t index u e d =
-    subst (λ n. Makes (image_found s p c) (append Statements (rebuilt (record_of (image_found s p c) Statements id) 1 m 2 n ∷ [])) t index u) (ap first e) d
