@@ -93,9 +93,6 @@ module _ (im : Image) (params : Interval) (start : State) where
   adds_guard : (p : Param ℕ) → Adds (guard_for im p)
   adds_guard p = adds_refinement im p.name p.refinement
 
-  pub guards_none : Guarded im params start start 0
-  guards_none = gather_none im (param_of im) (guard_for im) adds_guard params.first params.count start
-
   module _ (of : Image) (function : ℕ) (same : im ≡ of) (e : params ≡ (function_at of function).params)
       (here : State) (i : ℕ) (w : Guarded im params start here i) where
     pub guards_more : (next : State) → i < params.count → Gathers im 0 (guard_in of function i) here next → Guarded im params start next (i + 1)
