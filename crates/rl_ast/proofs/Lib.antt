@@ -1,2 +1,2 @@
-pub mod ReaderLaws
 pub mod ListLaws
+pub mod ReadLaws

@@ -22,42 +22,6 @@ use Rattle.rl_spec.specs.Fields.{height_step, record_at, fields_from, field_at, 
 use Rattle.rl_spec.specs.Read.{after, bad, out_of, records_from}
 use Rattle.rl_laws.specs.Tests.{by_ltb}
 use Rattle.rl_ast.specs.Lists.{lists_from}
-use Rattle.rl_fields.proofs.FieldLaws.{turn, ended}
-use Rattle.rl_fields.proofs.RecordLaws.{there}
-
--- ---- the loop
-
-module _ (s : List ℕ) (n i at : ℕ) (whole : Step) (v : whole ≡ lists_from s (n - i) at) where
-  pub lists_end : n ≤ i → goes_on at 0 ≡ whole
-  unfolding lists_from
-  lists_end q = rw (v, ended n i q) refl
-
-  module _ (q : i < n) (b : Bool) (e : b ≡ past s at 1) where
-    pub lists_past : b ≡ true → refused BytesEnd at ≡ whole
-    unfolding lists_from
-    lists_past f = rw (v, turn n i q, ← e, f) refl
-
-    module _ (f : b ≡ false) where
-      pub lists_kind : (get_or s at 0 ≡ 3 → ⊥) → refused WrongKind at ≡ whole
-      unfolding lists_from
-      lists_kind g = rw (v, turn n i q, ← e, f, ne_eqb (get_or s at 0) 3 g) refl
-
-      module _ (g : get_or s at 0 ≡ 3) (d : Bool) (h : d ≡ past s (at + 1) 2) where
-        pub lists_short : d ≡ true → refused BytesEnd (at + 1) ≡ whole
-        unfolding lists_from
-        lists_short x = rw (v, turn n i q, ← e, f, eq-eqb (get_or s at 0) 3 g, ← h, x) refl
-
-        pub lists_more : d ≡ false → whole ≡ lists_from s (n - (i + 1)) (at + 1 + 2)
-        unfolding lists_from
-        lists_more x = rw (v, turn n i q, ← e, f, eq-eqb (get_or s at 0) 3 g, ← h, x) refl
-
-pub lists_start : (s : List ℕ) (n at : ℕ) → lists_from s n at ≡ lists_from s (n - 0) at
-lists_start s n at =
-    let a : n - 0 ≡ n = omega arith in
-    rw a
-
-pub three_fit : (s : List ℕ) (at : ℕ) (d : Bool) → d ≡ past s (at + 1) 2 → d ≡ false → Fits w64 (length s) → Fits w64 (at + 1 + 2)
-three_fit s at d e f l = omega (arith, there s (at + 1) 2 d e f)
 
 -- ---- against the definition
 
@@ -90,7 +54,7 @@ lists_are s c zero i at w p = refl
 lists_are s c (suc n) i at w p =
     rw (entry s w p c at) (go (past s at 1) (eqb (get_or s at 0) 3) (past s (at + 1) 2) (lists_are s c n (i + 1) (at + 1 + 2) w p))
   where
-    go : (x y z : Bool) → out_of (lists_from s n (at + 1 + 2)) w p ≡ records_from s c Lists n (i + 1) (at + 1 + 2) w p → out_of (cond x (Err r) (cond y (cond z (refused BytesEnd (at + 1)) (lists_from s n (at + 1 + 2))) (Err r1))) w p ≡ after (cond x (Err r1) (cond y (cond z (refused BytesEnd (at + 1)) (goes_on (at + 1 + 2) 1)) (Err r1))) (λ a t. records_from s c Lists n (i + 1) a w p) bad
+    go : (x y z : Bool) → out_of (lists_from s n (at + 1 + 2)) w p ≡ records_from s c Lists n (i + 1) (at + 1 + 2) w p → out_of (cond x (refused BytesEnd at) (cond y (cond z (refused BytesEnd (at + 1)) (lists_from s n (at + 1 + 2))) (refused WrongKind at))) w p ≡ after (cond x (refused BytesEnd at) (cond y (cond z (refused BytesEnd (at + 1)) (goes_on (at + 1 + 2) 1)) (refused WrongKind at))) (λ a t. records_from s c Lists n (i + 1) a w p) bad
     go true y z f = refl
     go false true true f = refl
     go false true false f = f

@@ -1,78 +1,65 @@
 // The reader: the header, the sections, the whole.
-ghost use Rattle.std.specs.Prelude.{◌≡◌, ◌≤◌, length, get_or};
-ghost use Rattle.rl_schema.specs.Codes.{table};
+ghost use Rattle.std.specs.Prelude.{◌≡◌, ◌≤◌, length, cond, Ok};
+ghost use Rattle.std.specs.Prelude.{◌+◌};
+ghost use Rattle.std.specs.Result.{IfOk};
 ghost use Rattle.rl_ast.specs.Lists.{lists_from};
-ghost use Rattle.rl_spec.specs.Schema.{limits, sections};
+ghost use Rattle.rl_spec.specs.Answers.{refused};
+ghost use Rattle.rl_spec.specs.Bytes.{past};
+ghost use Rattle.rl_spec.specs.Schema.{count_of};
 ghost use Rattle.rl_spec.specs.Read.{counts_of, counts_from, header_of, seen_by, keep, out_of, records_from, sections_from, body_of, content_of, answer_of, work_of, starts_of};
 
 use rl_bytes::{get_or, is_past, put, u16_at, u32_at};
-use rl_fields::record;
-use rl_schema::{count_in, schema_table, section_at};
-use rl_spec::{Answer, ArenaNo, Cause, Counts, Section, Step};
+use rl_fields::Scope;
+use rl_schema::{SECTIONS, count_in};
+use rl_spec::{Accepted, ArenaNo, Cause, Counts, Next, Refusal, Section};
 
-// The largest count that the header may have at j.
-fn limit_at(j: usize) -> u16
-    ensures { result ≡ get_or limits j 256 }
+// The longest image, and the shortest work slice.
+const LONGEST: usize = 65535;
+const SHORTEST_WORK: usize = 8192;
+
+// The largest counts that the header may have, in its order.
+const LIMITS: [u16; 9] = [16384, 2048, 4096, 4096, 2048, 256, 256, 64, 256];
+
+// Refuses where n bytes at a place run past the end.
+#[tactic(auto, unfolding(rl_spec::specs::Bytes::past))]
+fn have(s: &[u8], at: usize, n: usize) -> Result<(), Refusal>
+    ensures step { result ≡ cond (past s.now at n) (refused Cause.BytesEnd at) (Ok tt) }
+    ensures there { IfOk result (λ u. at + n ≤ length s.now) }
 {
-    match j {
-        0 => 16384,
-        1 => 2048,
-        2 => 4096,
-        3 => 4096,
-        4 => 2048,
-        7 => 64,
-        _ => 256,
+    if is_past(s, at, n) {
+        return Err(Cause::BytesEnd.at(at));
     }
+    Ok(())
 }
 
-fn count_step(s: &[u8]) -> Step
-    ensures { result ≡ counts_from s.now limits 5 }
+#[tactic(auto, unfolding(rl_spec::specs::Read::counts_from))]
+fn count_step(s: &[u8], limits: &[u16]) -> Result<Next, Refusal>
+    ensures { result ≡ counts_from s.now limits.now 5 }
 {
     let mut at = 5;
-    let mut j = 0;
-    while j < 9 {
-        if is_past(s, at, 2) {
-            return Step::Stop {
-                cause: Cause::BytesEnd,
-                place: at,
-            };
-        }
-        if limit_at(j) < u16_at(s, at) {
-            return Step::Stop {
-                cause: Cause::CountOverLimit,
-                place: at,
-            };
+    for &most in limits {
+        have(s, at, 2)?;
+        if most < u16_at(s, at) {
+            return Err(Cause::CountOverLimit.at(at));
         }
         at += 2;
-        j += 1;
     }
-    Step::Next { at, tall: 0 }
+    Ok(Next { at, tall: 0 })
 }
 
-fn header(s: &[u8]) -> Step
+#[tactic(auto, unfolding(rl_spec::specs::Read::header_of, rl_spec::specs::Schema::limits))]
+fn header(s: &[u8]) -> Result<Next, Refusal>
     ensures { result ≡ header_of s.now }
 {
-    if is_past(s, 0, 1) {
-        return Step::Stop {
-            cause: Cause::BytesEnd,
-            place: 0,
-        };
+    have(s, 0, 1)?;
+    if get_or(s, 0, 0) != 1 {
+        return Err(Cause::WrongKind.at(0));
     }
-    if get_or(s, 0, 0) == 1 {
-        if is_past(s, 1, 4) {
-            return Step::Stop {
-                cause: Cause::BytesEnd,
-                place: 1,
-            };
-        }
-        return count_step(s);
-    }
-    Step::Stop {
-        cause: Cause::WrongKind,
-        place: 0,
-    }
+    have(s, 1, 4)?;
+    count_step(s, &LIMITS)
 }
 
+#[tactic(auto, unfolding(rl_spec::specs::Read::counts_of))]
 fn header_counts(s: &[u8]) -> Counts
     ensures { result ≡ counts_of s.now }
 {
@@ -89,52 +76,28 @@ fn header_counts(s: &[u8]) -> Counts
     }
 }
 
-// What an expression, or a statement, may refer to.
-fn seen_by_expression(c: Counts, i: u16) -> Counts
-    ensures { result ≡ seen_by c Section.Expressions i }
+// What the i-th record of a section may refer to.
+fn seen_by(c: Counts, own: Section, i: u16) -> Counts
+    ensures { result ≡ seen_by c own i }
 {
-    Counts {
-        bytes: c.bytes,
-        texts: c.texts,
-        lists: c.lists,
-        expressions: i,
+    let earlier = Counts {
         statements: 0,
         parameters: 0,
         clauses: 0,
         functions: 0,
         calls: 0,
-    }
-}
-
-fn seen_by_statement(c: Counts, i: u16) -> Counts
-    ensures { result ≡ seen_by c Section.Statements i }
-{
-    Counts {
-        bytes: c.bytes,
-        texts: c.texts,
-        lists: c.lists,
-        expressions: c.expressions,
-        statements: i,
-        parameters: 0,
-        clauses: 0,
-        functions: 0,
-        calls: 0,
-    }
-}
-
-// What the i-th record of a section may refer to.
-fn seen_by(c: Counts, own: Section, i: u16) -> Counts
-    ensures { result ≡ seen_by c own i }
-{
+        ..c
+    };
     match own {
-        Section::Texts => c,
-        Section::Lists => c,
-        Section::Expressions => seen_by_expression(c, i),
-        Section::Statements => seen_by_statement(c, i),
-        Section::Parameters => c,
-        Section::Clauses => c,
-        Section::Functions => c,
-        Section::Calls => c,
+        Section::Expressions => Counts {
+            expressions: i,
+            ..earlier
+        },
+        Section::Statements => Counts {
+            statements: i,
+            ..earlier
+        },
+        _ => c,
     }
 }
 
@@ -142,224 +105,159 @@ fn seen_by(c: Counts, own: Section, i: u16) -> Counts
 fn keep_number(c: Counts, own: Section, i: u16, x: u16, w: &mut [u16])
     ensures { w.new ≡ keep c own i x w.old }
 {
-    let first = c.expressions as usize;
+    let first = usize::from(c.expressions);
     match own {
-        Section::Texts => {}
-        Section::Lists => {}
-        Section::Expressions => put(w, i as usize, x),
-        Section::Statements => put(w, first + (i as usize), x),
-        Section::Parameters => {}
-        Section::Clauses => {}
-        Section::Functions => {}
-        Section::Calls => {}
+        Section::Expressions => put(w, usize::from(i), x),
+        Section::Statements => put(w, first + usize::from(i), x),
+        _ => {}
     }
 }
 
 // The records of a section.
+#[tactic(auto, using(rl_fields::proofs::FieldLaws::turn), unfolding(rl_spec::specs::Read::records_from))]
 fn records(
     s: &[u8],
-    rows: &[u64],
     c: Counts,
     own: Section,
-    count: u16,
     start: usize,
     w: &mut [u16],
     p: &mut [u16],
-) -> Step
+) -> Result<Next, Refusal>
     requires s_len_bound { length s.now ≤ 65535 }
-    requires rows_value { rows.now ≡ table }
-    ensures { out_of result w.new p.new ≡ records_from s.now c own count 0 start w.old p.old }
+    ensures { out_of result w.new p.new ≡ records_from s.now c own (count_of c own) 0 start w.old p.old }
 {
     let mut at = start;
-    let mut i: u16 = 0;
-    while i < count {
-        let step = record(s, rows, w, p, seen_by(c, own, i), own, at);
-        match step {
-            Step::Next { at: a, tall } => {
-                keep_number(c, own, i, tall, w);
-                keep_number(c, own, i, at as u16, p);
-                at = a;
-            }
-            Step::Stop { cause, place } => {
-                return Step::Stop { cause, place };
-            }
-        }
-        i += 1;
+    for i in 0..count_in(c, own) {
+        let scope = Scope {
+            image: s,
+            heights: w,
+            starts: p,
+            seen: seen_by(c, own, i),
+            own,
+        };
+        let next = scope.record(at)?;
+        keep_number(c, own, i, next.tall, w);
+        keep_number(c, own, i, at as u16, p);
+        at = next.at;
     }
-    Step::Next { at, tall: 0 }
+    Ok(Next { at, tall: 0 })
 }
 
 // The list entries: records of one kind whose only field may hold any number.
-fn list_records(s: &[u8], count: u16, start: usize) -> Step
+#[tactic(auto, using(rl_fields::proofs::FieldLaws::turn), unfolding(crate::specs::Lists::lists_from))]
+fn list_records(s: &[u8], count: u16, start: usize) -> Result<Next, Refusal>
     ensures { result ≡ lists_from s.now count start }
 {
     let mut at = start;
-    let mut i: u16 = 0;
-    while i < count {
-        if is_past(s, at, 1) {
-            return Step::Stop {
-                cause: Cause::BytesEnd,
-                place: at,
-            };
+    for _ in 0..count {
+        have(s, at, 1)?;
+        if s[at] != 3 {
+            return Err(Cause::WrongKind.at(at));
         }
-        let kind = s[at];
-        if kind != 3 {
-            return Step::Stop {
-                cause: Cause::WrongKind,
-                place: at,
-            };
-        }
-        if is_past(s, at + 1, 2) {
-            return Step::Stop {
-                cause: Cause::BytesEnd,
-                place: at + 1,
-            };
-        }
+        have(s, at + 1, 2)?;
         at = at + 1 + 2;
-        i += 1;
     }
-    Step::Next { at, tall: 0 }
+    Ok(Next { at, tall: 0 })
 }
 
 // The records of a section. List entries have their own loop, and the two large sections their own calls, which the compiler makes
 // loops of their own of.
+#[tactic(auto, using(crate::proofs::ListLaws::lists_section))]
 fn section_records(
     s: &[u8],
-    rows: &[u64],
     c: Counts,
     own: Section,
-    count: u16,
     start: usize,
     w: &mut [u16],
     p: &mut [u16],
-) -> Step
+) -> Result<Next, Refusal>
     requires s_len_bound { length s.now ≤ 65535 }
-    requires rows_value { rows.now ≡ table }
-    ensures { out_of result w.new p.new ≡ records_from s.now c own count 0 start w.old p.old }
+    ensures { out_of result w.new p.new ≡ records_from s.now c own (count_of c own) 0 start w.old p.old }
 {
-    if let Section::Lists = own {
-        return list_records(s, count, start);
+    match own {
+        Section::Lists => list_records(s, c.lists, start),
+        Section::Expressions => records(s, c, Section::Expressions, start, w, p),
+        Section::Statements => records(s, c, Section::Statements, start, w, p),
+        _ => records(s, c, own, start, w, p),
     }
-    if let Section::Expressions = own {
-        return records(s, rows, c, Section::Expressions, count, start, w, p);
-    }
-    if let Section::Statements = own {
-        return records(s, rows, c, Section::Statements, count, start, w, p);
-    }
-    records(s, rows, c, own, count, start, w, p)
 }
 
 // The sections, in order.
+#[tactic(auto, unfolding(rl_spec::specs::Read::sections_from))]
 fn all_sections(
     s: &[u8],
-    rows: &[u64],
     c: Counts,
+    sections: &[Section],
     start: usize,
     w: &mut [u16],
     p: &mut [u16],
-) -> Step
+) -> Result<Next, Refusal>
     requires s_len_bound { length s.now ≤ 65535 }
-    requires rows_value { rows.now ≡ table }
-    ensures { out_of result w.new p.new ≡ sections_from s.now c sections start w.old p.old }
+    ensures { out_of result w.new p.new ≡ sections_from s.now c sections.now start w.old p.old }
 {
     let mut at = start;
-    let mut j = 0;
-    while j < 8 {
-        let own = section_at(j);
-        let step = section_records(s, rows, c, own, count_in(c, own), at, w, p);
-        match step {
-            Step::Next { at: a, tall: _ } => {
-                at = a;
-            }
-            Step::Stop { cause, place } => {
-                return Step::Stop { cause, place };
-            }
-        }
-        j += 1;
+    for &own in sections {
+        at = section_records(s, c, own, at, w, p)?.at;
     }
-    Step::Next { at, tall: 0 }
+    Ok(Next { at, tall: 0 })
 }
 
 // After the header: the text bytes, the sections, the end.
-fn after_header(s: &[u8], rows: &[u64], c: Counts, w: &mut [u16], p: &mut [u16]) -> Step
+#[tactic(auto, unfolding(rl_spec::specs::Read::body_of, rl_spec::specs::Read::end_of, rl_spec::specs::Schema::sections))]
+fn after_header(s: &[u8], c: Counts, w: &mut [u16], p: &mut [u16]) -> Result<Next, Refusal>
     requires s_len_bound { length s.now ≤ 65535 }
-    requires rows_value { rows.now ≡ table }
     ensures { out_of result w.new p.new ≡ body_of s.now c w.old p.old }
 {
-    let size = c.bytes as usize;
-    if is_past(s, 23, size) {
-        return Step::Stop {
-            cause: Cause::BytesEnd,
-            place: 23,
-        };
+    let size = usize::from(c.bytes);
+    have(s, 23, size)?;
+    let end = all_sections(s, c, &SECTIONS, 23 + size, w, p)?;
+    if end.at < s.len() {
+        return Err(Cause::BytesLeft.at(end.at));
     }
-    let all = all_sections(s, rows, c, 23 + size, w, p);
-    match all {
-        Step::Next { at, tall } => {
-            if at < s.len() {
-                return Step::Stop {
-                    cause: Cause::BytesLeft,
-                    place: at,
-                };
-            }
-            Step::Next { at, tall }
-        }
-        Step::Stop { cause, place } => Step::Stop { cause, place },
-    }
+    Ok(end)
 }
 
 // The image's content, where its length is within the limit.
-fn content(s: &[u8], rows: &[u64], w: &mut [u16], p: &mut [u16]) -> Step
+fn content(s: &[u8], w: &mut [u16], p: &mut [u16]) -> Result<Next, Refusal>
     requires s_len_bound { length s.now ≤ 65535 }
-    requires rows_value { rows.now ≡ table }
     ensures { out_of result w.new p.new ≡ content_of s.now w.old p.old }
 {
-    let head = header(s);
-    match head {
-        Step::Next { at: _, tall: _ } => after_header(s, rows, header_counts(s), w, p),
-        Step::Stop { cause, place } => Step::Stop { cause, place },
-    }
+    header(s)?;
+    after_header(s, header_counts(s), w, p)
 }
 
 // Reads an image. Where it is accepted, the work slice holds the heights of the expressions and then of the statements, and
 // `starts` the place where each of them starts; all else of both is 0.
-pub fn read_starts(image: &[u8], work: &mut [u16], starts: &mut [u16; 6144]) -> Answer
+pub fn read_starts(
+    image: &[u8],
+    work: &mut [u16],
+    starts: &mut [u16; 6144],
+) -> Result<Accepted, Refusal>
     ensures value { result ≡ answer_of image.now (length work.old) }
     ensures work_after { work.new ≡ work_of image.now (length work.old) }
     ensures starts_after { starts.new ≡ starts_of image.now (length work.old) }
 {
     work.fill(0);
     starts.fill(0);
-    if 65535 < image.len() {
-        return Answer::Refused {
-            cause: Cause::ImageTooLong,
-            place: 0,
-        };
+    if image.len() > LONGEST {
+        return Err(Cause::ImageTooLong.into());
     }
-    let short = work.len() < 8192;
-    if short {
-        return Answer::Refused {
-            cause: Cause::WorkTooShort,
-            place: 0,
-        };
+    if work.len() < SHORTEST_WORK {
+        return Err(Cause::WorkTooShort.into());
     }
-    let rows = schema_table();
-    let all = content(image, &rows, work, starts);
-    match all {
-        Step::Next { at, tall } => Answer::Accepted {
-            arena: ArenaNo(u32_at(image, 1)),
-            counts: header_counts(image),
-        },
-        Step::Stop { cause, place } => {
-            work.fill(0);
-            starts.fill(0);
-            Answer::Refused { cause, place }
-        }
+    if let Err(refusal) = content(image, work, starts) {
+        work.fill(0);
+        starts.fill(0);
+        return Err(refusal);
     }
+    Ok(Accepted {
+        arena: ArenaNo(u32_at(image, 1)),
+        counts: header_counts(image),
+    })
 }
 
 // THE READER: any bytes are read, or refused with a cause and a place.
-pub fn read(image: &[u8], work: &mut [u16]) -> Answer
+pub fn read(image: &[u8], work: &mut [u16]) -> Result<Accepted, Refusal>
     ensures value { result ≡ answer_of image.now (length work.old) }
     ensures work_after { work.new ≡ work_of image.now (length work.old) }
 {

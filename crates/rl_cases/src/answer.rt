@@ -1,5 +1,5 @@
 // What the answers of the exports say, as programs in Rattle read them.
-ghost use Rattle.std.specs.Prelude.{◌≡◌, ◌==◌, if◌then◌else◌, ◌/◌, ◌%◌, ◌^◌, Ok, Err};
+ghost use Rattle.std.specs.Prelude.{◌≡◌, ◌==◌, if◌then◌else◌, ◌/◌, ◌%◌, ◌^◌, ◌++◌, codes, decimal, Some, Ok, Err};
 
 use std::fmt;
 
@@ -11,6 +11,8 @@ pub struct Refused {
 }
 
 impl fmt::Display for Refused {
+    ghost output = { λ r. Some (codes "refused " ++ decimal r.number ++ codes " at " ++ decimal r.place) };
+
     fn fmt<W: fmt::Write>(&self, f: &mut fmt::Formatter<W>) -> fmt::Result {
         write!(f, "refused {} at {}", self.number, self.place)
     }

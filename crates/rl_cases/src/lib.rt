@@ -117,9 +117,9 @@ fn first_case<R: Replay>(bytes: &[u8]) -> Result<(Case<'_>, &[u8]), Stop>
 }
 
 fn replay_all<R: Replay>(rt: &impl Print, input: &[u8]) -> Result<(), Stop> {
-    let cases: Cases<'_, R> = Cases {
+    let cases = Cases {
         rest: input,
-        of: PhantomData,
+        of: PhantomData::<R>,
     };
     for case in cases {
         R::replay(rt, &case?)?;

@@ -1,7 +1,7 @@
 -- A field's copy by its plan, and the entries of a list one by one.
 -- Assumes nothing.
-use Rattle.std.proofs.Common.{◌≡◌, ℕ, suc, ◌+◌, ◌-◌, ◌/◌, ◌%◌, ◌<◌, ◌≤◌, Bool, true, false, cond, ◌&&◌, ◌||◌, ltb, List, [], ◌∷◌, ◌++◌, map, sym, refl, ap, ◌∙◌, subst, ap₂, append_assoc, add-zero, add_assoc, arith, ltb-true, le-ltb, lt-ltb}
-use mathlib.Core.Option.{Option, some}
+use Rattle.std.proofs.Common.{◌≡◌, ℕ, suc, ◌+◌, ◌-◌, ◌/◌, ◌%◌, ◌<◌, ◌≤◌, Bool, true, false, cond, ◌||◌, List, [], ◌∷◌, ◌++◌, map, sym, refl, ap, ◌∙◌, subst, ap₂, append_assoc, add-zero, add_assoc, arith, le-ltb, lt-ltb}
+use mathlib.Core.Option.{Option}
 use native.Mathlib.Nat.{sub-zero}
 use Rattle.rl_spec.specs.declared.Counts.{Counts}
 use Rattle.rl_spec.specs.declared.Interval.{Interval}
@@ -17,10 +17,8 @@ use Rattle.rl_spec.specs.Ranges.{up_from}
 use Rattle.rl_spec.specs.Make.{Context, Make, and_then, ◌>>=◌, give, image_so_far, new_list, entries_of}
 use Rattle.rl_spec.specs.Lower.{is_node, clone_entries, clone_field, deep_clone_expr}
 use Rattle.rl_encode.specs.Words.{word_field}
-use Rattle.rl_images.specs.Images.SchemaSorts.{and_right}
 use Rattle.rl_images.specs.Images.FieldFacts.{list_says}
 use Rattle.rl_images.specs.Lowering.Gives.{gives, after}
-use Rattle.rl_context.specs.declared.Ctx.{Ctx}
 use Rattle.rl_context.specs.Additions.{Live}
 use Rattle.rl_context.specs.Does.{State, at, nothing, one, all, Ends, Start, Does, Pushes, Listed}
 use Rattle.rl_context.proofs.Composed.{Keeps, does_then, does_bind, does_give, does_same, does_push, does_list}

@@ -1,7 +1,6 @@
 -- Entries that wait, and the lists that they become.
 -- Assumes nothing.
 use Rattle.std.proofs.Common.{◌≡◌, ℕ, suc, ◌+◌, ◌*◌, ◌<◌, ◌≤◌, true, false, List, [], ◌∷◌, ◌++◌, length, get_or, take, drop, set, sym, refl, ap, ◌∙◌, subst, ap₂, append-nil, arith, length-append, length-drop, length-set, length-take-le, get_or-drop, take-suc, take-suc-set}
-use mathlib.Core.Option.{some}
 use Rattle.rl_spec.specs.Image.{num, Image, bytes_of, encode_records}
 use Rattle.rl_spec.specs.Make.{Context, made}
 use Rattle.rl_images.specs.Lowering.Gives.{Gives, gives, weaker}

@@ -1,13 +1,17 @@
 -- One law for each way out of a function of `fields`.
 -- Assumes nothing.
-use Prim.Native.Nat.{ℕ, suc, ◌+◌, ◌-◌, ◌*◌, ◌%◌, ◌≤◌, ◌<◌, max}
+use Rattle.std.specs.Prelude.{◌&&◌}
+use Rattle.std.specs.List.{list_all}
+use lib.Seq.{drop-cons}
+use native.Mathlib.Numerals.{add-one}
+use Prim.Native.Nat.{ℕ, zero, suc, ◌+◌, ◌-◌, ◌*◌, ◌%◌, ◌≤◌, ◌<◌, max}
 use mathlib.Core.Path.{◌≡◌, refl, sym}
 use mathlib.Core.Bool.{Bool, true, false, cond}
-use mathlib.Core.List.{List}
+use mathlib.Core.List.{List, ◌∷◌}
 use native.Mathlib.Omega.{arith}
 use native.Mathlib.Nat.{mod-zero}
 use lib.Dec.{leb, eqb}
-use lib.ListN.{get_or, take, drop}
+use lib.ListN.{length, get_or, take, drop}
 use borrow.Author.Tests.{lt-ltb, le-ltb, le-leb, lt-leb, eq-eqb, ne_eqb}
 use Rattle.rl_spec.specs.declared.Counts.{Counts}
 use Rattle.rl_spec.specs.declared.Cause.{Cause}
@@ -21,7 +25,7 @@ use Rattle.std.specs.Prelude.{Ok, Err}
 use Rattle.rl_spec.specs.Bytes.{u16_at}
 use Rattle.rl_spec.specs.Schema.{text_bytes_at, count_of}
 use Rattle.rl_spec.specs.Utf8.{utf8}
-use Rattle.rl_spec.specs.Fields.{unless, takes, within, zeros, kind_of_statement, allowed, node_height, statement_height, height_in, child_height, entry_at, range_of, part_of, byte_in, operand_sort_of, refer_to, refer_or_none, entries_from, list_of, operand_of}
+use Rattle.rl_spec.specs.Fields.{unless, takes, within, zeros, kind_of_statement, allowed, node_height, statement_height, height_in, child_height, entry_at, lists_at, range_of, part_of, byte_in, operand_sort_of, refer_to, refer_or_none, entries_from, list_of, operand_of}
 
 -- ---- loops that count
 
@@ -141,84 +145,76 @@ module _ (s w p : List ℕ) (seen : Counts) (own : Section) (t : Target) (n tall
   unfolding refer_or_none
   none_not q r e = rw (ne_eqb n 65535 q) e
 
--- ---- loops: `whole` is what the loop has to answer, and v its invariant
+-- ---- bytes that are 0
 
-module _ (s : List ℕ) (at n i : ℕ) (whole : Bool) (v : whole ≡ zeros s (at + i) (n - i)) where
-  pub zeros_end : n ≤ i → true ≡ whole
-  unfolding zeros
-  zeros_end h = rw (v, ended n i h) refl
+pub zeros_all : (s : List ℕ) (at n : ℕ) → at + n ≤ length s → list_all (λ b. eqb b 0) (take n (drop at s)) ≡ zeros s at n
+unfolding zeros
+zeros_all s at zero h = refl
+zeros_all s at (suc n) h =
+    let d : drop at s ≡ get_or s at 0 ∷ drop (at + 1) s = rw (add-one at) (drop-cons s at 0 (omega arith)) in
+    rw (d, zeros_all s (at + 1) n (omega arith)) (go (eqb (get_or s at 0) 0))
+  where
+    go : (b : Bool) → b && zeros s (at + 1) n ≡ cond b (zeros s (at + 1) n) false
+    go true = refl
+    go false = refl
 
-  module _ (q : i < n) where
-    pub zeros_more : get_or s (at + i) 0 ≡ 0 → whole ≡ zeros s (at + (i + 1)) (n - (i + 1))
-    unfolding zeros
-    zeros_more e =
-        let a : at + (i + 1) ≡ at + i + 1 = omega arith in
-        rw (v, turn n i q, a, eq-eqb (get_or s (at + i) 0) 0 e) refl
+-- ---- the entries of a list: `whole` is what the loop has to answer, and v its invariant
 
-    pub zeros_not : (get_or s (at + i) 0 ≡ 0 → ⊥) → false ≡ whole
-    unfolding zeros
-    zeros_not e = rw (v, turn n i q, ne_eqb (get_or s (at + i) 0) 0 e) refl
+-- a check, and then what follows it
+abbrev pub then_on : Check → (ℕ → Check) → Check
+then_on (Ok t) f = f t
+then_on (Err c) f = Err c
 
-pub zeros_start : (s : List ℕ) (at n : ℕ) → zeros s at n ≡ zeros s (at + 0) (n - 0)
-zeros_start s at n =
-    let a : at + 0 ≡ at = omega arith in
-    let b : n - 0 ≡ n = omega arith in
-    rw (a, b)
+module _ (s w p : List ℕ) (seen : Counts) (own : Section) where
+  entries_step : (n k tall : ℕ) (l r : Target) → entries_from s w p seen own (suc n) k l r tall ≡ then_on (refer_to s w p seen own l (entry_at s seen k) tall) (λ t. entries_from s w p seen own n (k + 1) r l t)
+  unfolding entries_from refer_to
+  entries_step n k tall l r = go (allowed s p seen l (entry_at s seen k))
+    where
+      m : ℕ
+      m = max tall (child_height w seen own l (entry_at s seen k))
 
-module _ (s w p : List ℕ) (seen : Counts) (own : Section) (first count i tall : ℕ) (l r : Target) (whole : Check) (v : whole ≡ entries_from s w p seen own (count - i) (first + i) l r tall) where
-  pub entries_end : count ≤ i → Ok tall ≡ whole
-  unfolding entries_from
-  entries_end h = rw (v, ended count i h) refl
+      go : (b : Bool) → cond b (entries_from s w p seen own n (k + 1) r l m) (Err BadReference) ≡ then_on (unless BadReference b m) (λ t. entries_from s w p seen own n (k + 1) r l t)
+      go true = refl
+      go false = refl
 
-  module _ (q : i < count) (n : ℕ) (e : n ≡ entry_at s seen (first + i)) (b : Bool) (f : b ≡ allowed s p seen l n) where
-    pub entries_more : b ≡ true → (h : ℕ) → h ≡ child_height w seen own l n → (t : ℕ) → t ≡ max tall h → whole ≡ entries_from s w p seen own (count - (i + 1)) (first + (i + 1)) r l t
-    unfolding entries_from
-    entries_more g h x t y =
+  module _ (first count i tall : ℕ) (l r : Target) (whole : Check) (v : whole ≡ entries_from s w p seen own (count - i) (first + i) l r tall) (q : i < count) (n : ℕ) (e : n ≡ entry_at s seen (first + i)) (x : Check) (f : x ≡ refer_to s w p seen own l n tall) where
+    whole_is : whole ≡ then_on x (λ t. entries_from s w p seen own (count - (i + 1)) (first + (i + 1)) r l t)
+    whole_is =
         let a : first + (i + 1) ≡ first + i + 1 = omega arith in
-        rw (v, turn count i q, a, y, x, ← e, ← f, g) refl
+        rw (v, turn count i q, a, f, e) (entries_step (count - (i + 1)) (first + i) tall l r)
 
-    pub entries_bad : b ≡ false → Err BadReference ≡ whole
-    unfolding entries_from
-    entries_bad g = rw (v, turn count i q, ← e, ← f, g) refl
+    pub entries_more : (t : ℕ) → x ≡ Ok t → whole ≡ entries_from s w p seen own (count - (i + 1)) (first + (i + 1)) r l t
+    entries_more t g = rw (whole_is, g) refl
 
-pub entries_start : (s w p : List ℕ) (seen : Counts) (own : Section) (first count tall : ℕ) (l r : Target) → entries_from s w p seen own count first l r tall ≡ entries_from s w p seen own (count - 0) (first + 0) l r tall
-entries_start s w p seen own first count tall l r =
-    let a : count - 0 ≡ count = omega arith in
-    let b : first + 0 ≡ first = omega arith in
-    rw (a, b)
+    pub entries_bad : (c : Cause) → x ≡ Err c → Err c ≡ whole
+    entries_bad c g = rw (whole_is, g) refl
 
 -- ---- a list of expressions in an expression
 
-module _ (s p : List ℕ) (seen : Counts) (n : ℕ) where
-  node_in : n < seen.expressions → allowed s p seen Expression n ≡ true
-  unfolding allowed
-  node_in q = rw (lt-ltb n seen.expressions q) refl
-
-  node_out : seen.expressions ≤ n → allowed s p seen Expression n ≡ false
-  unfolding allowed
-  node_out q = rw (le-ltb n seen.expressions q) refl
-
-node_child : (w : List ℕ) (seen : Counts) (n : ℕ) → get_or w n 0 ≡ child_height w seen Expressions Expression n
-unfolding child_height
-node_child w seen n = refl
-
-module _ (s : List ℕ) (seen : Counts) (first start : ℕ) (a : start ≡ 23 + seen.bytes + seen.texts * 5 + first * 3 + 1) where
+module _ (s w p : List ℕ) (seen : Counts) (own : Section) (o : own ≡ Expressions) (first start : ℕ) (a : start ≡ lists_at seen + first * 3 + 1) where
   entry_here : (i n : ℕ) → n ≡ get_or s (start + i * 3) 0 + get_or s (start + i * 3 + 1) 0 * 256 → n ≡ entry_at s seen (first + i)
   unfolding entry_at u16_at
   entry_here i n e =
-      let b : 23 + seen.bytes + seen.texts * 5 + (first + i) * 3 + 1 ≡ start + i * 3 = omega arith in
+      let b : lists_at seen + (first + i) * 3 + 1 ≡ start + i * 3 = omega arith in
       rw b e
 
-  module _ (w p : List ℕ) (count i tall : ℕ) (whole : Check) (v : whole ≡ entries_from s w p seen Expressions (count - i) (first + i) Expression Expression tall) (q : i < count) (n : ℕ) (e : n ≡ get_or s (start + i * 3) 0 + get_or s (start + i * 3 + 1) 0 * 256) where
-    pub nodes_more : n < seen.expressions → (t : ℕ) → t ≡ max tall (get_or w n 0) → whole ≡ entries_from s w p seen Expressions (count - (i + 1)) (first + (i + 1)) Expression Expression t
+  module _ (count i tall : ℕ) (whole : Check) (v : whole ≡ entries_from s w p seen own (count - i) (first + i) Expression Expression tall) (q : i < count) (n : ℕ) (e : n ≡ get_or s (start + i * 3) 0 + get_or s (start + i * 3 + 1) 0 * 256) where
+    pub nodes_more : n < seen.expressions → (t : ℕ) → t ≡ max tall (get_or w n 0) → whole ≡ entries_from s w p seen own (count - (i + 1)) (first + (i + 1)) Expression Expression t
+    unfolding refer_to allowed child_height
     nodes_more x t y =
-        entries_more s w p seen Expressions first count i tall Expression Expression whole v q n (entry_here i n e) true
-        (sym (node_in s p seen n x)) refl (get_or w n 0) (node_child w seen n) t y
+        entries_more s w p seen own first count i tall Expression Expression whole v q n (entry_here i n e) (Ok t) good t refl
+      where
+        good : Ok t ≡ refer_to s w p seen own Expression n tall
+        good = rw (o, y, lt-ltb n seen.expressions x) refl
 
     pub nodes_bad : seen.expressions ≤ n → Err BadReference ≡ whole
+    unfolding refer_to allowed
     nodes_bad x =
-        entries_bad s w p seen Expressions first count i tall Expression Expression whole v q n (entry_here i n e) false
-        (sym (node_out s p seen n x)) refl
+        entries_bad s w p seen own first count i tall Expression Expression whole v q n (entry_here i n e) (Err BadReference)
+        bad BadReference refl
+      where
+        bad : Err BadReference ≡ refer_to s w p seen own Expression n tall
+        bad = rw (le-ltb n seen.expressions x) refl
 
 pub nodes_are : (s w p : List ℕ) (seen : Counts) (own : Section) (first count tall : ℕ) (l r : Target) (x : Check) → own ≡ Expressions → l ≡ Expression → r ≡ Expression → x ≡ entries_from s w p seen Expressions count first Expression Expression tall → x ≡ entries_from s w p seen own count first l r tall
 nodes_are s w p seen own first count tall l r x e f g h = rw (e, f, g) h

@@ -24,7 +24,6 @@ use Rattle.rl_spec.specs.Schema.{raw4, raw8, node, text, sort_of, width_of, in_s
 use Rattle.rl_spec.specs.Utf8.{is_scalar}
 use Rattle.rl_spec.specs.Fields.{unless, byte_in, part_of, range_of, operand_sort_of, refer_to, refer_or_none, list_of, operand_of, value_of, field_at, fields_from, height_step, record_at}
 use Rattle.rl_schema.specs.Codes.{codes, table}
-use Rattle.rl_fields.specs.Checked.{record_by}
 use Rattle.rl_schema.proofs.Rows.{codes_none, codes_more, row_codes}
 
 -- ---- bytes that are there
@@ -194,35 +193,3 @@ module _ (s w p : List ℕ) (seen : Counts) (own : Section) (at row r : ℕ) (e 
     where
       four : 4 ≡ width_of (sort_of (r % 256))
       four = rw t refl
-
--- ---- a record
-
-module _ (rows s w p : List ℕ) (seen : Counts) (own : Section) (at : ℕ) (b : Bool) (e : b ≡ past s at 1) where
-  pub record_past : b ≡ true → refused BytesEnd at ≡ record_by rows s w p seen own at
-  unfolding record_by
-  record_past q = rw (← e, q) refl
-
-  module _ (q : b ≡ false) (k : Bool) (f : k ≡ in_section own (get_or s at 0)) where
-    pub record_kind : k ≡ false → refused WrongKind at ≡ record_by rows s w p seen own at
-    unfolding record_by
-    record_kind g = rw (← e, q, ← f, g) refl
-
-    module _ (g : k ≡ true) (r : Step) (h : r ≡ fields_from s w p seen own (codes (get_or rows (get_or s at 0) 0)) (at + 1) 0) where
-      rest_is : height_step own at r ≡ record_by rows s w p seen own at
-      unfolding record_by
-      rest_is = rw (← e, q, ← f, g, h) refl
-
-      pub record_stop : (c : Cause) (n : ℕ) → r ≡ refused c n → refused c n ≡ record_by rows s w p seen own at
-      record_stop c n i = rw (← rest_is, i) refl
-
-      module _ (a t : ℕ) (i : r ≡ goes_on a t) (m : ℕ) (j : m ≡ tallest own) where
-        pub record_next : t < m → goes_on a (t + 1) ≡ record_by rows s w p seen own at
-        record_next x = rw (← rest_is, i, ← j, lt-ltb t m x) refl
-
-        pub record_tall : m ≤ t → refused TooHigh at ≡ record_by rows s w p seen own at
-        record_tall x = rw (← rest_is, i, ← j, le-ltb t m x) refl
-
--- by the schema's table
-pub record_by_table : (rows s w p : List ℕ) (seen : Counts) (own : Section) (at : ℕ) → rows ≡ table → record_by rows s w p seen own at ≡ record_at s w p seen own at
-unfolding record_by record_at
-record_by_table rows s w p seen own at e = rw (row_codes rows (get_or s at 0) (get_or rows (get_or s at 0) 0) e refl) refl

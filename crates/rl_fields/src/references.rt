@@ -1,25 +1,21 @@
 // References: what one may find, and the heights of children.
-ghost use Rattle.std.specs.Prelude.{◌≡◌, false, ◌+◌};
-ghost use Rattle.rl_spec.specs.Fields.{takes, within, kind_of_statement, allowed, child_height, refer_to, refer_or_none, node_height, statement_height};
+ghost use Rattle.std.specs.Prelude.{◌≡◌};
+ghost use Rattle.rl_spec.specs.Fields.{takes, within, kind_of_statement, allowed, child_height, refer_to, refer_or_none};
+ghost use Rattle.rl_fields.specs.Scopes.{in_scope};
 
+use crate::Scope;
 use rl_bytes::get_or;
-use rl_spec::{Cause, Check, Counts, Section, Target};
+use rl_spec::{Cause, Counts, Section, Target};
 
 // Whether a reference may find a statement of this kind.
 fn takes_kind(target: Target, kind: u8) -> bool
     ensures { result ≡ takes target kind }
 {
     match target {
-        Target::Text => true,
-        Target::Expression => true,
+        Target::Text | Target::Expression => true,
         Target::Statement => kind != 76,
         Target::Branch => kind == 69,
-        Target::ElseBranch => {
-            if kind == 69 {
-                return true;
-            }
-            kind == 68
-        }
+        Target::ElseBranch => kind == 69 || kind == 68,
         Target::Arm => kind == 76,
     }
 }
@@ -31,108 +27,65 @@ fn limit_of(seen: Counts, target: Target) -> u16
     match target {
         Target::Text => seen.texts,
         Target::Expression => seen.expressions,
-        Target::Statement => seen.statements,
-        Target::Branch => seen.statements,
-        Target::ElseBranch => seen.statements,
-        Target::Arm => seen.statements,
+        _ => seen.statements,
     }
 }
 
-fn statement_kind(s: &[u8], p: &[u16], seen: Counts, n: u16) -> u8
-    ensures { result ≡ kind_of_statement s.now p.now seen n }
-{
-    let first = seen.expressions as usize;
-    let start = get_or(p, first + (n as usize), 0);
-    get_or(s, start as usize, 0)
-}
+impl Scope<'_> {
+    #[tactic(auto, unfolding(rl_spec::specs::Fields::kind_of_statement))]
+    fn statement_kind(self, n: u16) -> u8
+        ensures { result ≡ kind_of_statement self.entry.image.now self.entry.starts.now self.entry.seen n }
+    {
+        let start = get_or(
+            self.starts,
+            usize::from(self.seen.expressions) + usize::from(n),
+            0,
+        );
+        get_or(self.image, usize::from(start), 0)
+    }
 
-pub fn is_allowed(s: &[u8], p: &[u16], seen: Counts, target: Target, n: u16) -> bool
-    ensures { result ≡ allowed s.now p.now seen target n }
-{
-    if n < limit_of(seen, target) {
-        return takes_kind(target, statement_kind(s, p, seen, n));
+    #[tactic(auto, unfolding(rl_spec::specs::Fields::allowed))]
+    fn is_allowed(self, target: Target, n: u16) -> bool
+        ensures { result ≡ allowed self.entry.image.now self.entry.starts.now self.entry.seen target n }
+    {
+        n < limit_of(self.seen, target) && takes_kind(target, self.statement_kind(n))
     }
-    false
-}
 
-fn node_height(w: &[u16], target: Target, n: u16) -> u16
-    ensures { result ≡ node_height w.now target n }
-{
-    match target {
-        Target::Text => 0,
-        Target::Expression => get_or(w, n as usize, 0),
-        Target::Statement => 0,
-        Target::Branch => 0,
-        Target::ElseBranch => 0,
-        Target::Arm => 0,
+    // The height of a child of the own section; else 0.
+    #[tactic(auto, unfolding(rl_spec::specs::Fields::child_height))]
+    fn child_height(self, target: Target, n: u16) -> u16
+        ensures { result ≡ child_height self.entry.heights.now self.entry.seen self.entry.own target n }
+    {
+        let n = usize::from(n);
+        match (self.own, target) {
+            (Section::Expressions, Target::Expression) => get_or(self.heights, n, 0),
+            (Section::Statements, Target::Text | Target::Expression) => 0,
+            (Section::Statements, _) => {
+                get_or(self.heights, usize::from(self.seen.expressions) + n, 0)
+            }
+            _ => 0,
+        }
     }
-}
 
-fn statement_height(w: &[u16], from: u16, target: Target, n: u16) -> u16
-    ensures { result ≡ statement_height w.now from target n }
-{
-    let at = (from as usize) + (n as usize);
-    match target {
-        Target::Text => 0,
-        Target::Expression => 0,
-        Target::Statement => get_or(w, at, 0),
-        Target::Branch => get_or(w, at, 0),
-        Target::ElseBranch => get_or(w, at, 0),
-        Target::Arm => get_or(w, at, 0),
+    #[tactic(auto, unfolding(rl_spec::specs::Fields::refer_to))]
+    pub(crate) fn refer_to(self, target: Target, n: u16, tall: u16) -> Result<u16, Cause>
+        ensures { result ≡ in_scope self.entry refer_to target n tall }
+    {
+        if self.is_allowed(target, n) {
+            Ok(tall.max(self.child_height(target, n)))
+        } else {
+            Err(Cause::BadReference)
+        }
     }
-}
 
-// The height of a child of the own section.
-pub fn child_height(w: &[u16], seen: Counts, own: Section, target: Target, n: u16) -> u16
-    ensures { result ≡ child_height w.now seen own target n }
-{
-    match own {
-        Section::Texts => 0,
-        Section::Lists => 0,
-        Section::Expressions => node_height(w, target, n),
-        Section::Statements => statement_height(w, seen.expressions, target, n),
-        Section::Parameters => 0,
-        Section::Clauses => 0,
-        Section::Functions => 0,
-        Section::Calls => 0,
+    #[tactic(auto, unfolding(rl_spec::specs::Fields::refer_or_none))]
+    pub(crate) fn refer_or_none(self, target: Target, n: u16, tall: u16) -> Result<u16, Cause>
+        ensures { result ≡ in_scope self.entry refer_or_none target n tall }
+    {
+        if n == u16::MAX {
+            Ok(tall)
+        } else {
+            self.refer_to(target, n, tall)
+        }
     }
-}
-
-pub fn refer_to(
-    s: &[u8],
-    w: &[u16],
-    p: &[u16],
-    seen: Counts,
-    own: Section,
-    target: Target,
-    n: u16,
-    tall: u16,
-) -> Check
-    ensures { result ≡ refer_to s.now w.now p.now seen own target n tall }
-{
-    if is_allowed(s, p, seen, target, n) {
-        let t = tall.max(child_height(w, seen, own, target, n));
-        return Check::Holds { tall: t };
-    }
-    Check::Fails {
-        cause: Cause::BadReference,
-    }
-}
-
-pub fn refer_or_none(
-    s: &[u8],
-    w: &[u16],
-    p: &[u16],
-    seen: Counts,
-    own: Section,
-    target: Target,
-    n: u16,
-    tall: u16,
-) -> Check
-    ensures { result ≡ refer_or_none s.now w.now p.now seen own target n tall }
-{
-    if n == 65535 {
-        return Check::Holds { tall };
-    }
-    refer_to(s, w, p, seen, own, target, n, tall)
 }

@@ -11,9 +11,9 @@ use Rattle.rl_laws.specs.Tests.{by_eqb}
 use Rattle.rl_spec.specs.declared.ConstVal.TheVariants as kind
 use Rattle.rl_spec.specs.Answers.{Folded}
 use Rattle.std.specs.Prelude.{None, Some}
-use Rattle.rl_spec.specs.Words.{sort_word_of, payload_word_of, words_value}
+use Rattle.rl_spec.specs.Words.{sort_word_of, words_value}
 use Rattle.rl_memory.specs.Memory.{Recalled}
-use Rattle.rl_memory.specs.Memory.{recalled, recall_of, tag_word, remember_of, Right}
+use Rattle.rl_memory.specs.Memory.{recalled, recall_of, tag_word, Right}
 
 -- ---- recalling
 

@@ -27,7 +27,7 @@ fn recalled_by(count: u16, tag: u64, payload: u64) -> Option<Option<ConstVal>>
 pub fn recall(memory: &[u64], count: u16, n: u16) -> Option<Option<ConstVal>>
     ensures { result ≡ recall_of memory.now count n }
 {
-    let at = n as usize * 2;
+    let at = usize::from(n) * 2;
     recalled_by(count, get_or(memory, at, 0), get_or(memory, at + 1, 0))
 }
 
@@ -47,7 +47,7 @@ pub fn remember(memory: &mut [u64], count: u16, n: u16, v: Option<ConstVal>) -> 
     ensures memory_after { memory.new ≡ remember_of memory.old count n v }
     ensures by_index { (f : ℕ → Folded) → Right f count memory.old → v ≡ f n → Right f count memory.new }
 {
-    let at = n as usize * 2;
+    let at = usize::from(n) * 2;
     let payload = payload_word(v);
     if at + 1 < memory.len() {
         memory[at] = tag_word(count, v);

@@ -2,20 +2,13 @@
 -- Assumes nothing.
 use Prim.Native.Nat.{ℕ, ◌+◌}
 use mathlib.Core.Path.{◌≡◌, refl, ap, ◌∙◌}
-use mathlib.Core.List.{List, [], ◌∷◌}
-use mathlib.Core.Option.{Option, none, some}
-use types.Run.{OneOf, miss}
-use denote.Enum.Declared.{tag_of}
-use Rattle.rl_spec.specs.declared.ConstVal.{ConstVal}
-use Rattle.rl_spec.specs.declared.ConstVal.TheVariants as kind
-use Rattle.rl_spec.specs.contracts.ConstVal as const-val
+use mathlib.Core.List.{List}
+use mathlib.Core.Option.{Option}
 use Rattle.rl_spec.specs.declared.Counts.{Counts}
 use Rattle.rl_spec.specs.declared.Clause.{Clause}
-use Rattle.rl_spec.specs.Answers.{Optional, Folded}
+use Rattle.rl_spec.specs.Answers.{Optional}
 use Rattle.std.specs.Prelude.{None, Some}
 use Rattle.rl_spec.specs.declared.Form.{Form}
-use Rattle.rl_spec.specs.declared.Form.TheVariants as form
-use Rattle.rl_spec.specs.contracts.Form as forms
 use Rattle.rl_spec.specs.declared.Function.{Function}
 use Rattle.rl_spec.specs.declared.Violation.{Violation}
 use Rattle.rl_spec.specs.declared.Violation.TheVariants.{Refinement, Requires}

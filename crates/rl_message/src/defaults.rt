@@ -13,7 +13,7 @@ ghost use Rattle.rl_text_out.specs.Put.{after_text, with_text};
 
 use rl_records::ImageRef;
 use rl_spec::{Param, RefineOp, RefineOperand, Refinement, Violation};
-use rl_text_out::{put_number, put_text};
+use rl_text_out::Out;
 
 #[tactic(auto, unfolding(rl_spec::specs::Tree::ascii))]
 fn refine_op_str(op: RefineOp) -> &'static [u8]
@@ -36,51 +36,53 @@ fn bool_text(b: bool) -> &'static [u8]
     if b { b"true" } else { b"false" }
 }
 
-#[tactic(auto, unfolding(rl_spec::specs::Tree::ascii), using(crate::proofs::DefaultLaws::text_plain))]
-fn put_integer(out: &mut [u8], at: usize, x: i64) -> usize
-    ensures value { result ≡ after_text out.old at (integer_text x) }
-    ensures out_after { out.new ≡ with_text out.old at (integer_text x) }
+fn put_integer(out: &mut Out, x: i64)
+    ensures same_reference { out.new.bytes.ghost_name ≡ out.old.bytes.ghost_name }
+    ensures bytes { out.new.bytes.now ≡ with_text out.old.bytes.now out.old.at (integer_text x) }
+    ensures at { out.new.at ≡ after_text out.old.bytes.now out.old.at (integer_text x) }
 {
     if x < 0 {
-        let digits = put_text(out, at, b"-");
-        return put_number(out, digits, x.unsigned_abs());
+        out.text(b"-");
     }
-    put_number(out, at, x.unsigned_abs())
+    out.number(x.unsigned_abs());
 }
 
 // A text in quotes, as it is.
-fn put_quoted(out: &mut [u8], at: usize, text: &[u8]) -> usize
-    ensures value { result ≡ after_text out.old at (ascii "\"" ++ text.now ++ ascii "\"") }
-    ensures out_after { out.new ≡ with_text out.old at (ascii "\"" ++ text.now ++ ascii "\"") }
+fn put_quoted(out: &mut Out, text: &[u8])
+    ensures same_reference { out.new.bytes.ghost_name ≡ out.old.bytes.ghost_name }
+    ensures bytes { out.new.bytes.now ≡ with_text out.old.bytes.now out.old.at (ascii "\"" ++ text.now ++ ascii "\"") }
+    ensures at { out.new.at ≡ after_text out.old.bytes.now out.old.at (ascii "\"" ++ text.now ++ ascii "\"") }
 {
-    let start = put_text(out, at, b"\"");
-    let end = put_text(out, start, text);
-    put_text(out, end, b"\"")
+    out.text(b"\"");
+    out.text(text);
+    out.text(b"\"");
 }
 
-fn operand_str(image: ImageRef, operand: RefineOperand, out: &mut [u8], at: usize) -> usize
-    ensures by_index { (p : List ℕ) → result ≡ after_text out.old at (operand_str (map_operand (text_of (found_with image.entry p)) (operand_of operand))) }
-    ensures by_index_2 { (p : List ℕ) → out.new ≡ with_text out.old at (operand_str (map_operand (text_of (found_with image.entry p)) (operand_of operand))) }
+fn put_operand(image: ImageRef, operand: RefineOperand, out: &mut Out)
+    ensures same_reference { out.new.bytes.ghost_name ≡ out.old.bytes.ghost_name }
+    ensures bytes { (p : List ℕ) → out.new.bytes.now ≡ with_text out.old.bytes.now out.old.at (operand_str (map_operand (text_of (found_with image.entry p)) (operand_of operand))) }
+    ensures at { (p : List ℕ) → out.new.at ≡ after_text out.old.bytes.now out.old.at (operand_str (map_operand (text_of (found_with image.entry p)) (operand_of operand))) }
 {
     match operand {
-        RefineOperand::Integer(x) => put_integer(out, at, x),
-        RefineOperand::Str(t) => put_quoted(out, at, image.text(t)),
-        RefineOperand::Bool(b) => put_text(out, at, bool_text(b)),
-        RefineOperand::Param(t) => put_text(out, at, image.text(t)),
+        RefineOperand::Integer(x) => put_integer(out, x),
+        RefineOperand::Str(t) => put_quoted(out, image.text(t)),
+        RefineOperand::Bool(b) => out.text(bool_text(b)),
+        RefineOperand::Param(t) => out.text(image.text(t)),
     }
 }
 
 // refinement failed: NAME OP OPERAND
-fn put_refinement(image: ImageRef, name: u16, refinement: Refinement, out: &mut [u8]) -> usize
-    ensures by_index { (p : List ℕ) → result ≡ after_text out.old 0 (refinement_text (text_of (found_with image.entry p) name) (map (map_refinement (text_of (found_with image.entry p))) (refinement_of (Some refinement)))) }
-    ensures by_index_2 { (p : List ℕ) → out.new ≡ with_text out.old 0 (refinement_text (text_of (found_with image.entry p) name) (map (map_refinement (text_of (found_with image.entry p))) (refinement_of (Some refinement)))) }
+fn put_refinement(image: ImageRef, name: u16, refinement: Refinement, out: &mut Out)
+    ensures same_reference { out.new.bytes.ghost_name ≡ out.old.bytes.ghost_name }
+    ensures bytes { (p : List ℕ) → out.new.bytes.now ≡ with_text out.old.bytes.now out.old.at (refinement_text (text_of (found_with image.entry p) name) (map (map_refinement (text_of (found_with image.entry p))) (refinement_of (Some refinement)))) }
+    ensures at { (p : List ℕ) → out.new.at ≡ after_text out.old.bytes.now out.old.at (refinement_text (text_of (found_with image.entry p) name) (map (map_refinement (text_of (found_with image.entry p))) (refinement_of (Some refinement)))) }
 {
-    let mut at = put_text(out, 0, b"refinement failed: ");
-    at = put_text(out, at, image.text(name));
-    at = put_text(out, at, b" ");
-    at = put_text(out, at, refine_op_str(refinement.op));
-    at = put_text(out, at, b" ");
-    operand_str(image, refinement.operand, out, at)
+    out.text(b"refinement failed: ");
+    out.text(image.text(name));
+    out.text(b" ");
+    out.text(refine_op_str(refinement.op));
+    out.text(b" ");
+    put_operand(image, refinement.operand, out);
 }
 
 // The parameter of a function, by its number.
@@ -91,19 +93,29 @@ fn param_of(image: ImageRef, function: u16, number: u16) -> Param
     image.param((params.first as u32) + (number as u32))
 }
 
-// The default text of a violation of the function's contracts, from the buffer's start on.
-pub fn default_text(image: ImageRef, function: u16, violation: Violation, out: &mut [u8]) -> usize
-    ensures by_index { (p : List ℕ) → result ≡ after_text out.old 0 (default_text (found_with image.entry p) function violation) }
-    ensures by_index_2 { (p : List ℕ) → out.new ≡ with_text out.old 0 (default_text (found_with image.entry p) function violation) }
+// The default text of a violation of the function's contracts.
+fn put_default(image: ImageRef, function: u16, violation: Violation, out: &mut Out)
+    ensures same_reference { out.new.bytes.ghost_name ≡ out.old.bytes.ghost_name }
+    ensures bytes { (p : List ℕ) → out.new.bytes.now ≡ with_text out.old.bytes.now out.old.at (default_text (found_with image.entry p) function violation) }
+    ensures at { (p : List ℕ) → out.new.at ≡ after_text out.old.bytes.now out.old.at (default_text (found_with image.entry p) function violation) }
 {
     match violation {
         Violation::Refinement(number) => {
             let param = param_of(image, function, number);
-            match param.refinement {
-                Some(refinement) => put_refinement(image, param.name, refinement, out),
-                None => 0,
+            if let Some(refinement) = param.refinement {
+                put_refinement(image, param.name, refinement, out);
             }
         }
-        Violation::Requires(_) => put_text(out, 0, b"requires violated"),
+        Violation::Requires(_) => out.text(b"requires violated"),
     }
+}
+
+// The same, from the buffer's start on; the place after it.
+pub fn default_text(image: ImageRef, function: u16, violation: Violation, out: &mut [u8]) -> usize
+    ensures by_index { (p : List ℕ) → result ≡ after_text out.old 0 (default_text (found_with image.entry p) function violation) }
+    ensures by_index_2 { (p : List ℕ) → out.new ≡ with_text out.old 0 (default_text (found_with image.entry p) function violation) }
+{
+    let mut out = Out { bytes: out, at: 0 };
+    put_default(image, function, violation, &mut out);
+    out.at
 }

@@ -23,8 +23,8 @@ impl<'a> Names<'a> {
     pub fn lookup(self, t: u16) -> Option<ConstVal>
         ensures { result ≡ lookup_in self.entry.classes.now self.entry.words.now t self.entry.count }
     {
-        let class = get_or(self.classes, t as usize, 0);
-        for k in (0..self.count as usize).rev() {
+        let class = get_or(self.classes, usize::from(t), 0);
+        for k in (0..usize::from(self.count)).rev() {
             let name = get_or(self.words, k * 3, 0);
             if get_or(self.classes, name as usize, 0) == class {
                 return words_value(
@@ -43,8 +43,8 @@ pub fn bind_name(names: &mut [u64], k: u16, t: u16, v: Option<ConstVal>)
     ensures names_after { names.new ≡ bind_in names.old k t v }
     ensures v_value { words_value (sort_word_of v) (payload_word_of v) ≡ v }
 {
-    let at = k as usize * 3;
-    put(names, at, t as u64);
+    let at = usize::from(k) * 3;
+    put(names, at, u64::from(t));
     put(names, at + 1, sort_word(v));
     put(names, at + 2, payload_word(v));
 }

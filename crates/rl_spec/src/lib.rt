@@ -63,6 +63,17 @@ pub struct Refusal {
     pub place: usize,
 }
 
+impl Cause {
+    ghost use Rattle.std.specs.Prelude.{◌≡◌};
+
+    // A refusal for this cause at a place in the image.
+    pub fn at(self, place: usize) -> Refusal
+        ensures { result ≡ record { cause = self; place = place } }
+    {
+        Refusal { cause: self, place }
+    }
+}
+
 // What is refused for an argument other than the image has place 0.
 impl From<Cause> for Refusal {
     ghost use Rattle.std.specs.Prelude.{◌≡◌};
@@ -260,13 +271,25 @@ pub struct Call {
 // What a record of the section of statements is to the runner; its parts by their indices.
 #[derive(Clone, Copy)]
 pub enum StatementForm {
-    Declaration { name: u16, value: u16 },
+    Declaration {
+        name: u16,
+        value: u16,
+    },
     Expression(u16),
     Return(u16),
     ReturnAlone,
-    Conditional { branch: u16, other: Option<u16> },
-    Branch { condition: Option<u16>, body: Interval },
-    While { condition: u16, body: Interval },
+    Conditional {
+        branch: u16,
+        other: Option<u16>,
+    },
+    Branch {
+        condition: Option<u16>,
+        body: Interval,
+    },
+    While {
+        condition: u16,
+        body: Interval,
+    },
     Loop(Interval),
     Break,
     Continue,

@@ -57,13 +57,6 @@ begins_next r rs s m n e = rw (← e, ← drop-drop 1 m s) (begins_split r rs (d
 abbrev after : ℕ → List Range → List ℕ → ℕ
 after n rs t = cond (begins rs t) n 0
 
-module _ (s : List ℕ) (at : ℕ) {a : Bool} (x : a ≡ begins (utf8_tail ∷ []) (drop (at + 1) s)) where
-  pub two_yes : a ≡ true → 2 ≡ after 2 (utf8_tail ∷ []) (drop (at + 1) s)
-  two_yes p = rw (← x, p) refl
-
-  pub two_no : a ≡ false → 0 ≡ after 2 (utf8_tail ∷ []) (drop (at + 1) s)
-  two_no p = rw (← x, p) refl
-
 abbrev three : Range → List Range
 three r = r ∷ utf8_tail ∷ []
 
@@ -233,10 +226,6 @@ unfolding octets utf8
 octets_skip zero t p = refl
 octets_skip (suc n) [] p = absurd (omega arith)
 octets_skip (suc n) (b ∷ t) p = octets_skip n t (omega arith)
-
-pub utf8_nil : utf8 [] ≡ true
-unfolding utf8 octets
-utf8_nil = refl
 
 -- a text goes on after its first character
 pub utf8_next : (t : List ℕ) (n : ℕ) → n ≡ width_by utf8_char t → (n ≡ 0 → ⊥) → utf8 t ≡ utf8 (drop n t)

@@ -5,39 +5,33 @@ ghost use Rattle.std.specs.Prelude.{◌≡◌, ◌+◌, ◌*◌, ◌≤◌, leng
 ghost use Rattle.rl_laws.specs.Words.{Word};
 ghost use Rattle.rl_spec.specs.Values.{same_text, less_text};
 
-
 // Whether two texts are the same, byte by byte.
+#[tactic(auto, using(crate::proofs::Laws::same_lengths), unfolding(rl_spec::specs::Values::same_text))]
 pub fn same_bytes(a: &[u8], b: &[u8]) -> bool
     ensures { result ≡ same_text a.now b.now }
 {
-    let mut i = 0;
-    while i < a.len() {
-        if b.len() <= i {
-            return false;
-        }
+    if a.len() != b.len() {
+        return false;
+    }
+    for i in 0..a.len() {
         if a[i] != b[i] {
             return false;
         }
-        i += 1;
     }
-    b.len() <= i
+    true
 }
 
 // Whether a text is less than another, byte by byte.
+#[tactic(auto, using(crate::proofs::Laws::less_ended), unfolding(rl_spec::specs::Values::less_text))]
 pub fn less_bytes(a: &[u8], b: &[u8]) -> bool
     ensures { result ≡ less_text a.now b.now }
 {
-    let mut i = 0;
-    while i < a.len() {
-        if b.len() <= i {
-            return false;
-        }
+    for i in 0..a.len().min(b.len()) {
         if a[i] != b[i] {
             return a[i] < b[i];
         }
-        i += 1;
     }
-    i < b.len()
+    a.len() < b.len()
 }
 
 fn u32_be(a: u8, b: u8, c: u8, d: u8) -> u32
@@ -63,6 +57,7 @@ pub fn u64_be_at(s: &[u8], at: usize) -> u64
 }
 
 // Whether two texts are the same.
+#[tactic(auto, using(crate::proofs::Laws::same_laws))]
 pub fn same_text(a: &[u8], b: &[u8]) -> bool
     ensures { result ≡ same_text a.now b.now }
 {
@@ -86,14 +81,12 @@ pub fn same_text(a: &[u8], b: &[u8]) -> bool
 }
 
 // Whether a text is less than another. The first byte decides most.
+#[tactic(auto, using(crate::proofs::Laws::less_laws))]
 pub fn less_text(a: &[u8], b: &[u8]) -> bool
     ensures { result ≡ less_text a.now b.now }
 {
-    if a.len() == 0 {
-        return 0 < b.len();
-    }
-    if b.len() == 0 {
-        return false;
+    if a.is_empty() || b.is_empty() {
+        return a.len() < b.len();
     }
     if a[0] != b[0] {
         return a[0] < b[0];

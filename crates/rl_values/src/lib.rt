@@ -1,16 +1,17 @@
 // The operators on folded values.
 #![tactic(auto)]
 
-ghost use Rattle.std.specs.Prelude.{◌≡◌, neg_ℤ, ◌+ℤ◌, ◌-ℤ◌, ◌*ℤ◌};
+ghost use Rattle.std.specs.Prelude.{◌≡◌};
 ghost use Rattle.std.specs.Int.Signed.{lt_z};
 ghost use Rattle.std.specs.Float.Ieee as F;
 ghost use Rattle.std.specs.Float.{binary64};
 ghost use Rattle.std.specs.Ordering.{partial_lt};
-ghost use Rattle.rl_spec.specs.Values.{compare_by, same_int, same_text, less_text, compare_floats, compare_bools, as_f64, compare_values, bang, negate, checked, arith_floats, arith_ints, arith_values, slash};
+ghost use Rattle.rl_spec.specs.Values.{compare_by, same_int, same_text, less_text, compare_floats, compare_bools, as_f64, compare_values, bang, negate, arith_floats, arith_ints, arith_values};
 ghost use Rattle.rl_spec.specs.Folded.{const_of, op_of, folded_of, verdict_of, with_text, arith_of};
 
 use rl_spec::{ArithOp, ConstVal, RefineOp};
 use rl_text_order::{less_text, same_text};
+use std::num::nearest_i64_to_f64;
 
 // By the order and the equality of the type; beside a NaN only Ne holds.
 fn compare<T: PartialOrd + Copy>(op: RefineOp, x: T, y: T) -> bool
@@ -26,7 +27,8 @@ fn compare<T: PartialOrd + Copy>(op: RefineOp, x: T, y: T) -> bool
     }
 }
 
-// One pass for each, eight bytes at a step: at most is not above.
+// Not by `compare`, for speed: std's order of slices takes a byte at a step, as the form that the bar for long texts is measured by
+// (docs/BENCHMARKS.md). One pass for each: at most is not above.
 #[tactic(auto, using(crate::proofs::Laws::at_most))]
 fn compare_texts(op: RefineOp, a: &[u8], b: &[u8]) -> bool
     ensures { result ≡ compare_by less_text same_text (op_of op) a.now b.now }
@@ -68,13 +70,11 @@ pub fn compare_bools(op: RefineOp, x: bool, y: bool) -> Option<bool>
     }
 }
 
-// The nearest f64, ties to even: both halves are exact, and only their sum is rounded.
+// The nearest f64, ties to even.
 pub fn nearest_f64(x: i64) -> f64
     ensures { result ≡ F.of_int binary64 x }
 {
-    let upper = (x >> 32) as f64 * 4294967296.0;
-    let lower = (x & 0xffff_ffff) as f64;
-    upper + lower
+    nearest_i64_to_f64(x)
 }
 
 #[tactic(auto, using(crate::proofs::Laws::nan_is))]

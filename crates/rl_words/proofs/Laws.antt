@@ -1,13 +1,12 @@
 -- The laws that the functions' proofs cite.
 -- Assumes nothing.
-use Prim.Native.Nat.{ℕ, ◌+◌, ◌-◌, ◌≤◌, ◌<◌}
-use mathlib.Core.Path.{◌≡◌, refl, sym, ap, ◌∙◌}
+use Prim.Native.Nat.{ℕ, ◌-◌, ◌≤◌, ◌<◌}
+use mathlib.Core.Path.{◌≡◌, refl, sym}
 use native.Mathlib.Omega.{arith}
 use lib.Dec.{T}
-use lib.Ieee.{Float, nan, inf, fin, binary64, to_bits, of_bits, fits}
+use lib.Ieee.{Float, binary64, to_bits, of_bits, fits}
 use lib.Ieee.Bits.{of_bits-to_bits}
 use borrow.Author.Tests.{lt-ltb, le-ltb}
-use Rattle.rl_spec.specs.declared.ConstVal.{ConstVal}
 use Rattle.rl_spec.specs.declared.ConstVal.TheVariants as kind
 use Rattle.rl_spec.specs.Answers.{Folded}
 use Rattle.rl_spec.specs.declared.Plain.{Plain}

@@ -13,15 +13,16 @@ impl Replay for Lowering {
     const HEAD: usize = 12;
 
     fn replay(rt: &impl Print, case: &Case<'_>) -> Result<(), Stop> {
-        let mut work_space = [0u16; 16384];
-        let mut out_space = [0u8; 131072];
-        let work = work_space.get_mut(..case.number(0) as usize);
-        let out = out_space.get_mut(..case.number(1) as usize);
-        let (Some(work), Some(out)) = (work, out) else {
+        let mut space = [0u16; 16384];
+        let mut room = [0u8; 131072];
+        let work_len = case.number(0) as usize;
+        let out_len = case.number(1) as usize;
+        let function = case.number(2);
+        let (Some(work), Some(out)) = (space.get_mut(..work_len), room.get_mut(..out_len)) else {
             println!(rt; "too long")?;
             return Ok(());
         };
-        let answer = rl_lower(case.image, work, case.number(2), out);
+        let answer = rl_lower(case.image, work, function, out);
         match unpacked(answer) {
             Ok(len) => {
                 let lowered = part(out, 0, len as usize);

@@ -12,11 +12,12 @@ impl Replay for Paging {
     const HEAD: usize = 8;
 
     fn replay(rt: &impl Print, case: &Case<'_>) -> Result<(), Stop> {
-        let mut work_space = [0u16; 16384];
-        let mut page_space = [0u8; 16384];
-        let work = work_space.get_mut(..case.number(0) as usize);
-        let pages = page_space.get_mut(..case.number(1) as usize);
-        let (Some(work), Some(pages)) = (work, pages) else {
+        let mut space = [0u16; 16384];
+        let mut room = [0u8; 16384];
+        let work_len = case.number(0) as usize;
+        let pages_len = case.number(1) as usize;
+        let (Some(work), Some(pages)) = (space.get_mut(..work_len), room.get_mut(..pages_len))
+        else {
             println!(rt; "too long")?;
             return Ok(());
         };

@@ -12,7 +12,8 @@ impl Replay for Proving {
 
     fn replay(rt: &impl Print, case: &Case<'_>) -> Result<(), Stop> {
         let mut space = [0u16; 8192];
-        match space.get_mut(..case.number(0) as usize) {
+        let work_len = case.number(0) as usize;
+        match space.get_mut(..work_len) {
             Some(work) => print_reports(rt, case.image, work),
             None => println!(rt; "work too long")?,
         }

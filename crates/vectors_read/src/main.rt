@@ -4,7 +4,7 @@
 
 use rl_cases::{Case, Replay, Stop, replay_input};
 use rl_numbers::number_of;
-use rl_spec::{Answer, Cause, Counts};
+use rl_spec::{Counts, Refusal};
 use std::io;
 
 struct Reading;
@@ -15,10 +15,13 @@ impl Replay for Reading {
     // The work slice is not zero beforehand, so that a reader that does not clear it is seen.
     fn replay(rt: &impl Print, case: &Case<'_>) -> Result<(), Stop> {
         let mut space = [65535u16; 9000];
-        match space.get_mut(..case.number(0) as usize) {
+        let work_len = case.number(0) as usize;
+        match space.get_mut(..work_len) {
             Some(work) => {
-                let answer = rl_ast::read(case.image, work);
-                print_answer(rt, answer, work)?;
+                match rl_ast::read(case.image, work) {
+                    Ok(accepted) => print_accepted(rt, accepted.counts, work)?,
+                    Err(refusal) => print_refused(rt, refusal, work)?,
+                }
             }
             None => println!(rt; "work too long")?,
         }
@@ -26,20 +29,13 @@ impl Replay for Reading {
     }
 }
 
-fn print_answer(rt: &impl Print, answer: Answer, work: &[u16]) -> io::Result<()> {
-    match answer {
-        Answer::Accepted { arena: _, counts } => print_accepted(rt, counts, work),
-        Answer::Refused { cause, place } => print_refused(rt, cause, place, work),
-    }
-}
-
-fn print_refused(rt: &impl Print, cause: Cause, place: usize, work: &[u16]) -> io::Result<()> {
+fn print_refused(rt: &impl Print, refusal: Refusal, work: &[u16]) -> io::Result<()> {
     let complaint = if is_zero_from(work, 0) {
         ""
     } else {
         " work not zero"
     };
-    println!(rt; "{} {place}{complaint}", number_of(cause))
+    println!(rt; "{} {}{complaint}", number_of(refusal.cause), refusal.place)
 }
 
 fn print_accepted(rt: &impl Print, counts: Counts, work: &[u16]) -> io::Result<()> {

@@ -26,21 +26,15 @@ impl Replay for Running {
         for (word, bytes) in words.iter_mut().zip(case.tail.chunks(8)) {
             *word = u64_at(bytes, 0);
         }
-        let work = space.get_mut(..case.number(0) as usize);
-        let values = words.get(..case.number(3) as usize);
-        let (Some(work), Some(values)) = (work, values) else {
+        let work_len = case.number(0) as usize;
+        let (function, budget) = (case.number(1), case.number(2));
+        let count = case.number(3) as usize;
+        let (Some(work), Some(values)) = (space.get_mut(..work_len), words.get(..count)) else {
             println!(rt; "too long")?;
             return Ok(());
         };
         let mut outcome = [0u64; 4];
-        let answer = rl_run(
-            case.image,
-            work,
-            case.number(1),
-            values,
-            case.number(2),
-            &mut outcome,
-        );
+        let answer = rl_run(case.image, work, function, values, budget, &mut outcome);
         match unpacked(answer) {
             Ok(_) => print_outcome(rt, outcome)?,
             Err(refused) => println!(rt; "{refused}")?,
@@ -49,6 +43,7 @@ impl Replay for Running {
     }
 }
 
+// The words are those that `rl_run` hands to C too.
 fn print_outcome(rt: &impl Print, outcome: [u64; 4]) -> io::Result<()> {
     let [kind, steps, sort, payload] = outcome;
     match kind {

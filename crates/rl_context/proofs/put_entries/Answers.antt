@@ -1,4 +1,4 @@
-use Rattle.std.proofs.Common.{◌-◌, rules}
+use Rattle.std.proofs.Common.{rules}
 use Rattle.rl_context.proofs.Waits.{entering_none, entering_room, entering_more, entering_all}
 use Rattle.rl_context.proofs.put_entries.Goals as goal
 

@@ -1,12 +1,6 @@
-use Rattle.rl_spec.specs.Schema.{sections}
+use Rattle.std.proofs.Common.{◌≡◌, drop}
 use Rattle.rl_spec.specs.Read.{sections_from}
-use lib.ListN.{length, drop}
-use mathlib.Core.Path.{◌≡◌}
-use Prim.Native.Nat.{◌-◌, ◌≤◌}
 use Rattle.rl_ast.proofs.reader.all_sections.Given as goal
 
-abbrev pub invariant-loop-j : goal.invariant-loop-j
-invariant-loop-j l = (l.j ≤ 8) × ((length l.w ≡ length l.initial.w) × ((length l.p ≡ length l.initial.p) × (sections_from l.s l.c sections l.start l.initial.w l.initial.p ≡ sections_from l.s l.c (drop l.j sections) l.at l.w l.p)))
-
-abbrev pub decreases-loop-j : goal.decreases-loop-j
-decreases-loop-j l = 8 - l.j
+abbrev pub invariant-loop-own : goal.invariant-loop-own
+invariant-loop-own l = sections_from l.s l.c (drop l.own-index l.sections) l.at l.w l.p ≡ sections_from l.s l.c l.sections l.start l.initial.w l.initial.p

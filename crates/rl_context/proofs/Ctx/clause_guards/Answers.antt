@@ -1,4 +1,4 @@
-use Rattle.std.proofs.Common.{◌-◌, ◌∙◌, rules}
+use Rattle.std.proofs.Common.{◌∙◌, rules}
 use Rattle.rl_context.proofs.GuardLaws.{guarding_none, guarding_more, guarding_all}
 use Rattle.rl_context.proofs.Ctx.clause_guards.Goals as goal
 

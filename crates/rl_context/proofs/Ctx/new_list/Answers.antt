@@ -1,4 +1,4 @@
-use Rattle.std.proofs.Common.{refl, ◌-◌, rules}
+use Rattle.std.proofs.Common.{refl, rules}
 use Rattle.rl_context.proofs.Listing.{list_full, list_order, list_short, list_waiting, list_many, list_made}
 use Rattle.rl_context.proofs.Ctx.new_list.Goals as goal
 use Rattle.rl_context.proofs.Ctx.new_list.Goals.{then-self-via-then-self, then-self-via-else-self+then-end-first, then-self-via-else-self+else-end-first+then-scratch-lt186496, then-self-via-else-self+else-end-first+else-scratch-lt186496+then-waiting-end, then-self-via-else-self+else-end-first+else-scratch-lt186496+else-waiting-end+then-passes}

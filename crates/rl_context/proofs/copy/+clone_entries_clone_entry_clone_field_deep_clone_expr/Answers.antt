@@ -1,4 +1,4 @@
-use Rattle.std.proofs.Common.{◌-◌, refl, ap, ◌∙◌, arith, rules}
+use Rattle.std.proofs.Common.{refl, ap, ◌∙◌, arith, rules}
 use Rattle.rl_spec.specs.Schema.{width_of}
 use Rattle.rl_spec.specs.Lower.{is_lambda}
 use Rattle.rl_schema.proofs.Rows.{row_codes}

@@ -1,4 +1,4 @@
-use Rattle.std.proofs.Common.{◌≡◌, ◌+◌, ◌-◌, ◌*◌, ◌^◌, ◌<◌, ◌≤◌, length}
+use Rattle.std.proofs.Common.{◌≡◌, ◌+◌, ◌*◌, ◌^◌, ◌<◌, ◌≤◌, length}
 use Rattle.rl_schema.specs.Codes.{codes, table}
 use Rattle.rl_context.specs.Does.{at}
 use Rattle.rl_context.proofs.Copying.{Copying}
