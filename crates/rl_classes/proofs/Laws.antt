@@ -6,6 +6,7 @@ use mathlib.Core.Bool.{Bool, true, false, cond}
 use mathlib.Core.List.{List}
 use native.Mathlib.Omega.{arith}
 use native.Mathlib.Numerals.{add-one}
+use lib.Dec.{eqb}
 use lib.ListN.{length, get_or, set, replicate, length-set, length-replicate}
 use lib.Seq.{get_or-set_same, get_or-set_other}
 use borrow.Author.Tests.{eq-eqb, ne_eqb}
@@ -52,21 +53,21 @@ module _ (s : List ℕ) (c : Counts) where
       pub way : (p : List ℕ) → link ≡ link_after (bytes p) links (bytes p t) u
 
     module _ (text : List ℕ) (e : IsText t text) where
-      pub find_empty : length text ≡ 0 → Placed 0 0
+      pub find_empty : (b : Bool) → b ≡ eqb (length text) 0 → b ≡ true → Placed 0 0
       unfolding class_of
-      find_empty z p h =
+      find_empty b f k p h =
           record {
-            right = sym (rw (eq-eqb (length (bytes p t)) 0 (ap length (sym (e p)) ∙ z)) refl);
+            right = sym (rw (← e p, ← f, k) refl);
             linked = λ q. absurd (omega arith);
           }
 
-      pub find_start : (length text ≡ 0 → ⊥) → Searched 0 0
+      pub find_start : (b : Bool) → b ≡ eqb (length text) 0 → b ≡ false → Searched 0 0
       unfolding class_of link_after
-      find_start z =
+      find_start b f k =
           let y : t - 0 ≡ t = omega arith in
           record {
             within = omega arith;
-            left = λ p h. rw (ne_eqb (length (bytes p t)) 0 (λ q. z (ap length (e p) ∙ q)), y) refl;
+            left = λ p h. rw (← e p, ← f, k, y) refl;
             way = λ p. refl;
           }
 

@@ -1,6 +1,6 @@
 -- Laws for the functions on two texts: the first mismatch, whether they are the same, the next link.
 -- Assumes nothing.
-use Prim.Native.Nat.{ℕ, suc, ◌+◌, ◌-◌, ◌*◌, ◌%◌, ◌≤◌, ◌<◌, min}
+use Prim.Native.Nat.{ℕ, suc, ◌+◌, ◌-◌, ◌*◌, ◌%◌, ◌≤◌, ◌<◌, min, max}
 use mathlib.Core.Path.{◌≡◌, refl, sym, ap, ◌∙◌}
 use mathlib.Core.Bool.{Bool, true, false}
 use mathlib.Core.List.{List, [], ◌∷◌, ◌++◌}
@@ -54,14 +54,15 @@ module _ (a b : List ℕ) (i whole : ℕ) (v : whole ≡ mismatch a b i) where
           let e : common (drop i a) (drop i b) ≡ suc (common (drop (i + 1) a) (drop (i + 1) b)) = rw (drop-cons a i 0 p, drop-cons b i 0 q, eq-eqb (get_or a i 0) (get_or b i 0) h, add-one i) refl in
           v ∙ rw e (omega arith)
 
-  pub mismatch_past : (n : ℕ) → n ≡ min (length a) (length b) → n ≤ i → i ≡ whole
-  mismatch_past n e p =
-      by_ltb i (length a)
-      (λ l. mismatch_short l (omega arith))
-      mismatch_end
-
-  pub mismatch_rest : (r : ℕ) → r ≡ mismatch a b i → r ≡ whole
-  mismatch_rest r e = e ∙ sym v
+-- past all bytes of a
+pub mismatch_done : (a b : List ℕ) (at i : ℕ) → mismatch a b at ≡ mismatch a b i → length a ≤ i → (at ≤ length a → i ≤ length a) → max at (length a) ≡ mismatch a b at
+mismatch_done a b at i v h k =
+    by_ltb at (length a)
+    (λ l.
+    let e : i ≡ mismatch a b at = mismatch_end a b i (mismatch a b at) v h in
+    let f : i ≤ length a = k (omega arith) in
+    omega arith)
+    (λ l. let e : at ≡ mismatch a b at = mismatch_end a b at (mismatch a b at) refl l in omega arith)
 
 -- ---- whether they are the same
 

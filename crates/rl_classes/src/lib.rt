@@ -20,37 +20,24 @@ use rl_text_order::{same_text, u64_be_at};
 fn mismatch_bytes(a: &[u8], b: &[u8], at: usize) -> usize
     ensures { result ≡ mismatch a.now b.now at }
 {
-    let mut i = at;
-    while i < a.len() {
-        if b.len() <= i {
+    for i in at..a.len() {
+        if b.len() <= i || a[i] != b[i] {
             return i;
         }
-        if a[i] != b[i] {
-            return i;
-        }
-        i += 1;
     }
-    i
+    at.max(a.len())
 }
 
-// The same by words.
+// The same by words. The loop stays a `while`: with `step_by(8)` each of its two ways out would be a return inside it.
 fn mismatch(a: &[u8], b: &[u8], at: usize) -> usize
     ensures { result ≡ mismatch a.now b.now at }
 {
     let n = a.len().min(b.len());
     let mut i = at;
-    while i < n {
-        if n - i < 8 {
-            return mismatch_bytes(a, b, i);
-        }
-        let x = u64_be_at(a, i);
-        let y = u64_be_at(b, i);
-        if x != y {
-            return mismatch_bytes(a, b, i);
-        }
+    while i < n && 8 <= n - i && u64_be_at(a, i) == u64_be_at(b, i) {
         i += 8;
     }
-    i
+    mismatch_bytes(a, b, i)
 }
 
 // Whether two texts are the same, where `to` is their first mismatch from `at` on.
@@ -58,16 +45,14 @@ fn is_same(a: &[u8], b: &[u8], at: usize, to: usize) -> bool
     requires { to ≡ mismatch a.now b.now at }
     ensures { result ≡ same_text a.now b.now }
 {
-    if to < a.len() {
-        return false;
-    }
-    if to < b.len() {
+    if to < a.len() || to < b.len() {
         return false;
     }
     same_text(part(a, 0, at), part(b, 0, at))
 }
 
 // The link of a search that has met the u-th text, a: that text is the parent where the first mismatch is later.
+#[tactic(auto, unfolding(crate::specs::Links::next_link))]
 fn next_link(a: &[u8], b: &[u8], u: u16, link: u64, to: usize) -> u64
     requires { to ≡ mismatch a.now b.now (link % 65536) }
     ensures { result ≡ next_link a.now b.now u link }
@@ -87,7 +72,7 @@ struct Place {
 
 // Searches for the first text that is the same as the t-th.
 fn find(image: ImageRef, links: &[u64], t: u16) -> Place
-    requires { t < image.entry.counts.texts }
+    requires { t < image.counts.texts }
     ensures { (p : List ℕ) → Linked (text_of (found_with image.entry p)) links.now t → PlaceOf (text_of (found_with image.entry p)) links.now t result.class result.link }
 {
     let text = image.text(t);

@@ -24,6 +24,7 @@ pub fn any_refined(image: ImageRef, params: Interval) -> bool
 }
 
 // Whether a function is recorded: one without requires and without a refinement is not.
+#[tactic(auto, unfolding(crate::specs::Callees::recorded))]
 fn record_fn_contracts(image: ImageRef, function: Function) -> bool
     ensures { (p : List ℕ) → result ≡ recorded (found_with image.entry p) function }
 {

@@ -5,7 +5,7 @@ ghost use Rattle.rl_spec.specs.Folded.{folded_of, op_of};
 ghost use Rattle.rl_spec.specs.Fold.{Binding};
 ghost use Rattle.rl_spec.specs.FnContracts.{operand_of};
 ghost use Rattle.rl_spec.specs.Prove.{is_false, refine_bound, refutes};
-ghost use Rattle.rl_fold.specs.Folding.{Names};
+ghost use Rattle.rl_fold.specs.Folding.{Names as Stand};
 ghost use Rattle.rl_records.specs.Found.{found, found_with};
 ghost use Rattle.rl_prover.specs.Violations.{FailsRefinement, FailsClause, ReportsRefinements, ReportsRequires};
 
@@ -17,6 +17,7 @@ use rl_spec::{ConstVal, Interval, RefineOp, RefineOperand, Refinement, Violation
 use rl_values::compare_values;
 
 // Whether a value provably fails a comparison; one that is missing fails none.
+#[tactic(auto, using(rl_operators::proofs::Laws::compare_at), unfolding(rl_spec::specs::Prove::refutes))]
 fn is_refuted(image: ImageRef, op: RefineOp, a: Option<ConstVal>, b: Option<ConstVal>) -> bool
     ensures { (p : List ℕ) → result ≡ refutes (text_of (found_with image.entry p)) (op_of op) (folded_of a) (folded_of b) }
 {
@@ -26,8 +27,9 @@ fn is_refuted(image: ImageRef, op: RefineOp, a: Option<ConstVal>, b: Option<Cons
     compare_values(op, x, y, value_text(image, x), value_text(image, y)) == Some(false)
 }
 
+#[tactic(auto, using(crate::proofs::VerdictLaws::bound_param), unfolding(rl_spec::specs::Prove::refine_bound))]
 fn refine_bound(names: Names, operand: RefineOperand) -> Option<ConstVal>
-    ensures { (im : Image) (env : List (Binding ℕ)) → Names im env names.entry.classes.now names.entry.words.now names.entry.count → folded_of result ≡ refine_bound (text_of im) env (operand_of operand) }
+    ensures { (im : Image) (env : List (Binding ℕ)) → Stand im env names.entry.classes.now names.entry.words.now names.entry.count → folded_of result ≡ refine_bound (text_of im) env (operand_of operand) }
 {
     match operand {
         RefineOperand::Integer(x) => Some(ConstVal::Int(x)),
@@ -59,6 +61,7 @@ fn is_false(v: Option<ConstVal>) -> bool
     matches!(v, Some(ConstVal::Bool(false)))
 }
 
+#[tactic(auto, using(crate::proofs::VerdictLaws::fails_clause))]
 fn fails_clause(image: ImageRef, names: Names, memory: &mut [u64], condition: u16) -> bool
     ensures { FailsClause (found image.entry) names.entry.classes.now names.entry.words.now names.entry.count memory.old condition result memory.new }
 {
