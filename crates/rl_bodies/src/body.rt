@@ -11,7 +11,7 @@ ghost use Rattle.rl_bodies.specs.Bodies.{Fresh, refined_in, desugared_in, entrie
 
 use rl_arena::{kind_at, statement_start};
 use rl_bytes::u16_at;
-use rl_context::Ctx;
+use rl_context::{Ctx, Made};
 use rl_records::ImageRef;
 use rl_spec::Interval;
 use rl_transform::{Walk, transform_returns};
@@ -26,33 +26,39 @@ fn refinement_guards(
     text: &mut [u8],
     scratch: &mut [u8],
     waiting: &mut [u16],
-    ctx: &mut Ctx,
-)
-    ensures { (im : Image) (p : List ℕ) → 16385 ≤ length text.old → im ≡ found_with image.entry p → Gathers im 0 (refined_in im function) (at ctx.old scratch.old waiting.old) (at ctx.new scratch.new waiting.new) }
+    ctx: Ctx,
+) -> Ctx
+    ensures { (im : Image) (p : List ℕ) → 16385 ≤ length text.old → im ≡ found_with image.entry p → Gathers im 0 (refined_in im function) (at ctx scratch.old waiting.old) (at result scratch.new waiting.new) }
 {
     let params = image.function(function).params;
+    let mut ctx = ctx;
     for i in 0..params.count {
-        ctx.refinement_guard(image, scratch, waiting, text, function, i);
+        ctx = ctx.refinement_guard(image, scratch, waiting, text, function, i);
     }
+    ctx
 }
 
 // A list's entries, as they are; they wait then.
-fn push_entries(image: ImageRef, list: Interval, waiting: &mut [u16], ctx: &mut Ctx)
-    ensures { (im : Image) (p s : List ℕ) → Waits im (entries_in (found_with image.entry p) list) (at ctx.old s waiting.old) (at ctx.new s waiting.new) }
+fn push_entries(image: ImageRef, list: Interval, waiting: &mut [u16], ctx: Ctx) -> Ctx
+    ensures { (im : Image) (p s : List ℕ) → Waits im (entries_in (found_with image.entry p) list) (at ctx s waiting.old) (at result s waiting.new) }
 {
+    let mut ctx = ctx;
     for i in 0..list.count {
         let n = image.entry((list.first as u32) + (i as u32));
-        ctx.push(waiting, n);
+        ctx = ctx.push(waiting, n);
     }
+    ctx
 }
 
 // Numbers, as they are; they wait then.
-fn push_all(numbers: &[u16], waiting: &mut [u16], ctx: &mut Ctx)
-    ensures { (im : Image) (s : List ℕ) → Waits im numbers.now (at ctx.old s waiting.old) (at ctx.new s waiting.new) }
+fn push_all(numbers: &[u16], waiting: &mut [u16], ctx: Ctx) -> Ctx
+    ensures { (im : Image) (s : List ℕ) → Waits im numbers.now (at ctx s waiting.old) (at result s waiting.new) }
 {
+    let mut ctx = ctx;
     for n in numbers {
-        ctx.push(waiting, *n);
+        ctx = ctx.push(waiting, *n);
     }
+    ctx
 }
 
 // The value of a body's last statement, where that is a bare expression.
@@ -72,35 +78,49 @@ fn last_bare(image: ImageRef, body: Interval) -> Option<u16>
 }
 
 // The body under ensures; it waits then. What stands for its statements waits aside, since a wrapped bare last expression comes ahead of them.
-fn ensured_body(walk: Walk, body: Interval, scratch: &mut [u8], waiting: &mut [u16], ctx: &mut Ctx)
-    ensures { ready walk.entry → body_fits walk.entry.image body → Gathers (found walk.entry.image) 0 (ensured_body (clauses_in (found walk.entry.image) walk.entry.ensured) (entries_in (found walk.entry.image) body)) (at ctx.old scratch.old waiting.old) (at ctx.new scratch.new waiting.new) }
+fn ensured_body(
+    walk: Walk,
+    body: Interval,
+    scratch: &mut [u8],
+    waiting: &mut [u16],
+    ctx: Ctx,
+) -> Ctx
+    ensures { ready walk.entry → body_fits walk.entry.image body → Gathers (found walk.entry.image) 0 (ensured_body (clauses_in (found walk.entry.image) walk.entry.ensured) (entries_in (found walk.entry.image) body)) (at ctx scratch.old waiting.old) (at result scratch.new waiting.new) }
 {
     let image = walk.image;
     let bare = last_bare(image, body);
     let mut side = [0u16; 4096];
-    let before = ctx.waiting;
-    ctx.waiting = 0;
-    transform_returns(walk, image.counts.statements, body, scratch, &mut side, ctx);
-    let count = ctx.waiting.min(4096);
-    ctx.waiting = before;
+    let aside = Ctx { waiting: 0, ..ctx };
+    let done = transform_returns(
+        walk,
+        image.counts.statements,
+        body,
+        scratch,
+        &mut side,
+        aside,
+    );
+    let count = done.waiting.min(4096);
+    let back = Ctx {
+        waiting: ctx.waiting,
+        ..done
+    };
     match bare {
         Some(value) => {
-            ctx.wrap_return(image, walk.rows, scratch, waiting, value, walk.ensured);
-            push_all(&side[..count.saturating_sub(1) as usize], waiting, ctx);
+            let wrapped = back.wrap_return(image, walk.rows, scratch, waiting, value, walk.ensured);
+            push_all(&side[..count.saturating_sub(1) as usize], waiting, wrapped)
         }
-        None => push_all(&side[..count as usize], waiting, ctx),
+        None => push_all(&side[..count as usize], waiting, back),
     }
 }
 
 // The body's own statements, or what stands for them; they wait then.
-fn rest(walk: Walk, body: Interval, scratch: &mut [u8], waiting: &mut [u16], ctx: &mut Ctx)
-    ensures { ready walk.entry → body_fits walk.entry.image body → Gathers (found walk.entry.image) 0 (rest_in (found walk.entry.image) body walk.entry.ensured) (at ctx.old scratch.old waiting.old) (at ctx.new scratch.new waiting.new) }
+fn rest(walk: Walk, body: Interval, scratch: &mut [u8], waiting: &mut [u16], ctx: Ctx) -> Ctx
+    ensures { ready walk.entry → body_fits walk.entry.image body → Gathers (found walk.entry.image) 0 (rest_in (found walk.entry.image) body walk.entry.ensured) (at ctx scratch.old waiting.old) (at result scratch.new waiting.new) }
 {
     if walk.ensured.count == 0 {
-        push_entries(walk.image, body, waiting, ctx);
-        return;
+        return push_entries(walk.image, body, waiting, ctx);
     }
-    ensured_body(walk, body, scratch, waiting, ctx);
+    ensured_body(walk, body, scratch, waiting, ctx)
 }
 
 // The statements of the function's new body; they wait then. `text` is scratch, for the texts of refinements: what it holds then is left
@@ -112,20 +132,20 @@ fn desugar_fn_contracts(
     text: &mut [u8],
     scratch: &mut [u8],
     waiting: &mut [u16],
-    ctx: &mut Ctx,
-)
-    ensures { rows.now ≡ table → function < image.entry.counts.functions → 16385 ≡ length text.old → WellFormed (found image.entry) → Fresh (found image.entry) ctx.old → Gathers (found image.entry) 0 (desugared_in (found image.entry) function) (at ctx.old scratch.old waiting.old) (at ctx.new scratch.new waiting.new) }
+    ctx: Ctx,
+) -> Ctx
+    ensures { rows.now ≡ table → function < image.entry.counts.functions → 16385 ≡ length text.old → WellFormed (found image.entry) → Fresh (found image.entry) ctx → Gathers (found image.entry) 0 (desugared_in (found image.entry) function) (at ctx scratch.old waiting.old) (at result scratch.new waiting.new) }
 {
     let f = image.function(function);
-    refinement_guards(image, function, text, scratch, waiting, ctx);
+    let refined = refinement_guards(image, function, text, scratch, waiting, ctx);
     let default = b"requires violated";
-    ctx.clause_guards(image, rows, scratch, waiting, default, f.required);
+    let required = refined.clause_guards(image, rows, scratch, waiting, default, f.required);
     let walk = Walk {
         image,
         rows,
         ensured: f.ensured,
     };
-    rest(walk, f.body, scratch, waiting, ctx);
+    rest(walk, f.body, scratch, waiting, required)
 }
 
 // The new body list of a function. `text` is scratch: what it holds then is left open.
@@ -136,11 +156,11 @@ pub fn new_body(
     text: &mut [u8],
     scratch: &mut [u8],
     waiting: &mut [u16],
-    ctx: &mut Ctx,
-) -> Interval
-    ensures { rows.now ≡ table → function < image.entry.counts.functions → 16385 ≡ length text.old → WellFormed (found image.entry) → Fresh (found image.entry) ctx.old → Does (found image.entry) 0 0 nothing (new_body (found image.entry) function) (at ctx.old scratch.old waiting.old) (pair result.first result.count) (at ctx.new scratch.new waiting.new) }
+    ctx: Ctx,
+) -> Made<Interval>
+    ensures { rows.now ≡ table → function < image.entry.counts.functions → 16385 ≡ length text.old → WellFormed (found image.entry) → Fresh (found image.entry) ctx → Does (found image.entry) 0 0 nothing (new_body (found image.entry) function) (at ctx scratch.old waiting.old) (pair result.made.first result.made.count) (at result.ctx scratch.new waiting.new) }
 {
     let first = ctx.waiting;
-    desugar_fn_contracts(image, rows, function, text, scratch, waiting, ctx);
-    ctx.new_list(scratch, waiting, first)
+    let done = desugar_fn_contracts(image, rows, function, text, scratch, waiting, ctx);
+    done.new_list(scratch, waiting, first)
 }

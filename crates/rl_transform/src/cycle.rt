@@ -11,7 +11,7 @@ use crate::kinds::{BRANCH, CONDITIONAL, FOR_EACH, MATCH, RETURN, RETURN_ALONE, W
 use crate::rebuild::{rebuild, rebuild_conditional};
 use rl_arena::{kind_at, statement_start};
 use rl_bytes::{second_u16, u16_at};
-use rl_context::{Ctx, list_word};
+use rl_context::{Ctx, Made, list_word};
 use rl_records::optional_at;
 use rl_spec::Interval;
 
@@ -23,14 +23,16 @@ pub fn transform_returns(
     list: Interval,
     scratch: &mut [u8],
     waiting: &mut [u16],
-    ctx: &mut Ctx,
-)
-    ensures { ready walk.entry → limit ≤ walk.entry.image.counts.statements → by walk.entry Returns limit list.first list.count (at ctx.old scratch.old waiting.old) (at ctx.new scratch.new waiting.new) }
+    ctx: Ctx,
+) -> Ctx
+    ensures { ready walk.entry → limit ≤ walk.entry.image.counts.statements → by walk.entry Returns limit list.first list.count (at ctx scratch.old waiting.old) (at result scratch.new waiting.new) }
 {
+    let mut ctx = ctx;
     for i in 0..list.count {
         let s = walk.image.entry((list.first as u32) + (i as u32));
-        transform_below(walk, limit, s, scratch, waiting, ctx);
+        ctx = transform_below(walk, limit, s, scratch, waiting, ctx);
     }
+    ctx
 }
 
 // A statement before the one at hand; no accepted image has another.
@@ -41,15 +43,14 @@ fn transform_below(
     s: u16,
     scratch: &mut [u8],
     waiting: &mut [u16],
-    ctx: &mut Ctx,
-)
-    ensures { ready walk.entry → limit ≤ walk.entry.image.counts.statements → by walk.entry Below limit s (at ctx.old scratch.old waiting.old) (at ctx.new scratch.new waiting.new) }
+    ctx: Ctx,
+) -> Ctx
+    ensures { ready walk.entry → limit ≤ walk.entry.image.counts.statements → by walk.entry Below limit s (at ctx scratch.old waiting.old) (at result scratch.new waiting.new) }
 {
     if limit <= s {
-        ctx.push(waiting, s);
-        return;
+        return ctx.push(waiting, s);
     }
-    transform_statement(walk, s, scratch, waiting, ctx);
+    transform_statement(walk, s, scratch, waiting, ctx)
 }
 
 // What stands for a statement; it waits then.
@@ -59,12 +60,12 @@ pub fn transform_statement(
     id: u16,
     scratch: &mut [u8],
     waiting: &mut [u16],
-    ctx: &mut Ctx,
-)
-    ensures { ready walk.entry → id < walk.entry.image.counts.statements → by walk.entry OneStatement id (at ctx.old scratch.old waiting.old) (at ctx.new scratch.new waiting.new) }
+    ctx: Ctx,
+) -> Ctx
+    ensures { ready walk.entry → id < walk.entry.image.counts.statements → by walk.entry OneStatement id (at ctx scratch.old waiting.old) (at result scratch.new waiting.new) }
 {
     if ctx.full {
-        return;
+        return ctx;
     }
     let image = walk.image;
     let start = statement_start(image.starts, image.counts, id);
@@ -72,23 +73,25 @@ pub fn transform_statement(
     match kind {
         RETURN => {
             let value = u16_at(image.bytes, (start as usize) + 5);
-            ctx.wrap_return(image, walk.rows, scratch, waiting, value, walk.ensured);
+            ctx.wrap_return(image, walk.rows, scratch, waiting, value, walk.ensured)
         }
         RETURN_ALONE => {
-            let value = ctx.null(scratch);
-            ctx.wrap_return(image, walk.rows, scratch, waiting, value, walk.ensured);
+            let null = ctx.null(scratch);
+            let value = null.made;
+            null.ctx
+                .wrap_return(image, walk.rows, scratch, waiting, value, walk.ensured)
         }
         CONDITIONAL => {
             let made = transform_conditional(walk, id, scratch, waiting, ctx);
-            ctx.push(waiting, made);
+            made.ctx.push(waiting, made.made)
         }
         MATCH => {
             let made = transform_match(walk, id, scratch, waiting, ctx);
-            ctx.push(waiting, made);
+            made.ctx.push(waiting, made.made)
         }
         WHILE..=FOR_EACH => {
             let made = transform_body(walk, id, id, scratch, waiting, ctx);
-            ctx.push(waiting, made);
+            made.ctx.push(waiting, made.made)
         }
         _ => ctx.push(waiting, id),
     }
@@ -101,9 +104,9 @@ fn transform_conditional(
     id: u16,
     scratch: &mut [u8],
     waiting: &mut [u16],
-    ctx: &mut Ctx,
-) -> u16
-    ensures { ready walk.entry → id < walk.entry.image.counts.statements → (record_of (found walk.entry.image) Statements id).kind ≡ 68 → by walk.entry Conditional id (at ctx.old scratch.old waiting.old) result (at ctx.new scratch.new waiting.new) }
+    ctx: Ctx,
+) -> Made<u16>
+    ensures { ready walk.entry → id < walk.entry.image.counts.statements → (record_of (found walk.entry.image) Statements id).kind ≡ 68 → by walk.entry Conditional id (at ctx scratch.old waiting.old) result.made (at result.ctx scratch.new waiting.new) }
 {
     let image = walk.image;
     let place = statement_start(image.starts, image.counts, id) as usize;
@@ -111,10 +114,11 @@ fn transform_conditional(
     let branch = transform_branch(walk, id, first, scratch, waiting, ctx);
     match optional_at(image.bytes, place + 7) {
         Some(s) => {
-            let other = transform_branch(walk, id, s, scratch, waiting, ctx);
-            rebuild_conditional(walk, id, branch, Some(other), scratch, ctx)
+            let other = transform_branch(walk, id, s, scratch, waiting, branch.ctx);
+            let second = Some(other.made);
+            rebuild_conditional(walk, id, branch.made, second, scratch, other.ctx)
         }
-        None => rebuild_conditional(walk, id, branch, None, scratch, ctx),
+        None => rebuild_conditional(walk, id, branch.made, None, scratch, branch.ctx),
     }
 }
 
@@ -126,9 +130,9 @@ fn transform_branch(
     s: u16,
     scratch: &mut [u8],
     waiting: &mut [u16],
-    ctx: &mut Ctx,
-) -> u16
-    ensures { ready walk.entry → limit ≤ walk.entry.image.counts.statements → s < walk.entry.image.counts.statements → by walk.entry Branch limit s (at ctx.old scratch.old waiting.old) result (at ctx.new scratch.new waiting.new) }
+    ctx: Ctx,
+) -> Made<u16>
+    ensures { ready walk.entry → limit ≤ walk.entry.image.counts.statements → s < walk.entry.image.counts.statements → by walk.entry Branch limit s (at ctx scratch.old waiting.old) result.made (at result.ctx scratch.new waiting.new) }
 {
     let image = walk.image;
     let start = statement_start(image.starts, image.counts, s);
@@ -136,7 +140,7 @@ fn transform_branch(
     if kind == BRANCH {
         return transform_body(walk, limit, s, scratch, waiting, ctx);
     }
-    s
+    Made { ctx, made: s }
 }
 
 // A match: its arms, their list, and the record again.
@@ -146,9 +150,9 @@ fn transform_match(
     id: u16,
     scratch: &mut [u8],
     waiting: &mut [u16],
-    ctx: &mut Ctx,
-) -> u16
-    ensures { ready walk.entry → id < walk.entry.image.counts.statements → (record_of (found walk.entry.image) Statements id).kind ≡ 75 → by walk.entry Match id (at ctx.old scratch.old waiting.old) result (at ctx.new scratch.new waiting.new) }
+    ctx: Ctx,
+) -> Made<u16>
+    ensures { ready walk.entry → id < walk.entry.image.counts.statements → (record_of (found walk.entry.image) Statements id).kind ≡ 75 → by walk.entry Match id (at ctx scratch.old waiting.old) result.made (at result.ctx scratch.new waiting.new) }
 {
     let image = walk.image;
     let place = (statement_start(image.starts, image.counts, id) as usize) + 7;
@@ -157,9 +161,10 @@ fn transform_match(
         count: second_u16(image.bytes, place),
     };
     let first = ctx.waiting;
-    transform_arms(walk, id, arms, scratch, waiting, ctx);
-    let list = ctx.new_list(scratch, waiting, first);
-    rebuild(walk, id, 2, list_word(list), 7, 0, scratch, ctx)
+    let done = transform_arms(walk, id, arms, scratch, waiting, ctx);
+    let list = done.new_list(scratch, waiting, first);
+    let word = list_word(list.made);
+    rebuild(walk, id, 2, word, 7, 0, scratch, list.ctx)
 }
 
 // The arms of a list; they wait then.
@@ -170,15 +175,17 @@ fn transform_arms(
     list: Interval,
     scratch: &mut [u8],
     waiting: &mut [u16],
-    ctx: &mut Ctx,
-)
-    ensures { ready walk.entry → limit ≤ walk.entry.image.counts.statements → arms_in walk.entry list → by walk.entry Arms limit list.first list.count (at ctx.old scratch.old waiting.old) (at ctx.new scratch.new waiting.new) }
+    ctx: Ctx,
+) -> Ctx
+    ensures { ready walk.entry → limit ≤ walk.entry.image.counts.statements → arms_in walk.entry list → by walk.entry Arms limit list.first list.count (at ctx scratch.old waiting.old) (at result scratch.new waiting.new) }
 {
+    let mut ctx = ctx;
     for i in 0..list.count {
         let s = walk.image.entry((list.first as u32) + (i as u32));
         let made = transform_body(walk, limit, s, scratch, waiting, ctx);
-        ctx.push(waiting, made);
+        ctx = made.ctx.push(waiting, made.made);
     }
+    ctx
 }
 
 // A record with a list of statements: the list transformed, and the record again; needs_scope of a branch is false.
@@ -189,9 +196,9 @@ fn transform_body(
     s: u16,
     scratch: &mut [u8],
     waiting: &mut [u16],
-    ctx: &mut Ctx,
-) -> u16
-    ensures { ready walk.entry → limit ≤ walk.entry.image.counts.statements → s < walk.entry.image.counts.statements → (list_field (record_of (found walk.entry.image) Statements s).kind ≡ 0 → ⊥) → by walk.entry Body limit s (at ctx.old scratch.old waiting.old) result (at ctx.new scratch.new waiting.new) }
+    ctx: Ctx,
+) -> Made<u16>
+    ensures { ready walk.entry → limit ≤ walk.entry.image.counts.statements → s < walk.entry.image.counts.statements → (list_field (record_of (found walk.entry.image) Statements s).kind ≡ 0 → ⊥) → by walk.entry Body limit s (at ctx scratch.old waiting.old) result.made (at result.ctx scratch.new waiting.new) }
 {
     let image = walk.image;
     let start = statement_start(image.starts, image.counts, s);
@@ -202,16 +209,17 @@ fn transform_body(
         count: second_u16(image.bytes, place),
     };
     let first = ctx.waiting;
-    transform_returns(walk, limit, body, scratch, waiting, ctx);
-    let list = ctx.new_list(scratch, waiting, first);
+    let done = transform_returns(walk, limit, body, scratch, waiting, ctx);
+    let list = done.new_list(scratch, waiting, first);
+    let word = list_word(list.made);
     rebuild(
         walk,
         s,
         field.number,
-        list_word(list),
+        word,
         field.flag,
         0,
         scratch,
-        ctx,
+        list.ctx,
     )
 }

@@ -14,7 +14,7 @@ ghost use Rattle.rl_transform.specs.Transforms.{rebuilt};
 use crate::Walk;
 use rl_arena::{kind_at, statement_start};
 use rl_bytes::put;
-use rl_context::{Ctx, Kind, optional_word, word_of};
+use rl_context::{Ctx, Kind, Made, optional_word, word_of};
 use rl_schema::{row_of, sort_of, width_of};
 
 // The fields of the record at a place, by the schema's row, as words.
@@ -45,9 +45,9 @@ pub fn rebuild(
     k: u8,
     other: u64,
     scratch: &mut [u8],
-    ctx: &mut Ctx,
-) -> u16
-    ensures { (w : List ℕ) → walk.entry.rows.now ≡ table → s < walk.entry.image.counts.statements → j < 8 → k < 8 → Makes (found walk.entry.image) (append Statements (rebuilt (record_of (found walk.entry.image) Statements s) j word k other ∷ [])) (at ctx.old scratch.old w) result (at ctx.new scratch.new w) }
+    ctx: Ctx,
+) -> Made<u16>
+    ensures { (w : List ℕ) → walk.entry.rows.now ≡ table → s < walk.entry.image.counts.statements → j < 8 → k < 8 → Makes (found walk.entry.image) (append Statements (rebuilt (record_of (found walk.entry.image) Statements s) j word k other ∷ [])) (at ctx scratch.old w) result.made (at result.ctx scratch.new w) }
 {
     let image = walk.image;
     let start = statement_start(image.starts, image.counts, s);
@@ -66,9 +66,9 @@ pub fn rebuild_conditional(
     branch: u16,
     other: Option<u16>,
     scratch: &mut [u8],
-    ctx: &mut Ctx,
-) -> u16
-    ensures { (w : List ℕ) → walk.entry.rows.now ≡ table → s < walk.entry.image.counts.statements → Makes (found walk.entry.image) (append Statements (rebuilt (record_of (found walk.entry.image) Statements s) 1 branch 2 (first (optional_field other)) ∷ [])) (at ctx.old scratch.old w) result (at ctx.new scratch.new w) }
+    ctx: Ctx,
+) -> Made<u16>
+    ensures { (w : List ℕ) → walk.entry.rows.now ≡ table → s < walk.entry.image.counts.statements → Makes (found walk.entry.image) (append Statements (rebuilt (record_of (found walk.entry.image) Statements s) 1 branch 2 (first (optional_field other)) ∷ [])) (at ctx scratch.old w) result.made (at result.ctx scratch.new w) }
 {
     let word = optional_word(other) as u64;
     rebuild(walk, s, 1, branch as u64, 2, word, scratch, ctx)

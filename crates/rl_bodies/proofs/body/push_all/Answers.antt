@@ -8,7 +8,7 @@ loop-n-init c = (refl, λ im s. first_none _ _ _)
 pub loop-n-preserved : goal.loop-n-preserved
 loop-n-preserved c = (
   search rules,
-  λ im s. first_more _ _ _ _ _ (c.loop-n.invariant.1 im s) _ _ c.loop-n-test.true refl (c.push.ensures s),
+  λ im s. first_more _ _ _ _ _ (c.loop-n.invariant.1 im s) _ _ c.loop-n-test.true refl (c.push-ctx.ensures s),
 )
 
 pub returns : goal.returns

@@ -8,7 +8,7 @@ loop-i-init c = (refl, λ im p s. entered_none _ _ _ _ _ _)
 pub loop-i-preserved : goal.loop-i-preserved
 loop-i-preserved c = (
   search rules,
-  λ im p s. entered_more _ _ _ _ _ _ _ _ (c.loop-i.invariant.1 im p s) _ _ (c.entry-n.ensures p) (c.push.ensures s),
+  λ im p s. entered_more _ _ _ _ _ _ _ _ (c.loop-i.invariant.1 im p s) _ _ (c.entry-n.ensures p) (c.push-ctx.ensures s),
 )
 
 pub returns : goal.returns

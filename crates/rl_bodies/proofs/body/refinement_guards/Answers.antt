@@ -12,7 +12,7 @@ loop-i-preserved c = (
       λ im p h e.
           guards_more _ _ _ _ _ e refl _ _ (c.loop-i.invariant.1.1.1 im p h e) _
           (subst (λ f. c.loop-i.i < f.params.count) (c.function.ensures p) c.loop-i-test.true)
-          (c.refinement_guard.ensures im p (omega (arith, h, c.loop-i.invariant.0))),
+          (c.refinement_guard-ctx.ensures im p (omega (arith, h, c.loop-i.invariant.0))),
     ),
   ),
 )

@@ -14,7 +14,7 @@ transform_arms-loop-i-preserved t c = (
     search rules,
     λ r h k.
         each_more _ _ (adds_arm _ (adds_walk _ _)) _ _ _ _ _ _ _ (c.loop-i.invariant.1.1 r h k) c.loop-i-test.true _ _ (c.entry-s.ensures _)
-        (arm_made _ _ _ _ _ r _ _ _ _ _ _ _ _ k c.loop-i-test.true (c.entry-s.ensures _) (c.transform_body-made.ensures r h)) (c.push.ensures _),
+        (arm_made _ _ _ _ _ r _ _ _ _ _ _ _ _ k c.loop-i-test.true (c.entry-s.ensures _) (c.transform_body-made.ensures r h)) (c.push-ctx.ensures _),
   ),
 )
 
@@ -27,7 +27,7 @@ transform_below-returns-then-limit-s t c = λ r h. below_untouched _ _ _ _ _ _ _
 pub transform_body-returns : goal.transform_body-returns
 transform_body-returns t c = λ r h k l.
     body_done _ _ _ _ _ r _ _ _ _ k c.statement_start-start.ensures (c.kind_at.ensures ∙ kind_in _ _) _ _ _ _ _ _ _ _ _ _ l _ c.list_field-field.ensures.place
-    c.u16_at.ensures c.second_u16.ensures refl (c.transform_returns.ensures r h) c.new_list-list.ensures c.list_word.ensures _ _
+    c.u16_at.ensures c.second_u16.ensures refl (c.transform_returns-done.ensures r h) c.new_list-list.ensures c.list_word-word.ensures _ _
     c.list_field-field.ensures.number c.list_field-field.ensures.flag
     (c.rebuild.ensures _ r.rows_are k (field_low c.kind_at.result _ c.list_field-field.ensures.number) (flag_low c.kind_at.result _ c.list_field-field.ensures.flag))
 
@@ -56,8 +56,8 @@ transform_conditional-returns-in-None t c = λ r h k.
 pub transform_match-returns : goal.transform_match-returns
 transform_match-returns t c = λ r h k.
     match_done _ _ _ _ _ r _ _ h c.statement_start.ensures k _ _ _ refl c.u16_at.ensures c.second_u16.ensures _ _ _ _ _ _ _ _ refl
-    (c.transform_arms.ensures r (omega (arith, h)) (arms_in _ _ _ _ _ r _ _ h c.statement_start.ensures k _ _ _ refl c.u16_at.ensures c.second_u16.ensures))
-    c.new_list-list.ensures c.list_word.ensures
+    (c.transform_arms-done.ensures r (omega (arith, h)) (arms_in _ _ _ _ _ r _ _ h c.statement_start.ensures k _ _ _ refl c.u16_at.ensures c.second_u16.ensures))
+    c.new_list-list.ensures c.list_word-word.ensures
     (c.rebuild.ensures _ r.rows_are h (omega arith) (omega arith))
 
 pub transform_returns-loop-i-preserved : goal.transform_returns-loop-i-preserved
@@ -65,7 +65,7 @@ transform_returns-loop-i-preserved t c = (
   search rules,
   (
     search rules,
-    λ r h. flat_more _ _ (adds_walk _ _) _ _ _ _ _ _ (c.loop-i.invariant.1.1 r h) c.loop-i-test.true _ (c.entry-s.ensures _) (c.transform_below.ensures r h),
+    λ r h. flat_more _ _ (adds_walk _ _) _ _ _ _ _ _ (c.loop-i.invariant.1.1 r h) c.loop-i-test.true _ (c.entry-s.ensures _) (c.transform_below-ctx.ensures r h),
   ),
 )
 
@@ -82,7 +82,7 @@ transform_statement-returns-in-66 t c = λ r h.
 
 pub transform_statement-returns-in-67 : goal.transform_statement-returns-in-67
 transform_statement-returns-in-67 t c = λ r h.
-    statement_alone _ _ _ _ _ _ _ h c.statement_start-start.ensures (c.kind_at-kind.ensures ∙ kind_in _ _) _ _ _ _ c.in-67.is (c.null-value.ensures _ 0 _)
+    statement_alone _ _ _ _ _ _ _ h c.statement_start-start.ensures (c.kind_at-kind.ensures ∙ kind_in _ _) _ _ _ _ c.in-67.is (c.null-null.ensures _ 0 _)
     (c.wrap_return-in-67.ensures r.rows_are r.conditions)
 
 pub transform_statement-returns-in-68 : goal.transform_statement-returns-in-68
