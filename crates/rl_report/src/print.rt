@@ -28,6 +28,7 @@ fn print_lines(
 {
     for number in 0..lines.count {
         let n = put_line(image, starts, counts, lines, reports, number, out);
+        // no slice up to n, since no clause of `put_line` says that n is within the buffer
         rt.write_all(part(out, 0, n))?;
     }
     Ok(())
