@@ -1,4 +1,4 @@
--- Laws for the functions on two texts: the first mismatch, whether they are the same, the next link.
+-- Laws for the functions on two texts: the first mismatch, whether they are the same.
 -- Assumes nothing.
 use Prim.Native.Nat.{ℕ, suc, ◌+◌, ◌-◌, ◌*◌, ◌%◌, ◌≤◌, ◌<◌, min, max}
 use mathlib.Core.Path.{◌≡◌, refl, sym, ap, ◌∙◌}
@@ -118,14 +118,3 @@ module _ (a b : List ℕ) (at to : ℕ) (v : to ≡ mismatch a b at) where
   pub same_prefix : length a ≤ to → length b ≤ to → (x y : List ℕ) (r : Bool) → x ≡ take at a → y ≡ take at b → r ≡ same_text x y → r ≡ same_text a b
   same_prefix h k x y r e f g =
       g ∙ rw (e, f) (both (take at a) (take at b) a b (λ q. mismatch_whole a b at (omega arith) (omega arith) q) (λ q. ap (take at) q))
-
--- ---- the next link
-
-module _ (a b : List ℕ) (u link to : ℕ) (v : to ≡ mismatch a b (link % 65536)) where
-  pub link_stays : to ≤ link % 65536 → link ≡ next_link a b u link
-  unfolding next_link
-  link_stays h = rw (← v, le-ltb (link % 65536) to h) refl
-
-  pub link_goes : link % 65536 < to → (u + 1) * 65536 + to % 65536 ≡ next_link a b u link
-  unfolding next_link
-  link_goes h = rw (← v, lt-ltb (link % 65536) to h) refl

@@ -1,7 +1,6 @@
-use Prim.Native.Nat.{◌-◌}
 use Rattle.rl_checker.proofs.ProveLaws.{each_start, each_end, each_bound, each_next}
 use Rattle.std.proofs.Common.{rules}
-use Rattle.rl_checker.proofs.proving.prove_calls.Goals as goal
+use Rattle.rl_checker.proofs.proving.prove_each.Goals as goal
 
 ruleset laws = (each_start, each_end, each_bound, each_next)
 
