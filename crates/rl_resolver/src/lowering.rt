@@ -64,25 +64,24 @@ fn put_finished(image: ImageRef, function: u16, out: &mut [u8]) -> Option<usize>
     let mut waiting = [0u16; 4096];
     let mut text = [0u8; 16385];
     let rows = schema_table();
-    let mut ctx = begun(image, function);
-    let list = new_body(
+    let made = new_body(
         image,
         &rows,
         function,
         &mut text,
         &mut scratch,
         &mut waiting,
-        &mut ctx,
+        begun(image, function),
     );
-    if ctx.full {
+    if made.ctx.full {
         return None;
     }
     let sources = Sources {
         image,
-        ctx,
+        ctx: made.ctx,
         scratch: &scratch,
     };
-    assemble(sources, function, list, out)
+    assemble(sources, function, made.made, out)
 }
 
 // The lowered image's bytes, and their number; none where a limit would be passed, and then nothing is put.
