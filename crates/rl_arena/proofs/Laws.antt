@@ -9,46 +9,16 @@ use lib.Dec.{leb, eqb}
 use mir.Val.{Fits}
 use mir.Syntax.{w8, w64}
 use lib.ListN.{get_or}
-use borrow.Author.Tests.{leb-true, ne_eqb}
+use borrow.Author.Tests.{leb-true}
 use Rattle.std.specs.Prelude.{Option, Some, None}
 use Rattle.rl_spec.specs.declared.Sort.{Sort}
-use Rattle.rl_spec.specs.Bytes.{num_at, u16_at, u32_at}
+use Rattle.rl_spec.specs.Bytes.{u16_at}
 use Rattle.rl_spec.specs.Schema.{sort_of, width_of}
-use Rattle.rl_spec.specs.Image.{Field, no_field, first, second, is_pair, field_in, fields_at, record_in}
-use Rattle.rl_bytes.proofs.Laws.{one, two, four}
+use Rattle.rl_spec.specs.Image.{Field, no_field, first, second, is_pair, field_in, fields_at}
 use Rattle.rl_schema.specs.Codes.{codes}
 use Rattle.rl_schema.proofs.Rows.{codes_none, codes_more}
 use Rattle.rl_arena.specs.declared.Spot.{Spot}
 use Rattle.rl_arena.specs.Find.{is_width, number_in, spot_of}
-
--- ---- a kind, an id
-
-pub kind_is : (s : List ℕ) (at r : ℕ) → r ≡ get_or s at 0 → r ≡ (record_in s at).kind
-unfolding record_in
-kind_is s at r e = e
-
--- ---- numbers
-
-module _ (s : List ℕ) (at n r : ℕ) where
-  pub number_one : n ≡ 1 → r ≡ get_or s at 0 → r ≡ number_in s at n
-  unfolding number_in
-  number_one e f = rw e (f ∙ one s at)
-
-  pub number_two : n ≡ 2 → r ≡ u16_at s at → r ≡ number_in s at n
-  unfolding number_in
-  number_two e f = rw e (f ∙ two s at)
-
-  pub number_four : n ≡ 4 → r ≡ u32_at s at → r ≡ number_in s at n
-  unfolding number_in
-  number_four e f = rw e (f ∙ four s at)
-
-  pub number_eight : n ≡ 8 → r ≡ num_at s at 8 → r ≡ number_in s at n
-  unfolding number_in
-  number_eight e f = rw e f
-
-pub number_none : (s : List ℕ) (at n : ℕ) → (n ≡ 1 → ⊥) → (n ≡ 2 → ⊥) → (n ≡ 4 → ⊥) → (n ≡ 8 → ⊥) → 0 ≡ number_in s at n
-unfolding number_in
-number_none s at n a b c d = rw (ne_eqb n 1 a, ne_eqb n 2 b, ne_eqb n 4 c, ne_eqb n 8 d) refl
 
 -- ---- the widths of fields
 
@@ -99,18 +69,12 @@ module _ (s : List ℕ) (c at : ℕ) (o : Sort) (e : o ≡ sort_of c) (b : Bool)
     pub first_pair : r ≡ u16_at s at → r ≡ first (field_in s (sort_of c) at)
     first_pair g = rw (← e, ← f, t) g
 
-    pub second_pair : r ≡ u16_at s (at + 2) → r ≡ second (field_in s (sort_of c) at)
-    second_pair g = rw (← e, ← f, t) g
-
   module _ (t : b ≡ false) where
     pub first_number : (m : ℕ) → m ≡ width_of o → (r : ℕ) → r ≡ number_in s at m → r ≡ first (field_in s (sort_of c) at)
     unfolding number_in
     first_number m g r h =
         let w : is_width m ≡ true = rw (g, e) (narrow c).0 in
         rw (← e, ← f, t, ← g) (rw w at h)
-
-    pub second_number : 0 ≡ second (field_in s (sort_of c) at)
-    second_number = rw (← e, ← f, t) refl
 
 -- ---- the fields: `whole` is what the loop has to answer, and v its invariant after k of j steps
 

@@ -31,6 +31,7 @@ pub fn statement_start(starts: &[u16], counts: Counts, n: u16) -> u16
 
 // ---- what stands in a record
 
+#[tactic(auto, unfolding(rl_spec::specs::Image::record_in))]
 pub fn kind_at(image: &[u8], at: u16) -> u8
     ensures { result ≡ (record_in image.now at).kind }
 {
@@ -45,6 +46,7 @@ pub fn span_at(image: &[u8], at: u16) -> u32
 }
 
 // The number in 1, 2, 4 or 8 bytes; 0 for any other width.
+#[tactic(auto, unfolding(crate::specs::Find::number_in), using(rl_bytes::proofs::Laws::one, rl_bytes::proofs::Laws::two, rl_bytes::proofs::Laws::four))]
 pub fn number_at(image: &[u8], at: usize, width: u8) -> u64
     ensures { result ≡ number_in image.now at width }
 {
@@ -65,6 +67,7 @@ pub struct Spot {
 }
 
 // The j-th field of a record, by the schema's row of its kind.
+#[tactic(auto, using(crate::proofs::Laws::spot_end, crate::proofs::Laws::spot_here, crate::proofs::Laws::spot_fits))]
 fn field_spot(row: u64, at: u16, j: u8) -> Option<Spot>
     ensures { result ≡ spot_of (codes row) (at + 1) j }
 {
@@ -92,6 +95,7 @@ pub fn is_pair(sort: Sort) -> bool
     matches!(sort, Sort::Part | Sort::Many { .. } | Sort::Range { .. })
 }
 
+#[tactic(auto, using(crate::proofs::Laws::first_pair, crate::proofs::Laws::first_number, crate::proofs::Laws::width_fits))]
 fn first_at(image: &[u8], code: u8, at: usize) -> u64
     ensures { result ≡ first (field_in image.now (sort_of code) at) }
 {
@@ -112,6 +116,7 @@ fn second_at(image: &[u8], code: u8, at: usize) -> u16
 }
 
 // The number of the j-th field of the record at a place, or the first of two; `row` is the schema's row of the record's kind.
+#[tactic(auto, using(crate::proofs::Laws::first_none, crate::proofs::Laws::first_found))]
 pub fn field_first(image: &[u8], row: u64, at: u16, j: u8) -> u64
     ensures { result ≡ first (get_or (fields_at image.now (codes row) (at + 1)) j no_field) }
 {
@@ -122,6 +127,7 @@ pub fn field_first(image: &[u8], row: u64, at: u16, j: u8) -> u64
 }
 
 // The second of two numbers of that field; 0 where it has one.
+#[tactic(auto, using(crate::proofs::Laws::second_nothing, crate::proofs::Laws::second_found))]
 pub fn field_second(image: &[u8], row: u64, at: u16, j: u8) -> u16
     ensures { result ≡ second (get_or (fields_at image.now (codes row) (at + 1)) j no_field) }
 {

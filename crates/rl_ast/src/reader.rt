@@ -15,6 +15,7 @@ use rl_spec::{Accepted, ArenaNo, Cause, Counts, Next, Refusal, Section};
 
 // The longest image, and the shortest work slice.
 const LONGEST: usize = 65535;
+
 const SHORTEST_WORK: usize = 8192;
 
 // The largest counts that the header may have, in its order.

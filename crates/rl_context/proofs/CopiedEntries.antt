@@ -1,8 +1,7 @@
 -- A field's copy by its plan, and the entries of a list one by one.
 -- Assumes nothing.
-use Rattle.std.proofs.Common.{◌≡◌, ℕ, suc, ◌+◌, ◌-◌, ◌/◌, ◌%◌, ◌<◌, ◌≤◌, Bool, true, false, cond, ◌||◌, List, [], ◌∷◌, ◌++◌, map, sym, refl, ap, ◌∙◌, subst, ap₂, append_assoc, add-zero, add_assoc, arith, le-ltb, lt-ltb}
+use Rattle.std.proofs.Common.{◌≡◌, ℕ, suc, ◌+◌, ◌-◌, ◌/◌, ◌%◌, ◌<◌, ◌≤◌, Bool, true, false, cond, ◌||◌, List, [], ◌∷◌, ◌++◌, map, sym, refl, ap, ◌∙◌, subst, ap₂, append_assoc, add_assoc, arith, le-ltb, lt-ltb}
 use mathlib.Core.Option.{Option}
-use native.Mathlib.Nat.{sub-zero}
 use Rattle.rl_spec.specs.declared.Counts.{Counts}
 use Rattle.rl_spec.specs.declared.Interval.{Interval}
 use Rattle.rl_spec.specs.declared.Section.TheVariants.{Lists, Expressions}
@@ -166,14 +165,6 @@ pub record CopyingEntries (s p : List ℕ) (c : Counts) (id a n : ℕ) (l r : Ta
 module _ (s p : List ℕ) (c : Counts) (id a n : ℕ) (l r : Target) (start : State) where
   abbrev of : Image
   of = image_found s p c
-
-  pub entries_none : CopyingEntries s p c id a n l r start start 0 l r
-  entries_none =
-      record {
-        some = omega arith;
-        done = [];
-        follows = λ ns t d. subst (λ z. Does of 0 0 all (clone_entries (clone_below id) l r (map (entry_of of) z)) start ns t) (ap₂ up_from (add-zero a) (sub-zero n)) d;
-      }
 
   module _ (here : State) (i : ℕ) (left right : Target) (w : CopyingEntries s p c id a n l r start here i left right) where
     next_entry : i < n → up_from (a + i) (n - i) ≡ (a + i) ∷ up_from (a + (i + 1)) (n - (i + 1))

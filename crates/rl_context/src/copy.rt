@@ -12,12 +12,17 @@ ghost use Rattle.rl_context.specs.Does.{at};
 ghost use Rattle.rl_context.specs.Copies.{plan_of, Fitting, Copies, CopiesField, CopiesEntry, CopiesEntries};
 
 use crate::nodes::list_word;
-use crate::{Ctx, Kind};
+use crate::{Ctx, Kind, Made};
 use rl_arena::{expression_start, is_pair, kind_at, number_at};
 use rl_bytes::{put, second_u16, u16_at};
 use rl_records::ImageRef;
 use rl_schema::{row_of, sort_of, width_of};
 use rl_spec::{Interval, Sort, Target};
+
+// The kinds of expression that are not copied.
+const LAMBDA: u8 = 56;
+
+const RESOLVED_LAMBDA: u8 = 57;
 
 // What is done with a field.
 #[derive(Clone, Copy)]
@@ -64,27 +69,29 @@ pub fn deep_clone_expr(
     id: u16,
     scratch: &mut [u8],
     waiting: &mut [u16],
-    ctx: &mut Ctx,
-) -> u16
-    ensures { rows.now ≡ table → id < image.entry.counts.expressions → Copies (found image.entry) id (at ctx.old scratch.old waiting.old) result (at ctx.new scratch.new waiting.new) }
+    ctx: Ctx,
+) -> Made<u16>
+    ensures { rows.now ≡ table → id < image.entry.counts.expressions → Copies (found image.entry) id (at ctx scratch.old waiting.old) result.made (at result.ctx scratch.new waiting.new) }
 {
     if ctx.full {
-        return 0;
+        return Made { ctx, made: 0 };
     }
     let start = expression_start(image.starts, id);
     let kind = kind_at(image.bytes, start);
-    if kind == 56 || kind == 57 {
-        return id;
+    if kind == LAMBDA || kind == RESOLVED_LAMBDA {
+        return Made { ctx, made: id };
     }
     let row = row_of(rows, kind);
+    let mut ctx = ctx;
     let mut words = [0u64; 8];
     let mut rest = row;
     let mut place = (start as usize) + 1;
     let mut j = 0;
     while rest != 0 {
         let code = (rest % 256) as u8;
-        let word = clone_field(image, rows, id, code, place, scratch, waiting, ctx);
-        put(&mut words, j, word);
+        let field = clone_field(image, rows, id, code, place, scratch, waiting, ctx);
+        ctx = field.ctx;
+        put(&mut words, j, field.made);
         place += width_of(sort_of(code));
         rest /= 256;
         j += 1;
@@ -102,19 +109,29 @@ fn clone_field(
     place: usize,
     scratch: &mut [u8],
     waiting: &mut [u16],
-    ctx: &mut Ctx,
-) -> u64
-    ensures { rows.now ≡ table → id < image.entry.counts.expressions → Fitting (found image.entry) image.entry.bytes.now id code place → CopiesField (found image.entry) image.entry.bytes.now id code place (at ctx.old scratch.old waiting.old) result (at ctx.new scratch.new waiting.new) }
+    ctx: Ctx,
+) -> Made<u64>
+    ensures { rows.now ≡ table → id < image.entry.counts.expressions → Fitting (found image.entry) image.entry.bytes.now id code place → CopiesField (found image.entry) image.entry.bytes.now id code place (at ctx scratch.old waiting.old) result.made (at result.ctx scratch.new waiting.new) }
 {
     match plan_of(sort_of(code)) {
-        Plan::Keep => word_of(image.bytes, code, place),
+        Plan::Keep => Made {
+            ctx,
+            made: word_of(image.bytes, code, place),
+        },
         Plan::Node => {
             let child = u16_at(image.bytes, place);
             // No accepted image has a node that is not before the one at hand.
             if id <= child {
-                return child as u64;
+                return Made {
+                    ctx,
+                    made: child as u64,
+                };
             }
-            deep_clone_expr(image, rows, child, scratch, waiting, ctx) as u64
+            let copy = deep_clone_expr(image, rows, child, scratch, waiting, ctx);
+            Made {
+                ctx: copy.ctx,
+                made: copy.made as u64,
+            }
         }
         Plan::List { left, right } => {
             let first = ctx.waiting;
@@ -122,8 +139,12 @@ fn clone_field(
                 first: u16_at(image.bytes, place),
                 count: second_u16(image.bytes, place),
             };
-            clone_entries(image, rows, id, list, left, right, scratch, waiting, ctx);
-            list_word(ctx.new_list(scratch, waiting, first))
+            let entries = clone_entries(image, rows, id, list, left, right, scratch, waiting, ctx);
+            let copy = entries.new_list(scratch, waiting, first);
+            Made {
+                ctx: copy.ctx,
+                made: list_word(copy.made),
+            }
         }
     }
 }
@@ -139,17 +160,19 @@ fn clone_entries(
     right: Target,
     scratch: &mut [u8],
     waiting: &mut [u16],
-    ctx: &mut Ctx,
-)
-    ensures { rows.now ≡ table → id < image.entry.counts.expressions → (WellFormed (found image.entry) → list.first + list.count ≤ size_of (found image.entry) Lists) → CopiesEntries (found image.entry) id list.first list.count left right (at ctx.old scratch.old waiting.old) (at ctx.new scratch.new waiting.new) }
+    ctx: Ctx,
+) -> Ctx
+    ensures { rows.now ≡ table → id < image.entry.counts.expressions → (WellFormed (found image.entry) → list.first + list.count ≤ size_of (found image.entry) Lists) → CopiesEntries (found image.entry) id list.first list.count left right (at ctx scratch.old waiting.old) (at result scratch.new waiting.new) }
 {
+    let mut ctx = ctx;
     let mut here = left;
     let mut other = right;
     for i in 0..list.count {
         let n = image.entry((list.first as u32) + (i as u32));
-        clone_entry(image, rows, id, here, n, scratch, waiting, ctx);
+        ctx = clone_entry(image, rows, id, here, n, scratch, waiting, ctx);
         (here, other) = (other, here);
     }
+    ctx
 }
 
 // An entry of a list of the expression `id`: a node before it is copied, anything else is kept.
@@ -162,14 +185,14 @@ fn clone_entry(
     n: u16,
     scratch: &mut [u8],
     waiting: &mut [u16],
-    ctx: &mut Ctx,
-)
-    ensures { rows.now ≡ table → id < image.entry.counts.expressions → CopiesEntry (found image.entry) id target n (at ctx.old scratch.old waiting.old) (at ctx.new scratch.new waiting.new) }
+    ctx: Ctx,
+) -> Ctx
+    ensures { rows.now ≡ table → id < image.entry.counts.expressions → CopiesEntry (found image.entry) id target n (at ctx scratch.old waiting.old) (at result scratch.new waiting.new) }
 {
     if is_node(target) && n < id {
         let copy = deep_clone_expr(image, rows, n, scratch, waiting, ctx);
-        ctx.push(waiting, copy);
+        copy.ctx.push(waiting, copy.made)
     } else {
-        ctx.push(waiting, n);
+        ctx.push(waiting, n)
     }
 }

@@ -1,8 +1,7 @@
 -- The ways out of `text` and `message`. Assumes nothing.
 use Prim.Native.Nat.{ℕ, ◌≤◌, ◌<◌}
-use mathlib.Core.Path.{◌≡◌, refl, sym, ap, subst, ◌∙◌}
-use mathlib.Core.List.{List, ◌++◌}
-use native.Mathlib.Omega.{arith}
+use mathlib.Core.Path.{◌≡◌, refl, sym, ap, ◌∙◌}
+use mathlib.Core.List.{List}
 use lib.ListN.{length, replicate}
 use borrow.Author.Tests.{lt-ltb, le-ltb}
 use Rattle.rl_spec.specs.Answers.{Answer, accepted, refused, MessageAnswer, TextAnswer}
@@ -33,9 +32,6 @@ module _ (s : List ℕ) (k : ℕ) (a : Answer) (e : a ≡ answer_of s k) where
     text_work x f w g = g ∙ ap (λ y. work_unless (text_number y) s k) (sym f)
 
     module _ (q : Cause) (n : ℕ) (f : a ≡ refused q n) where
-      pub text_unread : refused q n ≡ text_for s k t
-      text_unread = sym (text_by_lem (refused q n) f)
-
       pub text_unread_work : (w : List ℕ) → w ≡ work_of s k → w ≡ work_unless (text_number (text_for s k t)) s k
       text_unread_work w g = text_work (refused q n) (text_by_lem _ f) w (g ∙ refused_work s k q n (sym e ∙ f) ∙ zeros_unless q s k)
 
@@ -78,9 +74,6 @@ module _ (s : List ℕ) (k : ℕ) (a : Answer) (e : a ≡ answer_of s k) where
       message_bytes_lem o g = g ∙ ap (message_bytes s call number) (sym f)
 
     module _ (q : Cause) (n : ℕ) (f : a ≡ refused q n) where
-      pub message_unread : refused q n ≡ message_answer s k call number
-      message_unread = sym (message_by_lem (refused q n) f)
-
       pub message_unread_out : (m : ℕ) (o : List ℕ) → m ≡ 65535 → o ≡ replicate m 0 → o ≡ message_out s k call number
       message_unread_out m o l z = message_bytes_lem _ (message_by_lem _ f) o (z ∙ ap (λ (i : ℕ). replicate i 0) l)
 

@@ -7,7 +7,7 @@ mod messages;
 mod opened;
 mod texts;
 
-pub use lines::{Lines, Reported, lines_of, lines_with, put_refused};
+pub use lines::{Lines, Reported, lines_of, lines_with, put_refused, violation_at};
 pub use messages::message;
 pub use opened::{OpenImage, open};
 pub use texts::text;

@@ -3,11 +3,13 @@ ghost use Rattle.std.specs.Prelude.{◌≡◌, ◌≤◌, ◌<◌, length};
 ghost use Rattle.rl_spec.specs.Image.{image_of};
 ghost use Rattle.rl_spec.specs.Printed.{refused_line, line_at};
 ghost use Rattle.rl_spec.specs.Texts.{message_at};
+ghost use Rattle.rl_lines.specs.Opened.{Known};
 ghost use Rattle.rl_lines.specs.Lines.{padded, lines_for, entries_for, ReportAt};
 
 use crate::opened::OpenImage;
 use rl_line::{refused_line, report_line, report_message};
 use rl_prover::{find_callee, prove_call};
+use rl_records::ImageRef;
 use rl_spec::{Refusal, Violation};
 
 // The lines of a call: its number, its callee (0 without one), its span, and how many there are.
@@ -19,33 +21,42 @@ pub struct Lines {
     pub count: u32,
 }
 
-// A call of an open image with its lines and the entries of its reports.
+// A call of an image with its lines and the entries of its reports.
 #[derive(Clone, Copy)]
 pub struct Reported<'a> {
-    pub open: OpenImage<'a>,
+    pub image: ImageRef<'a>,
     pub lines: Lines,
-    pub entries: &'a [u32],
-    ghost proved: { lines ≡ lines_for (image_of open.image.bytes.now) lines.call },
-    ghost reported: { entries.now ≡ entries_for (image_of open.image.bytes.now) lines.call },
+    pub entries: &'a [u32; 2048],
+    ghost known: { ∥ Known image.bytes.now image.starts.now image.counts ∥₁ },
+    ghost proved: { lines ≡ lines_for (image_of image.bytes.now) lines.call },
+    ghost reported: { entries.now ≡ entries_for (image_of image.bytes.now) lines.call },
 }
 
 // Proves a call: how many lines it has, and its reports. `names`, with room for all parameters, and `memory` are
 // scratch.
 pub fn lines_with(
-    open: OpenImage,
+    opened: OpenImage,
     call: u16,
     names: &mut [u64],
     memory: &mut [u64],
     reports: &mut [u32; 2048],
 ) -> Lines
     requires in_bounds { 768 ≤ length names.old }
-    ensures value { result ≡ lines_for (image_of open.entry.image.bytes.now) call }
-    ensures reports_after { reports.new ≡ entries_for (image_of open.entry.image.bytes.now) call }
+    ensures value { result ≡ lines_for (image_of opened.entry.image.bytes.now) call }
+    ensures reports_after { reports.new ≡ entries_for (image_of opened.entry.image.bytes.now) call }
 {
     reports.fill(0);
-    let end = prove_call(open.image, open.classes, call, names, memory, reports, 0);
-    let record = open.image.call(call);
-    let callee = find_callee(open.image, open.classes, record.callee);
+    let end = prove_call(
+        opened.image,
+        opened.classes,
+        call,
+        names,
+        memory,
+        reports,
+        0,
+    );
+    let record = opened.image.call(call);
+    let callee = find_callee(opened.image, opened.classes, record.callee);
     Lines {
         call,
         function: callee.unwrap_or(0),
@@ -55,33 +66,34 @@ pub fn lines_with(
 }
 
 // The same, with scratch of its own.
-pub fn lines_of(open: OpenImage, call: u16, reports: &mut [u32; 2048]) -> Lines
-    ensures value { result ≡ lines_for (image_of open.entry.image.bytes.now) call }
-    ensures reports_after { reports.new ≡ entries_for (image_of open.entry.image.bytes.now) call }
+pub fn lines_of(opened: OpenImage, call: u16, reports: &mut [u32; 2048]) -> Lines
+    ensures value { result ≡ lines_for (image_of opened.entry.image.bytes.now) call }
+    ensures reports_after { reports.new ≡ entries_for (image_of opened.entry.image.bytes.now) call }
 {
     let mut names = [0u64; 768];
     let mut memory = [0u64; 8192];
-    lines_with(open, call, &mut names, &mut memory, reports)
+    lines_with(opened, call, &mut names, &mut memory, reports)
+}
+
+// The violation of the report of a number.
+#[tactic(auto, using(crate::proofs::LineLaws::at_refinement, crate::proofs::LineLaws::at_requires))]
+pub fn violation_at(reports: &[u32; 2048], number: u32) -> Violation
+    requires { number < 512 }
+    ensures { ReportAt reports.now number result }
+{
+    let at = (number as usize) * 4;
+    let n = (reports[at + 3] % 65536) as u16;
+    if reports[at + 2] == 0 {
+        return Violation::Refinement(n);
+    }
+    Violation::Requires(n)
 }
 
 impl Reported<'_> {
-    // The violation of the report of a number.
-    pub fn violation(self, number: u32) -> Violation
-        requires { number < 512 }
-        ensures { ReportAt self.entry.entries.now number result }
-    {
-        let at = (number as usize) * 4;
-        let n = (self.entries[at + 3] % 65536) as u16;
-        if self.entries[at + 2] == 0 {
-            return Violation::Refinement(n);
-        }
-        Violation::Requires(n)
-    }
-
     // Puts the line of a number, with its newline; nothing where the call has no such report.
     pub fn put_line(self, number: u32, out: &mut [u8; 65536]) -> usize
-        ensures value { result ≡ length (line_at (image_of self.entry.open.image.bytes.now) self.entry.lines.call number) }
-        ensures out_after { out.new ≡ padded 65536 (line_at (image_of self.entry.open.image.bytes.now) self.entry.lines.call number) }
+        ensures value { result ≡ length (line_at (image_of self.entry.image.bytes.now) self.entry.lines.call number) }
+        ensures out_after { out.new ≡ padded 65536 (line_at (image_of self.entry.image.bytes.now) self.entry.lines.call number) }
     {
         let mut room = [0u8; 32800];
         out.fill(0);
@@ -89,9 +101,9 @@ impl Reported<'_> {
         if lines.count <= number {
             return 0;
         }
-        let violation = self.violation(number);
+        let violation = violation_at(self.entries, number);
         report_line(
-            self.open.image,
+            self.image,
             lines.function,
             lines.call as u32,
             lines.span,
@@ -103,8 +115,8 @@ impl Reported<'_> {
 
     // Puts the message of the report of a number; nothing where the call has no such report.
     pub fn put_message(self, number: u32, out: &mut [u8; 65535]) -> usize
-        ensures value { result ≡ length (message_at (image_of self.entry.open.image.bytes.now) self.entry.lines.call number) }
-        ensures out_after { out.new ≡ padded 65535 (message_at (image_of self.entry.open.image.bytes.now) self.entry.lines.call number) }
+        ensures value { result ≡ length (message_at (image_of self.entry.image.bytes.now) self.entry.lines.call number) }
+        ensures out_after { out.new ≡ padded 65535 (message_at (image_of self.entry.image.bytes.now) self.entry.lines.call number) }
     {
         let mut room = [0u8; 32800];
         out.fill(0);
@@ -112,8 +124,8 @@ impl Reported<'_> {
         if lines.count <= number {
             return 0;
         }
-        let violation = self.violation(number);
-        report_message(self.open.image, lines.function, violation, &mut room, out)
+        let violation = violation_at(self.entries, number);
+        report_message(self.image, lines.function, violation, &mut room, out)
     }
 }
 

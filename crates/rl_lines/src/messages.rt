@@ -10,14 +10,14 @@ use crate::opened::{OpenImage, open};
 use rl_records::ImageRef;
 use rl_spec::{Cause, Refusal};
 
-fn message_in(open: OpenImage, call: u16, report: u32, out: &mut [u8; 65535]) -> usize
-    ensures value { result ≡ length (message_at (image_of open.entry.image.bytes.now) call report) }
-    ensures out_after { out.new ≡ padded 65535 (message_at (image_of open.entry.image.bytes.now) call report) }
+fn message_in(opened: OpenImage, call: u16, report: u32, out: &mut [u8; 65535]) -> usize
+    ensures value { result ≡ length (message_at (image_of opened.entry.image.bytes.now) call report) }
+    ensures out_after { out.new ≡ padded 65535 (message_at (image_of opened.entry.image.bytes.now) call report) }
 {
     let mut entries = [0u32; 2048];
-    let lines = lines_of(open, call, &mut entries);
+    let lines = lines_of(opened, call, &mut entries);
     let reported = Reported {
-        open,
+        image: opened.image,
         lines,
         entries: &entries,
     };
@@ -25,6 +25,7 @@ fn message_in(open: OpenImage, call: u16, report: u32, out: &mut [u8; 65535]) ->
 }
 
 // Reads an image and puts the message of a call's report of a number, from 0. 17 for a call that is not there.
+#[tactic(auto, unfolding(rl_spec::specs::Texts::message_answer))]
 pub fn message(
     image: &[u8],
     work: &mut [u16],

@@ -8,6 +8,7 @@ use rl_records::ImageRef;
 use rl_spec::{Cause, Refusal, TextPart};
 
 // Reads an image and finds one of its texts. 20 for a text that is not there.
+#[tactic(auto, unfolding(rl_spec::specs::Texts::text_for))]
 pub fn text(image: &[u8], work: &mut [u16], number: u32) -> Result<TextPart, Refusal>
     ensures value { result ≡ text_for image.now (length work.old) number }
     ensures work_after { work.new ≡ work_unless (text_number (text_for image.now (length work.old) number)) image.now (length work.old) }

@@ -39,7 +39,7 @@ pub enum Frame {
 }
 
 // What comes next.
-#[derive(Drop)]
+#[derive(Clone, Copy)]
 pub enum State {
     // the next statement
     Next,
@@ -58,10 +58,11 @@ pub enum State {
         node: u16,
         limit: u32,
     },
-    // a name is looked up, or given a value
-    Seek {
+    // a name is looked up
+    Look(u16),
+    // a name is given a value
+    Store {
         name: u16,
-        storing: bool,
         value: Value,
     },
     Bind {

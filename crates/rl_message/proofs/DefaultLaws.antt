@@ -2,7 +2,7 @@
 -- Assumes nothing.
 use Prim.Native.Nat.{ℕ, ◌+◌}
 use mathlib.Core.Path.{◌≡◌, refl, sym, ap, ◌∙◌, subst}
-use mathlib.Core.Bool.{Bool, true, false}
+use mathlib.Core.Bool.{true, false}
 use mathlib.Core.List.{List, [], ◌++◌}
 use mathlib.Core.Option.{map}
 use native.Mathlib.Omega.{arith}
@@ -13,13 +13,10 @@ use mir.Val.{to_z, of_z, SFits}
 use mir.Facts.{to_z-of_z}
 use borrow.Author.Tests.{ltb-true}
 use Rattle.rl_spec.specs.declared.Counts.{Counts}
-use Rattle.rl_spec.specs.declared.Function.{Function}
 use Rattle.rl_spec.specs.declared.Param.{Param}
 use Rattle.rl_spec.specs.Answers.{ParamRefinement}
 use Rattle.std.specs.Prelude.{None, Some}
 use Rattle.rl_spec.specs.declared.Refinement as refinement
-use Rattle.rl_spec.specs.declared.RefineOperand.{RefineOperand}
-use Rattle.rl_spec.specs.declared.RefineOperand.TheVariants as operand
 use Rattle.rl_spec.specs.declared.Violation.{Violation}
 use Rattle.rl_spec.specs.declared.Violation.TheVariants.{Refinement, Requires}
 use Rattle.rl_spec.specs.Image.{Image, text_of}
@@ -29,7 +26,7 @@ use Rattle.rl_spec.specs.Records.{param_at, function_at}
 use Rattle.rl_spec.specs.FnContracts.{operand_of, refinement_of, param_of}
 use Rattle.rl_spec.specs.Found.{image_found}
 use Rattle.rl_spec.specs.Mapped.{map_operand, map_refinement}
-use Rattle.rl_spec.specs.Message.{decimal, integer_text, refine_op_str, bool_text, operand_str, refinement_text, default_text}
+use Rattle.rl_spec.specs.Message.{decimal, integer_text, refine_op_str, operand_str, refinement_text, default_text}
 use Rattle.rl_text_out.specs.declared.Out.{Out}
 use Rattle.rl_text_out.specs.Put.{with_text, after_text}
 use Rattle.rl_text_out.proofs.Joined.{after_nothing, with_nothing, Puts, puts_as, puts_then}
@@ -84,26 +81,6 @@ module _ (s : List ℕ) (c : Counts) (out : List ℕ) (at : ℕ) where
   puts_in : (text : Image → List ℕ) (t w : List ℕ) (r : ℕ) → Puts out at t w r → ((p : List ℕ) → t ≡ text (image_found s p c)) → PutsIn s c out at text w r
   puts_in text t w r h e = puts_same text (λ im. t) w r (λ p. h.0, λ p. h.1) e
 
-  module _ (o : RefineOperand) (w : List ℕ) (r : ℕ) where
-    abbrev text : Image → List ℕ
-    text im = operand_str (map_operand (text_of im) (operand_of o))
-
-    abbrev PutsOperand : Type 0
-    PutsOperand = PutsIn s c out at text w r
-
-    pub puts_integer : (x : ℤ) → o ≡ operand.Integer x → SFits w64 x → Puts out at (integer_text (read x)) w r → PutsOperand
-    puts_integer x e h a = puts_in text _ w r a (λ p. rw (e, to_z-of_z h) refl)
-
-    pub puts_bool : (b : Bool) → o ≡ operand.Bool b → Puts out at (bool_text b) w r → PutsOperand
-    puts_bool b e a = puts_in text _ w r a (λ p. rw e refl)
-
-    module _ (t : ℕ) (u : List ℕ) (f : (p : List ℕ) → u ≡ text_of (image_found s p c) t) where
-      pub puts_str : o ≡ operand.Str t → Puts out at (ascii "\"" ++ u ++ ascii "\"") w r → PutsOperand
-      puts_str e a = puts_in text _ w r a (λ p. rw (e, f p) refl)
-
-      pub puts_param : o ≡ operand.Param t → Puts out at u w r → PutsOperand
-      puts_param e a = puts_in text _ w r a (λ p. rw (e, f p) refl)
-
 -- ---- a refinement
 
 module _ (s : List ℕ) (c : Counts) (out : List ℕ) (at name : ℕ) (q : refinement.Refinement) where
@@ -128,9 +105,6 @@ module _ (s : List ℕ) (c : Counts) (out : List ℕ) (at name : ℕ) (q : refin
 -- ---- a violation
 
 module _ (s : List ℕ) (c : Counts) (f : ℕ) where
-  pub param_is : (n : ℕ) (g : Function) (q : Param) → ((p : List ℕ) → g ≡ function_at (image_found s p c) f) → ((p : List ℕ) → q ≡ param_at (image_found s p c) (g.params.first + n)) → (p : List ℕ) → q ≡ param_at (image_found s p c) ((function_at (image_found s p c) f).params.first + n)
-  param_is n g q e h p = h p ∙ ap (λ (x : Function). param_at (image_found s p c) (x.params.first + n)) (e p)
-
   module _ (v : Violation) (out : List ℕ) (at : ℕ) where
     abbrev default : Image → List ℕ
     default im = default_text im f v

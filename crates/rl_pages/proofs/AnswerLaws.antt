@@ -50,9 +50,6 @@ module _ (s : List ℕ) (k room : ℕ) (a : Answer) (e : a ≡ answer_of s k) wh
   -- ---- the image is refused
 
   module _ (q : Cause) (n : ℕ) (f : a ≡ refused q n) where
-    pub unread : refused q n ≡ pages_answer s k room
-    unread = sym (pages_by_lem (refused q n) f)
-
     pub unread_out : (o : List ℕ) → o ≡ replicate room 0 → o ≡ pages_out s k room
     unread_out o z = out_by _ (pages_by_lem _ f) o z
 

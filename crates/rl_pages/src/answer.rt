@@ -14,16 +14,16 @@ use rl_records::ImageRef;
 use rl_spec::{Cause, Refusal};
 
 // The lines of all calls, in order, from the slice's start.
-fn put_calls(open: OpenImage, names: &mut [u64], memory: &mut [u64], pages: &mut [u8]) -> Placed
+fn put_calls(opened: OpenImage, names: &mut [u64], memory: &mut [u64], pages: &mut [u8]) -> Placed
     requires in_bounds { 768 ≤ length names.old }
-    ensures adds { Adds pages.old 0 (lines_bytes (all_report_lines (image_of open.entry.image.bytes.now) open.entry.image.counts.calls)) pages.new result.at }
-    ensures lines_value { result.lines ≡ length (all_report_lines (image_of open.entry.image.bytes.now) open.entry.image.counts.calls) }
+    ensures adds { Adds pages.old 0 (lines_bytes (all_report_lines (image_of opened.entry.image.bytes.now) opened.entry.image.counts.calls)) pages.new result.at }
+    ensures lines_value { result.lines ≡ length (all_report_lines (image_of opened.entry.image.bytes.now) opened.entry.image.counts.calls) }
     ensures at_bound { result.at ≤ 38273024 }
 {
     let mut at = 0;
     let mut lines: u32 = 0;
-    for call in 0..open.image.counts.calls {
-        let placed = put_call(open, call, names, memory, pages, at);
+    for call in 0..opened.image.counts.calls {
+        let placed = put_call(opened, call, names, memory, pages, at);
         at = placed.at;
         lines += placed.lines;
     }
@@ -31,14 +31,14 @@ fn put_calls(open: OpenImage, names: &mut [u64], memory: &mut [u64], pages: &mut
 }
 
 // The lines, and lines of spaces up to the end of the last page. Answers the place after them.
-fn put_pages(open: OpenImage, pages: &mut [u8]) -> usize
-    ensures adds { Adds pages.old 0 (pages_of (image_of open.entry.image.bytes.now) open.entry.image.counts.calls) pages.new result }
+fn put_pages(opened: OpenImage, pages: &mut [u8]) -> usize
+    ensures adds { Adds pages.old 0 (pages_of (image_of opened.entry.image.bytes.now) opened.entry.image.counts.calls) pages.new result }
     ensures upper_bound { result ≤ 38290544 }
 {
     let mut names = [0u64; 768];
     let mut memory = [0u64; 8192];
-    let size = memory_size(open.image.counts);
-    let placed = put_calls(open, &mut names, &mut memory[..size], pages);
+    let size = memory_size(opened.image.counts);
+    let placed = put_calls(opened, &mut names, &mut memory[..size], pages);
     let rest = placed.lines % 60;
     put_blanks(pages, placed.at, (60 - rest) % 60)
 }
@@ -59,6 +59,7 @@ fn answer_at(work: &mut [u16], pages: &mut [u8], at: usize) -> Result<u32, Refus
 }
 
 // Reads an image and puts the reports of all its calls on pages. 22 for a slice that is shorter than the pages.
+#[tactic(auto, unfolding(rl_spec::specs::Pages::pages_answer))]
 pub fn pages(image: &[u8], work: &mut [u16], pages: &mut [u8]) -> Result<u32, Refusal>
     ensures value { result ≡ pages_answer image.now (length work.old) (length pages.old) }
     ensures pages_after { pages.new ≡ pages_out image.now (length work.old) (length pages.old) }

@@ -9,7 +9,7 @@ ghost use Rattle.rl_pages.specs.Added.{Adds, line_bytes};
 use crate::put::put_behind;
 use rl_bytes::part;
 use rl_columns::put_page_line;
-use rl_lines::{OpenImage, Reported, lines_with};
+use rl_lines::{OpenImage, Reported, lines_with, violation_at};
 use rl_message::{default_text, message};
 
 // Where the next line goes, and how many there are.
@@ -21,14 +21,14 @@ pub struct Placed {
 
 // Puts the line of the report of a number. Of its default text no more is made than the field can show: 39 scalars have at most 156 bytes.
 fn put_report_line(call: Reported, number: u32, out: &mut [u8]) -> usize
-    requires number_lt_count { number < call.entry.lines.count }
-    ensures value { result ≡ after_text out.old 0 (line_bytes (image_of call.entry.open.image.bytes.now) call.entry.lines.call number) }
-    ensures out_after { out.new ≡ with_text out.old 0 (line_bytes (image_of call.entry.open.image.bytes.now) call.entry.lines.call number) }
+    requires number_lt_count { number < call.lines.count }
+    ensures value { result ≡ after_text out.old 0 (line_bytes (image_of call.entry.image.bytes.now) call.entry.lines.call number) }
+    ensures out_after { out.new ≡ with_text out.old 0 (line_bytes (image_of call.entry.image.bytes.now) call.entry.lines.call number) }
 {
     let mut room = [0u8; 156];
-    let image = call.open.image;
+    let image = call.image;
     let lines = call.lines;
-    let violation = call.violation(number);
+    let violation = violation_at(call.entries, number);
     let n = default_text(image, lines.function, violation, &mut room);
     let text = message(image, lines.function, violation, part(&room, 0, n));
     let record = image.call(lines.call);
@@ -38,9 +38,9 @@ fn put_report_line(call: Reported, number: u32, out: &mut [u8]) -> usize
 
 // Puts the line of the report of a number behind what the slice holds.
 fn put_report(call: Reported, number: u32, pages: &mut [u8], at: usize) -> usize
-    requires number_lt_count { number < call.entry.lines.count }
+    requires number_lt_count { number < call.lines.count }
     requires at_bound { at ≤ 1099511627776 }
-    ensures adds { Adds pages.old at (line_bytes (image_of call.entry.open.image.bytes.now) call.entry.lines.call number) pages.new result }
+    ensures adds { Adds pages.old at (line_bytes (image_of call.entry.image.bytes.now) call.entry.lines.call number) pages.new result }
     ensures upper_bound { result ≤ at + 292 }
 {
     let mut line = [0u8; 292];
@@ -50,7 +50,7 @@ fn put_report(call: Reported, number: u32, pages: &mut [u8], at: usize) -> usize
 
 fn put_reports(call: Reported, pages: &mut [u8], at: usize) -> usize
     requires at_bound { at ≤ 549755813888 }
-    ensures adds { Adds pages.old at (lines_bytes (report_lines (image_of call.entry.open.image.bytes.now) call.entry.lines.call)) pages.new result }
+    ensures adds { Adds pages.old at (lines_bytes (report_lines (image_of call.entry.image.bytes.now) call.entry.lines.call)) pages.new result }
     ensures upper_bound { result ≤ at + 149504 }
 {
     let mut place = at;
@@ -62,7 +62,7 @@ fn put_reports(call: Reported, pages: &mut [u8], at: usize) -> usize
 
 // Proves a call and puts the lines of its reports. `names`, with room for all parameters, and `memory` are scratch.
 pub fn put_call(
-    open: OpenImage,
+    opened: OpenImage,
     call: u16,
     names: &mut [u64],
     memory: &mut [u64],
@@ -71,14 +71,14 @@ pub fn put_call(
 ) -> Placed
     requires in_bounds { 768 ≤ length names.old }
     requires at_bound { at ≤ 549755813888 }
-    ensures adds { Adds pages.old at (lines_bytes (report_lines (image_of open.entry.image.bytes.now) call)) pages.new result.at }
-    ensures lines_value { result.lines ≡ length (violations_of (image_of open.entry.image.bytes.now) call) }
+    ensures adds { Adds pages.old at (lines_bytes (report_lines (image_of opened.entry.image.bytes.now) call)) pages.new result.at }
+    ensures lines_value { result.lines ≡ length (violations_of (image_of opened.entry.image.bytes.now) call) }
     ensures at_bound_2 { result.at ≤ at + 149504 }
 {
     let mut entries = [0u32; 2048];
-    let lines = lines_with(open, call, names, memory, &mut entries);
+    let lines = lines_with(opened, call, names, memory, &mut entries);
     let reported = Reported {
-        open,
+        image: opened.image,
         lines,
         entries: &entries,
     };

@@ -8,12 +8,12 @@ use rl_lines::{OpenImage, Reported, lines_of, open, put_refused};
 use rl_records::ImageRef;
 use std::io;
 
-fn print_calls(rt: &impl Print, open: OpenImage, out: &mut [u8; 65536]) -> io::Result<()> {
-    for call in 0..open.image.counts.calls {
+fn print_calls(rt: &impl Print, opened: OpenImage, out: &mut [u8; 65536]) -> io::Result<()> {
+    for call in 0..opened.image.counts.calls {
         let mut entries = [0u32; 2048];
-        let lines = lines_of(open, call, &mut entries);
+        let lines = lines_of(opened, call, &mut entries);
         let reported = Reported {
-            open,
+            image: opened.image,
             lines,
             entries: &entries,
         };

@@ -51,9 +51,9 @@ module _ (s : List ℕ) (i r : ℕ) (h : i + 8 ≤ length s) where
       (λ l. rw (get_or-take 8 (drop i s) k 0 l, get_or-drop i s k 0) (o (i + k)))
       (λ l. let e : get_or (eight_at s i) k 0 ≡ 0 = get_or-eq_default (eight_at s i) 0 (omega (arith, length-take 8 (drop i s))) in omega arith)
 
-  pub word_is : (high low : ℕ) → r ≡ high * 4294967296 + low → high ≡ get_or s i 0 * 16777216 + get_or s (i + 1) 0 * 65536 + get_or s (i + 2) 0 * 256 + get_or s (i + 3) 0 → low ≡ get_or s (i + 4) 0 * 16777216 + get_or s (i + 5) 0 * 65536 + get_or s (i + 6) 0 * 256 + get_or s (i + 7) 0 → Octets s → Word s i r
+  pub word_is : r ≡ get_or s i 0 * 72057594037927936 + get_or s (i + 1) 0 * 281474976710656 + get_or s (i + 2) 0 * 1099511627776 + get_or s (i + 3) 0 * 4294967296 + get_or s (i + 4) 0 * 16777216 + get_or s (i + 5) 0 * 65536 + get_or s (i + 6) 0 * 256 + get_or s (i + 7) 0 → Octets s → Word s i r
   unfolding number_after
-  word_is high low e f g o =
+  word_is e o =
       record {
         is = rw eight_is (omega arith);
         octets = octets_at o;

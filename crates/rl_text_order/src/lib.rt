@@ -1,7 +1,7 @@
 // Texts: equal, and ordered by their bytes. Eight bytes are compared at a step where both texts have eight more, the last ones one by one.
 #![tactic(auto)]
 
-ghost use Rattle.std.specs.Prelude.{◌≡◌, ◌+◌, ◌*◌, ◌≤◌, length};
+ghost use Rattle.std.specs.Prelude.{◌≡◌, ◌+◌, ◌≤◌, length};
 ghost use Rattle.rl_laws.specs.Words.{Word};
 ghost use Rattle.rl_spec.specs.Values.{same_text, less_text};
 
@@ -34,26 +34,22 @@ pub fn less_bytes(a: &[u8], b: &[u8]) -> bool
     a.len() < b.len()
 }
 
-fn u32_be(a: u8, b: u8, c: u8, d: u8) -> u32
-    ensures { result ≡ a * 16777216 + b * 65536 + c * 256 + d }
-{
-    (a as u32) * 16777216 + (b as u32) * 65536 + (c as u32) * 256 + (d as u32)
-}
-
-fn u64_be(high: u32, low: u32) -> u64
-    ensures { result ≡ high * 4294967296 + low }
-{
-    (high as u64) * 4294967296 + (low as u64)
-}
-
-// Eight bytes as one number, the first byte highest. By two halves of four the compiler makes one load of it.
+// Eight bytes as one number, the first byte highest.
+#[tactic(auto, using(crate::proofs::Laws::word_is))]
 pub fn u64_be_at(s: &[u8], at: usize) -> u64
     requires { at + 8 ≤ length s.now }
     ensures { Word s.now at result }
 {
-    let high = u32_be(s[at], s[at + 1], s[at + 2], s[at + 3]);
-    let low = u32_be(s[at + 4], s[at + 5], s[at + 6], s[at + 7]);
-    u64_be(high, low)
+    u64::from_be_bytes([
+        s[at],
+        s[at + 1],
+        s[at + 2],
+        s[at + 3],
+        s[at + 4],
+        s[at + 5],
+        s[at + 6],
+        s[at + 7],
+    ])
 }
 
 // Whether two texts are the same.
@@ -69,6 +65,7 @@ pub fn same_text(a: &[u8], b: &[u8]) -> bool
         return false;
     }
     let mut i = 0;
+    // No plainer with `for`: the place where no word is left is used after the loop.
     while 8 <= n - i {
         let x = u64_be_at(a, i);
         let y = u64_be_at(b, i);
@@ -96,6 +93,7 @@ pub fn less_text(a: &[u8], b: &[u8]) -> bool
     }
     let n = a.len().min(b.len());
     let mut i = 0;
+    // As in `same_text`.
     while 8 <= n - i {
         let x = u64_be_at(a, i);
         let y = u64_be_at(b, i);

@@ -11,7 +11,6 @@ ghost use Rattle.rl_spec.specs.Folded.{const_of, op_of, folded_of, verdict_of, w
 
 use rl_spec::{ArithOp, ConstVal, RefineOp};
 use rl_text_order::{less_text, same_text};
-use std::num::nearest_i64_to_f64;
 
 // By the order and the equality of the type; beside a NaN only Ne holds.
 fn compare<T: PartialOrd + Copy>(op: RefineOp, x: T, y: T) -> bool
@@ -70,11 +69,13 @@ pub fn compare_bools(op: RefineOp, x: bool, y: bool) -> Option<bool>
     }
 }
 
-// The nearest f64, ties to even.
+// The nearest f64, ties to even: both halves are exact, and only their sum is rounded.
 pub fn nearest_f64(x: i64) -> f64
     ensures { result ≡ F.of_int binary64 x }
 {
-    nearest_i64_to_f64(x)
+    let upper = (x >> 32) as f64 * 4294967296.0;
+    let lower = (x & 0xffff_ffff) as f64;
+    upper + lower
 }
 
 #[tactic(auto, using(crate::proofs::Laws::nan_is))]

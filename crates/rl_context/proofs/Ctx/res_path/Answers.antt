@@ -2,4 +2,4 @@ use Rattle.rl_context.proofs.NodesMade.{path_does}
 use Rattle.rl_context.proofs.Ctx.res_path.Goals as goal
 
 pub returns : goal.returns
-returns c im k = path_does _ (c.push_text.ensures im k).1 (c.push_text-2.ensures im k).1 (c.push_text-3.ensures im k).1 c.new_list.ensures
+returns c im k = path_does _ (c.push_text-std.ensures im k) (c.push_text-res.ensures im k) (c.push_text-last.ensures im k) c.new_list.ensures

@@ -6,14 +6,14 @@ use Rattle.rl_arena.proofs.Laws.{width_small}
 use Rattle.rl_context.proofs.Copying.{kind_in, codes_few, small_left, as_made, few_left, place_left, still_eight, copies_full, copies_lambda, copies_record, not_lambda, copying_none, copying_field, copying_more, copying_all, copying_whole}
 use Rattle.rl_context.proofs.CopiedEntries.{entries_more, entries_all, entry_copied, entry_kept, entry_late, field_shared, field_kept, field_copied, field_listed, list_fits}
 use Rattle.rl_context.proofs.copy.+clone_entries_clone_entry_clone_field_deep_clone_expr.Goals as goal
-use Rattle.rl_context.proofs.copy.+clone_entries_clone_entry_clone_field_deep_clone_expr.Goals.{clone_entry-else-is_node-via-then-is_node+else-n-id, clone_entry-else-is_node-via-else-is_node, deep_clone_expr-then-kind-eq56-via-then-kind-eq56, deep_clone_expr-then-kind-eq56-via-else-kind-eq56+then-kind-eq57}
+use Rattle.rl_context.proofs.copy.+clone_entries_clone_entry_clone_field_deep_clone_expr.Goals.{clone_entry-else-is_node-via-then-is_node+else-n-id, clone_entry-else-is_node-via-else-is_node, deep_clone_expr-then-kind-eq-LAMBDA-via-then-kind-eq-LAMBDA, deep_clone_expr-then-kind-eq-LAMBDA-via-else-kind-eq-LAMBDA+then-kind-eq-RESOLVED_LAMBDA}
 
 pub clone_entries-loop-i-preserved : goal.clone_entries-loop-i-preserved
 clone_entries-loop-i-preserved t c = (
   search rules,
   (
     search rules,
-    λ r h. entries_more _ _ _ _ _ _ _ _ _ _ _ _ _ (c.loop-i.invariant.1.1 r h) c.loop-i-test.true _ _ (c.entry-n.ensures _) (c.clone_entry.ensures r h),
+    λ r h. entries_more _ _ _ _ _ _ _ _ _ _ _ _ _ (c.loop-i.invariant.1.1 r h) c.loop-i-test.true _ _ (c.entry-n.ensures _) (c.clone_entry-ctx.ensures r h),
   ),
 )
 
@@ -40,22 +40,22 @@ clone_field-returns-in-Keep t c = λ r h k. field_kept _ _ _ _ _ _ _ _ c.sort_of
 pub clone_field-returns-else-id-child : goal.clone_field-returns-else-id-child
 clone_field-returns-else-id-child t c = λ r h k.
     field_copied _ _ _ _ _ _ _ _ c.sort_of.ensures c.plan_of.ensures _ c.in-Node.is c.u16_at-child.ensures _ _ _ c.if-id-child.false
-    (c.deep_clone_expr.ensures r (omega (arith, c.if-id-child.false, h)))
+    (c.deep_clone_expr-copy.ensures r (omega (arith, c.if-id-child.false, h)))
 
 pub clone_field-returns-in-List : goal.clone_field-returns-in-List
 clone_field-returns-in-List t c = λ r h k.
     field_listed _ _ _ _ _ _ _ _ c.sort_of.ensures c.plan_of.ensures _ _ c.in-List.is _ _ c.u16_at.ensures c.second_u16.ensures _ _ _ _ _ _ k refl
-    (c.clone_entries.ensures r h (list_fits _ _ _ _ _ _ _ _ c.sort_of.ensures c.plan_of.ensures _ _ c.in-List.is _ _ c.u16_at.ensures c.second_u16.ensures k))
-    c.new_list.ensures c.list_word.ensures
+    (c.clone_entries-entries.ensures r h (list_fits _ _ _ _ _ _ _ _ c.sort_of.ensures c.plan_of.ensures _ _ c.in-List.is _ _ c.u16_at.ensures c.second_u16.ensures k))
+    c.new_list-copy.ensures c.list_word.ensures
 
 pub deep_clone_expr-returns-then-ctx : goal.deep_clone_expr-returns-then-ctx
 deep_clone_expr-returns-then-ctx t c = λ r h. copies_full _ _ _ _ _ _ h refl refl _ _ _ c.if-ctx.true c.if-ctx.true
 
-pub deep_clone_expr-returns-then-kind-eq56 : goal.deep_clone_expr-returns-then-kind-eq56
-deep_clone_expr-returns-then-kind-eq56 t c = λ r h. copies_lambda _ _ _ _ _ _ h c.expression_start-start.ensures (c.kind_at-kind.ensures ∙ kind_in _ _) _
-    (elim c.then-kind-eq56.branch [
-      | deep_clone_expr-then-kind-eq56-via-then-kind-eq56 b ↦ ap is_lambda b.if-kind-eq56.true
-      | deep_clone_expr-then-kind-eq56-via-else-kind-eq56+then-kind-eq57 b ↦ ap is_lambda b.if-kind-eq57.true
+pub deep_clone_expr-returns-then-kind-eq-LAMBDA : goal.deep_clone_expr-returns-then-kind-eq-LAMBDA
+deep_clone_expr-returns-then-kind-eq-LAMBDA t c = λ r h. copies_lambda _ _ _ _ _ _ h c.expression_start-start.ensures (c.kind_at-kind.ensures ∙ kind_in _ _) _
+    (elim c.then-kind-eq-LAMBDA.branch [
+      | deep_clone_expr-then-kind-eq-LAMBDA-via-then-kind-eq-LAMBDA b ↦ ap is_lambda b.if-kind-eq-LAMBDA.true
+      | deep_clone_expr-then-kind-eq-LAMBDA-via-else-kind-eq-LAMBDA+then-kind-eq-RESOLVED_LAMBDA b ↦ ap is_lambda b.if-kind-eq-RESOLVED_LAMBDA.true
     ])
 
 pub deep_clone_expr-loop-rest-init : goal.deep_clone_expr-loop-rest-init
@@ -91,8 +91,8 @@ deep_clone_expr-loop-rest-preserved t c = (
         (
           place_left _ _ _ c.loop-rest.invariant.1.1.1.1.0 (width_small _ _ c.sort_of.ensures _ c.width_of-place.ensures),
           (
-            still_eight c.loop-rest.words _ c.loop-rest.j c.clone_field-word.result c.loop-rest.invariant.1.1.1.1.1.0 c.put.ensures,
-            λ r h. copying_more _ _ _ _ _ _ _ _ _ _ _ _ (c.loop-rest.invariant.1.1.1.1.1.1 r h) c.loop-rest-test.true _ _ _ _ (c.clone_field-word.ensures r h (copying_field _ _ _ _ _ _ _ _ _ _ _ _ (c.loop-rest.invariant.1.1.1.1.1.1 r h) c.loop-rest-test.true)) (c.width_of-place.ensures ∙ ap width_of c.sort_of.ensures) c.put.ensures,
+            still_eight c.loop-rest.words _ c.loop-rest.j c.clone_field-field.result.made c.loop-rest.invariant.1.1.1.1.1.0 c.put.ensures,
+            λ r h. copying_more _ _ _ _ _ _ _ _ _ _ _ _ (c.loop-rest.invariant.1.1.1.1.1.1 r h) c.loop-rest-test.true _ _ _ _ (c.clone_field-field.ensures r h (copying_field _ _ _ _ _ _ _ _ _ _ _ _ (c.loop-rest.invariant.1.1.1.1.1.1 r h) c.loop-rest-test.true)) (c.width_of-place.ensures ∙ ap width_of c.sort_of.ensures) c.put.ensures,
           ),
         ),
       ),
@@ -102,6 +102,6 @@ deep_clone_expr-loop-rest-preserved t c = (
 
 pub deep_clone_expr-returns : goal.deep_clone_expr-returns
 deep_clone_expr-returns t c = λ r h.
-    copies_record _ _ _ _ _ _ h c.expression_start-start.ensures (c.kind_at-kind.ensures ∙ kind_in _ _) _ _ _ _ _ (not_lambda _ c.if-kind-eq56.false c.if-kind-eq57.false)
+    copies_record _ _ _ _ _ _ h c.expression_start-start.ensures (c.kind_at-kind.ensures ∙ kind_in _ _) _ _ _ _ _ (not_lambda _ c.if-kind-eq-LAMBDA.false c.if-kind-eq-RESOLVED_LAMBDA.false)
     (copying_whole _ _ _ _ _ _ _ (row_codes _ _ _ r c.row_of-row.ensures) _ _ _ (copying_all _ _ _ _ _ _ _ _ _ _ _ _ (c.loop-rest.invariant.1.1.1.1.1.1 r h) c.loop-rest-test.false))
     (as_made _ _ _ _ _ _ (c.new_expression.ensures _ _ _ (row_codes _ _ _ r c.row_of-row.ensures)))

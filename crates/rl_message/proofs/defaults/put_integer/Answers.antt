@@ -9,7 +9,7 @@ puts : (c : goal.After-number) → Puts c.args.out.now.bytes.now c.args.out.now.
 unfolding ascii
 puts c =
     elim c.if-x-lt0.branch [
-      then-x-lt0 b ↦ puts_minus c.args.x c.ranges.x _ c.unsigned_abs.ensures.value c.args.out.now _ _ _ (c.number.ensures.at, c.number.ensures.bytes) b.if-x-lt0.true _ b.out-is (b.text.ensures.at, b.text.ensures.bytes)
+      | then-x-lt0 b ↦ puts_minus c.args.x c.ranges.x _ c.unsigned_abs.ensures.value c.args.out.now _ _ _ (c.number.ensures.at, c.number.ensures.bytes) b.if-x-lt0.true _ b.out-is (b.text.ensures.at, b.text.ensures.bytes)
       | else-x-lt0 b ↦ puts_plain c.args.x c.ranges.x _ c.unsigned_abs.ensures.value c.args.out.now _ _ _ (c.number.ensures.at, c.number.ensures.bytes) b.if-x-lt0.false b.out-is
     ]
 

@@ -1,8 +1,10 @@
 use Rattle.rl_lines.proofs.CallLaws.{own_lines, own_entries}
 use Rattle.rl_report.proofs.print.print_calls.Goals as goal
 
-pub print_lines-requires-clause-lines_value : goal.print_lines-requires-clause-lines_value
-print_lines-requires-clause-lines_value g c = own_lines _ _ _ c.lines_of-lines.ensures.value
-
-pub print_lines-requires-clause-reports_value : goal.print_lines-requires-clause-reports_value
-print_lines-requires-clause-reports_value g c = own_entries _ _ _ c.lines_of-lines.ensures.value _ c.lines_of-lines.ensures.reports_after
+pub invariant_of-reported : goal.invariant_of-reported
+invariant_of-reported g c =
+    record {
+      known = c.args.opened.known;
+      proved = own_lines _ _ _ c.lines_of-lines.ensures.value;
+      reported = own_entries _ _ _ c.lines_of-lines.ensures.value _ c.lines_of-lines.ensures.reports_after;
+    }
