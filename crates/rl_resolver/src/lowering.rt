@@ -13,7 +13,7 @@ use rl_admission::admit_lowering;
 use rl_assemble::{Sources, assemble};
 use rl_ast::read_starts;
 use rl_bodies::new_body;
-use rl_context::Ctx;
+use rl_context::{Ctx, Made};
 use rl_prover::any_refined;
 use rl_records::ImageRef;
 use rl_schema::schema_table;
@@ -64,15 +64,15 @@ fn put_finished(image: ImageRef, function: u16, out: &mut [u8]) -> Option<usize>
     let mut waiting = [0u16; 4096];
     let mut text = [0u8; 16385];
     let rows = schema_table();
-    let mut ctx = begun(image, function);
-    let list = new_body(
+    let start = begun(image, function);
+    let Made { ctx, made: list } = new_body(
         image,
         &rows,
         function,
         &mut text,
         &mut scratch,
         &mut waiting,
-        &mut ctx,
+        start,
     );
     if ctx.full {
         return None;
