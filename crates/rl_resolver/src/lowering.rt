@@ -13,7 +13,7 @@ use rl_admission::admit_lowering;
 use rl_assemble::{Sources, assemble};
 use rl_ast::read_starts;
 use rl_bodies::new_body;
-use rl_context::Ctx;
+use rl_context::{Ctx, Made};
 use rl_prover::any_refined;
 use rl_records::ImageRef;
 use rl_schema::schema_table;
@@ -64,24 +64,25 @@ fn put_finished(image: ImageRef, function: u16, out: &mut [u8]) -> Option<usize>
     let mut waiting = [0u16; 4096];
     let mut text = [0u8; 16385];
     let rows = schema_table();
-    let made = new_body(
+    let start = begun(image, function);
+    let Made { ctx, made: list } = new_body(
         image,
         &rows,
         function,
         &mut text,
         &mut scratch,
         &mut waiting,
-        begun(image, function),
+        start,
     );
-    if made.ctx.full {
+    if ctx.full {
         return None;
     }
     let sources = Sources {
         image,
-        ctx: made.ctx,
+        ctx,
         scratch: &scratch,
     };
-    assemble(sources, function, made.made, out)
+    assemble(sources, function, list, out)
 }
 
 // The lowered image's bytes, and their number; none where a limit would be passed, and then nothing is put.
