@@ -21,11 +21,6 @@ use Rattle.rl_classes.specs.Classes.{first_from, class_of, ClassOfEach}
 use Rattle.rl_classes.specs.Links.{next_link, meet, link_after, Linked, PlaceOf}
 use Rattle.rl_classes.proofs.Same.{apart_same, met_first, classes_tell}
 
-zeros : (n k : ℕ) → ◌≡◌ {A = ℕ} (get_or (replicate n 0) k 0) 0
-zeros zero k = refl
-zeros (suc n) zero = refl
-zeros (suc n) (suc k) = zeros n k
-
 -- a search reads only the links of the texts that it has passed
 link_kept : (bytes : ℕ → List ℕ) (links t : List ℕ) (at x n : ℕ) → n ≤ at → link_after bytes (set links at x) t n ≡ link_after bytes links t n
 unfolding link_after meet
@@ -133,17 +128,6 @@ module _ (s : List ℕ) (c : Counts) where
     pub rest : (k : ℕ) → t ≤ k → get_or cs k 0 ≡ 0
 
   module _ (start-links start : List ℕ) where
-    pub classed_start : (before : List ℕ) → start ≡ replicate (length before) 0 → Classed start-links start start-links start 0
-    classed_start before e =
-        record {
-          within = omega arith;
-          wide = refl;
-          long = refl;
-          linked = λ p l m k i. absurd (omega arith);
-          done = λ p l m k i. absurd (omega arith);
-          rest = λ k i. rw e (zeros (length before) k);
-        }
-
     module _ (links cs : List ℕ) (t : ℕ) (v : Classed start-links start links cs t) where
       pub classed_more : t < c.texts → (class link : ℕ) → Placed links t class link → (links' cs' : List ℕ) → links' ≡ set links t link → cs' ≡ set cs t class → Classed start-links start links' cs' (t + 1)
       classed_more h class link f links' cs' d e =

@@ -1,6 +1,6 @@
 -- Laws for the functions on two texts: the first mismatch, whether they are the same.
 -- Assumes nothing.
-use Prim.Native.Nat.{ℕ, suc, ◌+◌, ◌-◌, ◌*◌, ◌%◌, ◌≤◌, ◌<◌, min, max}
+use Prim.Native.Nat.{ℕ, suc, ◌+◌, ◌-◌, ◌≤◌, ◌<◌, min, max}
 use mathlib.Core.Path.{◌≡◌, refl, sym, ap, ◌∙◌}
 use mathlib.Core.Bool.{Bool, true, false}
 use mathlib.Core.List.{List, [], ◌∷◌, ◌++◌}
@@ -8,11 +8,11 @@ use native.Mathlib.Omega.{arith}
 use native.Mathlib.Numerals.{add-one}
 use lib.ListN.{length, get_or, take, drop, length-drop, drop_of_length-le, take-append-drop}
 use lib.Seq.{drop-cons}
-use borrow.Author.Tests.{lt-ltb, le-ltb, eq-eqb, ne_eqb}
+use borrow.Author.Tests.{eq-eqb, ne_eqb}
 use Rattle.rl_laws.specs.Tests.{by_ltb, by_eqb}
 use Rattle.rl_laws.specs.Words.{eight_at, Word, eight_then, eight_long, same_eight}
 use Rattle.rl_spec.specs.Values.{same_text}
-use Rattle.rl_classes.specs.Links.{common, mismatch, next_link}
+use Rattle.rl_classes.specs.Links.{common, mismatch}
 use Rattle.rl_classes.proofs.Same.{never, same_equal, equal_same, apart_same}
 
 -- ---- the first mismatch; whole is what the loop has to answer

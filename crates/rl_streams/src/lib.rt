@@ -22,6 +22,7 @@ pub fn fill<R: Read>(from: &mut R, buf: &mut [u8]) -> Result<usize, Failed>
         (λ failed. Consumes (R.remaining from.old) (R.remaining from.new) (take failed.filled buf.new)) }
     ensures end { IfOk result (λ n. n < length buf.new → IsAtEnd (R.remaining from.new)) }
 {
+    // no method of std: those try an interrupted read again, and say nothing of what was read before an error
     let mut filled = 0;
     while filled < buf.len() {
         match from.read(&mut buf[filled..]) {
@@ -33,7 +34,7 @@ pub fn fill<R: Read>(from: &mut R, buf: &mut [u8]) -> Result<usize, Failed>
     Ok(filled)
 }
 
-// The same where a failed read counts as the input's end.
+// The same where a failed read counts as the input's end, for programs that must not fail.
 pub fn read_full(from: &mut impl Read, buf: &mut [u8]) -> usize
     ensures { result ≤ length buf.new }
 {

@@ -25,6 +25,7 @@ impl Replay for Lowering {
         let answer = rl_lower(case.image, work, function, out);
         match unpacked(answer) {
             Ok(len) => {
+                // no slice up to it, since no clause of `rl_lower` says that it is within `out`
                 let lowered = part(out, 0, len as usize);
                 println!(rt; "lowered {} {}", lowered.len(), Hex(lowered))?;
             }

@@ -24,6 +24,7 @@ impl Replay for Paging {
         let answer = rl_pages(case.image, work, pages);
         match unpacked(answer) {
             Ok(len) => {
+                // no slice up to it, since no clause of `rl_pages` says that it is within `pages`
                 let pages = part(pages, 0, len as usize);
                 println!(rt; "bytes {}", pages.len())?;
                 rt.write_all(pages)?;

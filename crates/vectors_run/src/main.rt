@@ -43,7 +43,7 @@ impl Replay for Running {
     }
 }
 
-// The words are those that `rl_run` hands to C too.
+// The kinds are numbers, as the C interface has them.
 fn print_outcome(rt: &impl Print, outcome: [u64; 4]) -> io::Result<()> {
     let [kind, steps, sort, payload] = outcome;
     match kind {
