@@ -30,7 +30,7 @@ impl Stack {
         ensures { result ≡ [] }
     {
         Stack {
-            frames: [Frame::Discard; 69],
+            frames: [Frame::Test; 69],
             len: 0,
         }
     }

@@ -44,7 +44,8 @@ pub fn next(
     begun(image, s, block.bound, block.outermost && *done == count)
 }
 
-// A node, for a step.
+// A node, for a step. In line: a call hands the state over in memory, which costs a quarter of a step.
+#[inline(always)]
 pub fn visited(image: ImageRef, node: u16, limit: u32, left: &mut u32) -> State
     ensures { (bound : ℕ) (fs : List Waiting) (env : Bounds ℕ) → Goes (found image.entry) bound (State.Visit node limit) fs env left.old result fs env left.new }
 {
