@@ -15,30 +15,32 @@ use Rattle.rl_spec.specs.Image.{Image, image_of}
 use Rattle.rl_spec.specs.Lower.{lowered}
 use Rattle.rl_spec.specs.Lowerer.{too_tall, or_limit, lower_by, lower_of, lower_answer}
 use Rattle.rl_images.specs.Reading.Places.{place_small}
-use Rattle.rl_spec.specs.Boundary.{lower_packed, lowered_place}
+use Rattle.rl_spec.specs.Boundary.{lower_packed}
+use Rattle.rl_boundary.specs.Packing.{packed_by, place_of}
+use Rattle.rl_abi.proofs.Laws.{count_packed}
 
-lower_place : (s : List ℕ) (k f room : ℕ) → lowered_place (lower_answer (lower_of s k f room)) ≤ 65535
+lower_place : (s : List ℕ) (k f room : ℕ) → place_of (lower_answer (lower_of s k f room)) ≤ 65535
 unfolding lower_of
 lower_place s k f room = go (answer_of s k) refl
   where
-    limit : (o : Option Image) → lowered_place (lower_answer (or_limit o)) ≤ 65535
+    limit : (o : Option Image) → place_of (lower_answer (or_limit o)) ≤ 65535
     limit none = omega arith
     limit (some im) = omega arith
 
     chosen : (x y z : Bool) (o : Option Image) →
-        lowered_place (lower_answer (cond (not x) (refused NoSuchFunction 0) (cond y (refused HeightOverLimit 0) (cond z (refused OutputTooShort 0) (or_limit o))))) ≤ 65535
+        place_of (lower_answer (cond (not x) (refused NoSuchFunction 0) (cond y (refused HeightOverLimit 0) (cond z (refused OutputTooShort 0) (or_limit o))))) ≤ 65535
     chosen false y z o = omega arith
     chosen true true z o = omega arith
     chosen true false true o = omega arith
     chosen true false false o = limit o
 
-    go : (a : Answer) → answer_of s k ≡ a → lowered_place (lower_answer (lower_by s f room a)) ≤ 65535
+    go : (a : Answer) → answer_of s k ≡ a → place_of (lower_answer (lower_by s f room a)) ≤ 65535
     go (Err r) e = place_small s k r.cause r.place e
     go (Ok h) e = chosen (ltb f h.counts.functions) (too_tall (image_of s)) (ltb room 65535) (lowered (image_of s) f)
 
 module _ (s : List ℕ) (k f room : ℕ) (a : LowerAnswer) (e : a ≡ lower_answer (lower_of s k f room)) where
-  pub lower_near : lowered_place a ≤ 65535
-  lower_near = subst (λ (x : LowerAnswer). lowered_place x ≤ 65535) (sym e) (lower_place s k f room)
+  pub lower_near : place_of a ≤ 65535
+  lower_near = subst (λ (x : LowerAnswer). place_of x ≤ 65535) (sym e) (lower_place s k f room)
 
-  pub lower_packed_lem : (r : ℕ) → r ≡ lower_packed a → r ≡ lower_packed (lower_answer (lower_of s k f room))
-  lower_packed_lem r g = g ∙ ap lower_packed e
+  pub lower_packed_lem : (r : ℕ) → r ≡ packed_by (λ n. n) a → r ≡ lower_packed (lower_answer (lower_of s k f room))
+  lower_packed_lem r g = g ∙ count_packed a ∙ ap lower_packed e

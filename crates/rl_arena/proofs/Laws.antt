@@ -1,6 +1,6 @@
 -- One law for each way out of a function.
 -- Assumes nothing.
-use Prim.Native.Nat.{ℕ, zero, suc, ◌+◌, ◌-◌, ◌*◌, ◌/◌, ◌%◌, ◌^◌, ◌≤◌, ◌<◌}
+use Prim.Native.Nat.{ℕ, zero, suc, ◌+◌, ◌-◌, ◌*◌, ◌/◌, ◌%◌, ◌≤◌, ◌<◌}
 use mathlib.Core.Path.{◌≡◌, refl, sym, ap, ◌∙◌}
 use mathlib.Core.Bool.{Bool, true, false, cond}
 use mathlib.Core.List.{List, [], ◌∷◌}
@@ -9,64 +9,16 @@ use lib.Dec.{leb, eqb}
 use mir.Val.{Fits}
 use mir.Syntax.{w8, w64}
 use lib.ListN.{get_or}
-use borrow.Author.Tests.{lt-ltb, le-ltb, leb-true, eq-eqb, ne_eqb}
-use Rattle.rl_spec.specs.declared.ArenaNo.{ArenaNo}
-use Rattle.rl_spec.specs.declared.Counts.{Counts}
-use Rattle.rl_spec.specs.declared.Id.{Id}
+use borrow.Author.Tests.{leb-true}
+use Rattle.std.specs.Prelude.{Option, Some, None}
 use Rattle.rl_spec.specs.declared.Sort.{Sort}
-use Rattle.rl_spec.specs.Bytes.{num_at, u16_at, u32_at}
+use Rattle.rl_spec.specs.Bytes.{u16_at}
 use Rattle.rl_spec.specs.Schema.{sort_of, width_of}
-use Rattle.rl_spec.specs.Image.{Field, no_field, first, second, is_pair, field_in, fields_at, record_in}
-use Rattle.rl_bytes.proofs.Laws.{one, two, four}
+use Rattle.rl_spec.specs.Image.{Field, no_field, first, second, is_pair, field_in, fields_at}
 use Rattle.rl_schema.specs.Codes.{codes}
 use Rattle.rl_schema.proofs.Rows.{codes_none, codes_more}
 use Rattle.rl_arena.specs.declared.Spot.{Spot}
-use Rattle.rl_arena.specs.declared.Spot.TheVariants as spot
-use Rattle.rl_arena.specs.declared.Lookup.TheVariants.{Node, OtherArena, NoSuchNode}
-use Rattle.rl_arena.specs.Find.{is_width, number_in, spot_of, lookup}
-
--- ---- a kind, an id
-
-pub kind_is : (s : List ℕ) (at r : ℕ) → r ≡ get_or s at 0 → r ≡ (record_in s at).kind
-unfolding record_in
-kind_is s at r e = e
-
-module _ (arena : ArenaNo) (c : Counts) (id : Id) where
-  pub id_foreign : (id.arena.0 ≡ arena.0 → ⊥) → OtherArena ≡ lookup arena c id
-  unfolding lookup
-  id_foreign h = rw (ne_eqb id.arena.0 arena.0 h) refl
-
-  module _ (e : id.arena.0 ≡ arena.0) where
-    pub id_found : id.node.0 < c.expressions → Node id.node.0 ≡ lookup arena c id
-    unfolding lookup
-    id_found h = rw (eq-eqb id.arena.0 arena.0 e, lt-ltb id.node.0 c.expressions h) refl
-
-    pub id_missing : c.expressions ≤ id.node.0 → NoSuchNode ≡ lookup arena c id
-    unfolding lookup
-    id_missing h = rw (eq-eqb id.arena.0 arena.0 e, le-ltb id.node.0 c.expressions h) refl
-
--- ---- numbers
-
-module _ (s : List ℕ) (at n r : ℕ) where
-  pub number_one : n ≡ 1 → r ≡ get_or s at 0 → r ≡ number_in s at n
-  unfolding number_in
-  number_one e f = rw e (f ∙ one s at)
-
-  pub number_two : n ≡ 2 → r ≡ u16_at s at → r ≡ number_in s at n
-  unfolding number_in
-  number_two e f = rw e (f ∙ two s at)
-
-  pub number_four : n ≡ 4 → r ≡ u32_at s at → r ≡ number_in s at n
-  unfolding number_in
-  number_four e f = rw e (f ∙ four s at)
-
-  pub number_eight : n ≡ 8 → r ≡ num_at s at 8 → r ≡ number_in s at n
-  unfolding number_in
-  number_eight e f = rw e f
-
-pub number_none : (s : List ℕ) (at n : ℕ) → (n ≡ 1 → ⊥) → (n ≡ 2 → ⊥) → (n ≡ 4 → ⊥) → (n ≡ 8 → ⊥) → 0 ≡ number_in s at n
-unfolding number_in
-number_none s at n a b c d = rw (ne_eqb n 1 a, ne_eqb n 2 b, ne_eqb n 4 c, ne_eqb n 8 d) refl
+use Rattle.rl_arena.specs.Find.{is_width, number_in, spot_of}
 
 -- ---- the widths of fields
 
@@ -117,9 +69,6 @@ module _ (s : List ℕ) (c at : ℕ) (o : Sort) (e : o ≡ sort_of c) (b : Bool)
     pub first_pair : r ≡ u16_at s at → r ≡ first (field_in s (sort_of c) at)
     first_pair g = rw (← e, ← f, t) g
 
-    pub second_pair : r ≡ u16_at s (at + 2) → r ≡ second (field_in s (sort_of c) at)
-    second_pair g = rw (← e, ← f, t) g
-
   module _ (t : b ≡ false) where
     pub first_number : (m : ℕ) → m ≡ width_of o → (r : ℕ) → r ≡ number_in s at m → r ≡ first (field_in s (sort_of c) at)
     unfolding number_in
@@ -127,38 +76,37 @@ module _ (s : List ℕ) (c at : ℕ) (o : Sort) (e : o ≡ sort_of c) (b : Bool)
         let w : is_width m ≡ true = rw (g, e) (narrow c).0 in
         rw (← e, ← f, t, ← g) (rw w at h)
 
-    pub second_number : 0 ≡ second (field_in s (sort_of c) at)
-    second_number = rw (← e, ← f, t) refl
+-- ---- the fields: `whole` is what the loop has to answer, and v its invariant after k of j steps
 
--- ---- the fields: `whole` is what the loop has to answer, and v its invariant
-
-module _ (rest place left : ℕ) (whole : Spot) (v : whole ≡ spot_of (codes rest) place left) where
-  pub spot_end : rest ≡ 0 → spot.Nothing ≡ whole
+module _ (rest place k j : ℕ) (whole : Option Spot) (v : whole ≡ spot_of (codes rest) place (j - k)) where
+  pub spot_end : rest ≡ 0 → None ≡ whole
   unfolding spot_of
   spot_end q = rw (v, codes_none rest q) refl
 
-  module _ (q : rest ≡ 0 → ⊥) (l : rest < 2 ^ 64) where
-    pub spot_here : left ≡ 0 → spot.Field (rest % 256) place ≡ whole
+  module _ (q : rest ≡ 0 → ⊥) (l : Fits w64 rest) where
+    pub spot_here : (k < j → ⊥) → Some (record { code = rest % 256; at = place }) ≡ whole
     unfolding spot_of
-    spot_here z = rw (v, codes_more rest l q, z) refl
+    spot_here z =
+        let n : j - k ≡ 0 = omega arith in
+        rw (v, codes_more rest (omega arith) q, n) refl
 
-    pub spot_more : (left ≡ 0 → ⊥) → (o : Sort) → o ≡ sort_of (rest % 256) → (m : ℕ) → m ≡ width_of o → whole ≡ spot_of (codes (rest / 256)) (place + m) (left - 1)
+    pub spot_more : k < j → (o : Sort) → o ≡ sort_of (rest % 256) → (m : ℕ) → m ≡ width_of o → whole ≡ spot_of (codes (rest / 256)) (place + m) (j - (k + 1))
     unfolding spot_of
     spot_more z o e m f =
-        let n : left ≡ suc (left - 1) = omega arith in
-        v ∙ rw (codes_more rest l q, f, e) (ap (spot_of (rest % 256 ∷ codes (rest / 256)) place) n)
+        let n : j - k ≡ suc (j - (k + 1)) = omega arith in
+        v ∙ rw (codes_more rest (omega arith) q, f, e) (ap (spot_of (rest % 256 ∷ codes (rest / 256)) place) n)
 
-module _ (c : ℕ) (o : Sort) (e : o ≡ sort_of c) (m : ℕ) (f : m ≡ width_of o) (place left j : ℕ) (z : left ≡ 0 → ⊥) (b : place + 8 * left ≤ 65536 + 8 * j) where
-  pub spot_near : place + m + 8 * (left - 1) ≤ 65536 + 8 * j
+module _ (c : ℕ) (o : Sort) (e : o ≡ sort_of c) (m : ℕ) (f : m ≡ width_of o) (place k : ℕ) (b : place ≤ 65536 + 8 * k) where
+  pub spot_near : place + m ≤ 65536 + 8 * (k + 1)
   spot_near = omega (arith, width_small c o e m f)
 
-  pub spot_fits : j < 256 → Fits w64 (place + m)
-  spot_fits h = omega (arith, width_small c o e m f)
+  pub spot_fits : (j : ℕ) → k < j → Fits w8 j → Fits w64 (place + m)
+  spot_fits j l h = omega (arith, width_small c o e m f)
 
 -- the field that stands at a spot
-abbrev field_by : List ℕ → Spot → Field
-field_by s (spot.Field c at) = field_in s (sort_of c) at
-field_by s spot.Nothing = no_field
+abbrev field_by : List ℕ → Option Spot → Field
+field_by s (Some spot) = field_in s (sort_of spot.code) spot.at
+field_by s None = no_field
 
 spot_field : (s cs : List ℕ) (at j : ℕ) → field_by s (spot_of cs at j) ≡ get_or (fields_at s cs at) j no_field
 unfolding spot_of fields_at
@@ -166,20 +114,20 @@ spot_field s [] at j = refl
 spot_field s (c ∷ cs) at zero = refl
 spot_field s (c ∷ cs) at (suc j) = spot_field s cs (at + width_of (sort_of c)) j
 
-module _ (s : List ℕ) (row at j : ℕ) (x : Spot) (e : x ≡ spot_of (codes row) (at + 1) j) where
+module _ (s : List ℕ) (row at j : ℕ) (x : Option Spot) (e : x ≡ spot_of (codes row) (at + 1) j) where
   found : (f : Field) → field_by s x ≡ f → get_or (fields_at s (codes row) (at + 1)) j no_field ≡ f
   found f g = sym (spot_field s (codes row) (at + 1) j) ∙ ap (field_by s) (sym e) ∙ g
 
-  module _ (g : x ≡ spot.Nothing) where
+  module _ (g : x ≡ None) where
     pub first_none : 0 ≡ first (get_or (fields_at s (codes row) (at + 1)) j no_field)
     first_none = rw (found no_field (ap (field_by s) g)) refl
 
     pub second_nothing : 0 ≡ second (get_or (fields_at s (codes row) (at + 1)) j no_field)
     second_nothing = rw (found no_field (ap (field_by s) g)) refl
 
-  module _ (c q : ℕ) (g : x ≡ spot.Field c q) (r : ℕ) where
-    pub first_found : r ≡ first (field_in s (sort_of c) q) → r ≡ first (get_or (fields_at s (codes row) (at + 1)) j no_field)
-    first_found h = rw (found (field_in s (sort_of c) q) (ap (field_by s) g)) h
+  module _ (p : Spot) (g : x ≡ Some p) (r : ℕ) where
+    pub first_found : r ≡ first (field_in s (sort_of p.code) p.at) → r ≡ first (get_or (fields_at s (codes row) (at + 1)) j no_field)
+    first_found h = rw (found (field_in s (sort_of p.code) p.at) (ap (field_by s) g)) h
 
-    pub second_found : r ≡ second (field_in s (sort_of c) q) → r ≡ second (get_or (fields_at s (codes row) (at + 1)) j no_field)
-    second_found h = rw (found (field_in s (sort_of c) q) (ap (field_by s) g)) h
+    pub second_found : r ≡ second (field_in s (sort_of p.code) p.at) → r ≡ second (get_or (fields_at s (codes row) (at + 1)) j no_field)
+    second_found h = rw (found (field_in s (sort_of p.code) p.at) (ap (field_by s) g)) h

@@ -1,6 +1,6 @@
 -- What the functions read of an accepted image is what its abstract image holds.
 -- Assumes nothing.
-use Rattle.std.specs.Prelude.{ℕ, ◌+◌, ◌≤◌, ◌<◌, Bool, List, get_or}
+use Rattle.std.specs.Prelude.{ℕ, ◌+◌, ◌≤◌, ◌<◌, Bool, List, get_or, Ok, Err}
 use Rattle.std.proofs.Math.Path.{◌≡◌, refl}
 use Rattle.std.proofs.Math.Bool.{true, false, cond}
 use Rattle.std.proofs.Common.{arith}
@@ -18,7 +18,7 @@ use Rattle.rl_spec.specs.Image.{no_field, record_of, field_of, fields_at, record
 use Rattle.rl_schema.specs.Codes.{codes, table}
 use Rattle.rl_schema.proofs.Rows.{row_codes}
 use Rattle.rl_images.specs.Reading.Starts.{StandsAt, starts_expression, starts_statement}
-use Rattle.rl_arena.specs.declared.Lookup.TheVariants.{Node, OtherArena, NoSuchNode}
+use Rattle.rl_spec.specs.declared.Cause.TheVariants.{OtherArena, NoSuchNode}
 use Rattle.rl_arena.specs.Find.{is_width, number_in, lookup}
 
 -- THEOREM: at the widths of fields the number is that of the bytes
@@ -76,21 +76,21 @@ module _ (s : List ℕ) (k : ℕ) (a : ArenaNo) (c : Counts) (e : answer_of s k 
 
 module _ (arena : ArenaNo) (c : Counts) (id : Id) where
   -- THEOREM: a foreign id finds no node, whatever its node number
-  pub lookup_foreign : (id.arena.0 ≡ arena.0 → ⊥) → lookup arena c id ≡ OtherArena
+  pub lookup_foreign : (id.arena.0 ≡ arena.0 → ⊥) → lookup arena c id ≡ Err OtherArena
   unfolding lookup
   lookup_foreign h = rw (ne_eqb id.arena.0 arena.0 h) refl
 
   -- THEOREM: an id of this arena whose node number is past the expressions finds no node
-  pub lookup_missing : id.arena.0 ≡ arena.0 → c.expressions ≤ id.node.0 → lookup arena c id ≡ NoSuchNode
+  pub lookup_missing : id.arena.0 ≡ arena.0 → c.expressions ≤ id.node.0 → lookup arena c id ≡ Err NoSuchNode
   unfolding lookup
   lookup_missing e h = rw (eq-eqb id.arena.0 arena.0 e, le-ltb id.node.0 c.expressions h) refl
 
   -- THEOREM: a node that is found is the id's, of this arena, and there is such an expression
-  pub lookup_node : (n : ℕ) → lookup arena c id ≡ Node n → (id.arena.0 ≡ arena.0) × ((n ≡ id.node.0) × (n < c.expressions))
+  pub lookup_node : (n : ℕ) → lookup arena c id ≡ Ok n → (id.arena.0 ≡ arena.0) × ((n ≡ id.node.0) × (n < c.expressions))
   unfolding lookup
   lookup_node n e = go (eqb id.arena.0 arena.0) (ltb id.node.0 c.expressions) refl refl e
     where
-      go : (x y : Bool) → eqb id.arena.0 arena.0 ≡ x → ltb id.node.0 c.expressions ≡ y → cond x (cond y (Node id.node.0) NoSuchNode) OtherArena ≡ Node n → (id.arena.0 ≡ arena.0) × ((n ≡ id.node.0) × (n < c.expressions))
+      go : (x y : Bool) → eqb id.arena.0 arena.0 ≡ x → ltb id.node.0 c.expressions ≡ y → cond x (cond y (Ok id.node.0) (Err NoSuchNode)) (Err OtherArena) ≡ Ok n → (id.arena.0 ≡ arena.0) × ((n ≡ id.node.0) × (n < c.expressions))
       go true true p q f =
           let m : n ≡ id.node.0 = cc in
           (eqb-true id.arena.0 arena.0 p, (m, omega (arith, ltb-true id.node.0 c.expressions q)))

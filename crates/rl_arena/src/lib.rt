@@ -11,7 +11,7 @@ ghost use Rattle.rl_arena.specs.Find.{number_in, spot_of, lookup};
 use rl_bytes::{get_or, second_u16, u16_at, u32_at, u64_at};
 pub use rl_schema::entry_at;
 use rl_schema::{sort_of, width_of};
-use rl_spec::{ArenaNo, Counts, Id, Sort};
+use rl_spec::{ArenaNo, Cause, Counts, Id, Sort};
 
 // ---- where records start
 
@@ -31,6 +31,7 @@ pub fn statement_start(starts: &[u16], counts: Counts, n: u16) -> u16
 
 // ---- what stands in a record
 
+#[tactic(auto, unfolding(rl_spec::specs::Image::record_in))]
 pub fn kind_at(image: &[u8], at: u16) -> u8
     ensures { result ≡ (record_in image.now at).kind }
 {
@@ -45,6 +46,7 @@ pub fn span_at(image: &[u8], at: u16) -> u32
 }
 
 // The number in 1, 2, 4 or 8 bytes; 0 for any other width.
+#[tactic(auto, unfolding(crate::specs::Find::number_in), using(rl_bytes::proofs::Laws::one, rl_bytes::proofs::Laws::two, rl_bytes::proofs::Laws::four))]
 pub fn number_at(image: &[u8], at: usize, width: u8) -> u64
     ensures { result ≡ number_in image.now at width }
 {
@@ -58,52 +60,42 @@ pub fn number_at(image: &[u8], at: usize, width: u8) -> u64
 }
 
 // A field's code and its place.
-#[derive(Drop)]
-pub enum Spot {
-    Field { code: u8, at: usize },
-    Nothing,
+#[derive(Clone, Copy)]
+pub struct Spot {
+    pub code: u8,
+    pub at: usize,
 }
 
 // The j-th field of a record, by the schema's row of its kind.
-fn field_spot(row: u64, at: u16, j: u8) -> Spot
+#[tactic(auto, using(crate::proofs::Laws::spot_end, crate::proofs::Laws::spot_here, crate::proofs::Laws::spot_fits))]
+fn field_spot(row: u64, at: u16, j: u8) -> Option<Spot>
     ensures { result ≡ spot_of (codes row) (at + 1) j }
 {
     let mut rest = row;
     let mut place = (at as usize) + 1;
-    let mut left = j;
-    while rest != 0 {
-        let code = (rest % 256) as u8;
-        if left == 0 {
-            return Spot::Field { code, at: place };
+    for _ in 0..j {
+        if rest == 0 {
+            return None;
         }
-        place += width_of(sort_of(code));
-        rest = rest / 256;
-        left -= 1;
+        place += width_of(sort_of((rest % 256) as u8));
+        rest /= 256;
     }
-    Spot::Nothing
+    if rest == 0 {
+        return None;
+    }
+    Some(Spot {
+        code: (rest % 256) as u8,
+        at: place,
+    })
 }
 
 pub fn is_pair(sort: Sort) -> bool
     ensures { result ≡ is_pair sort }
 {
-    match sort {
-        Sort::Raw { width: _ } => false,
-        Sort::Byte { low: _, high: _ } => false,
-        Sort::Scalar => false,
-        Sort::Part => true,
-        Sort::One { target: _ } => false,
-        Sort::Maybe { target: _ } => false,
-        Sort::Many {
-            left: _,
-            right: _,
-            step: _,
-        } => true,
-        Sort::Range { section: _ } => true,
-        Sort::OperandSort => false,
-        Sort::Operand => false,
-    }
+    matches!(sort, Sort::Part | Sort::Many { .. } | Sort::Range { .. })
 }
 
+#[tactic(auto, using(crate::proofs::Laws::first_pair, crate::proofs::Laws::first_number, crate::proofs::Laws::width_fits))]
 fn first_at(image: &[u8], code: u8, at: usize) -> u64
     ensures { result ≡ first (field_in image.now (sort_of code) at) }
 {
@@ -124,49 +116,40 @@ fn second_at(image: &[u8], code: u8, at: usize) -> u16
 }
 
 // The number of the j-th field of the record at a place, or the first of two; `row` is the schema's row of the record's kind.
+#[tactic(auto, using(crate::proofs::Laws::first_none, crate::proofs::Laws::first_found))]
 pub fn field_first(image: &[u8], row: u64, at: u16, j: u8) -> u64
     ensures { result ≡ first (get_or (fields_at image.now (codes row) (at + 1)) j no_field) }
 {
-    let spot = field_spot(row, at, j);
-    match spot {
-        Spot::Field { code, at: place } => first_at(image, code, place),
-        Spot::Nothing => 0,
+    match field_spot(row, at, j) {
+        Some(spot) => first_at(image, spot.code, spot.at),
+        None => 0,
     }
 }
 
 // The second of two numbers of that field; 0 where it has one.
+#[tactic(auto, using(crate::proofs::Laws::second_nothing, crate::proofs::Laws::second_found))]
 pub fn field_second(image: &[u8], row: u64, at: u16, j: u8) -> u16
     ensures { result ≡ second (get_or (fields_at image.now (codes row) (at + 1)) j no_field) }
 {
-    let spot = field_spot(row, at, j);
-    match spot {
-        Spot::Field { code, at: place } => second_at(image, code, place),
-        Spot::Nothing => 0,
+    match field_spot(row, at, j) {
+        Some(spot) => second_at(image, spot.code, spot.at),
+        None => 0,
     }
 }
 
 // ---- ids
 
-// What an id finds in an arena: the arena's number is compared first, then the node's number with the count of expressions.
-#[derive(Drop)]
-pub enum Lookup {
-    Node(u16),
-    OtherArena,
-    NoSuchNode,
-}
-
-pub fn node_of(arena: ArenaNo, counts: Counts, id: Id) -> Lookup
+// The node that an id finds in an arena: the arena's number is compared first, then the node's number with the count of expressions.
+#[tactic(auto, unfolding(crate::specs::Find::lookup))]
+pub fn node_of(arena: ArenaNo, counts: Counts, id: Id) -> Result<u16, Cause>
     ensures { result ≡ lookup arena counts id }
 {
-    let other = id.arena;
-    if other.0 != arena.0 {
-        return Lookup::OtherArena;
+    if id.arena.0 != arena.0 {
+        return Err(Cause::OtherArena);
     }
-    let node = id.node;
-    let n = node.0;
-    let most = counts.expressions as u32;
-    if n < most {
-        return Lookup::Node(n as u16);
+    let n = id.node.0;
+    if n >= counts.expressions as u32 {
+        return Err(Cause::NoSuchNode);
     }
-    Lookup::NoSuchNode
+    Ok(n as u16)
 }

@@ -1,6 +1,6 @@
 -- What assembling gives, at each way out.
 -- Assumes nothing.
-use Prim.Native.Nat.{ℕ, ◌-◌, ◌≤◌, ◌<◌}
+use Prim.Native.Nat.{ℕ, ◌≤◌, ◌<◌}
 use mathlib.Core.Path.{◌≡◌, refl, ap, ap₂, sym, ◌∙◌, subst}
 use mathlib.Core.Bool.{true, cond}
 use mathlib.Core.List.{List, ◌++◌}
@@ -20,10 +20,10 @@ use Rattle.rl_images.specs.Encoding.Sections.{place_of}
 use Rattle.rl_text_out.specs.Put.{with_text, after_text}
 use Rattle.rl_text_out.specs.Put.{fitting as placed}
 use Rattle.rl_context.specs.declared.Ctx.{Ctx}
+use Rattle.rl_text_out.specs.declared.Out.{Out}
 use Rattle.rl_context.specs.Additions.{New, grown, Counted, Kept}
 use Rattle.rl_assemble.specs.Pieces.{Puts, Source, new_bytes, new_length}
-use Rattle.rl_assemble.specs.Written.{Written}
-use Rattle.rl_assemble.specs.declared.Assembled.{Assembled}
+use Rattle.rl_assemble.specs.Written.{Assembled, Written}
 use Rattle.std.specs.Prelude.{None, Some}
 use Rattle.rl_assemble.proofs.Final.{bytes_are, length_is}
 
@@ -61,18 +61,20 @@ unfolding fitting
 past_limit im out h =
     subst (λ b. Written (cond b none (some im)) out None out) (sym (lt-ltb 65535 (length (encode im)) h)) (written_none out)
 
-within_limit : (im : Image) (out : List ℕ) (r : ℕ) (after : List ℕ) → length (encode im) ≤ 65535 → 65535 ≤ length out →
-    Puts out 0 (encode im) r after → Written (fitting true im) out (Some r) after
+within_limit : (im : Image) (old new : Out) → length (encode im) ≤ 65535 → 65535 ≤ length old.bytes.now → old.at ≡ 0 → Puts old (encode im) new →
+    Written (fitting true im) old.bytes.now (Some new.at) new.bytes.now
 unfolding fitting
-within_limit im out r after h room p =
-    subst (λ b. Written (cond b none (some im)) out (Some r) after) (sym (le-ltb 65535 (length (encode im)) h))
-    (written_all im out r after (p.place ∙ after_front out (encode im) (omega arith)) (p.bytes ∙ with_front out (encode im) (omega arith)) h)
+within_limit im old new h room z p =
+    subst (λ b. Written (cond b none (some im)) old.bytes.now (Some new.at) new.bytes.now) (sym (le-ltb 65535 (length (encode im)) h))
+    (written_all im old.bytes.now new.at new.bytes.now
+    (p.place ∙ ap (λ n. after_text old.bytes.now n (encode im)) z ∙ after_front old.bytes.now (encode im) (omega arith))
+    (p.bytes ∙ ap (λ n. with_text old.bytes.now n (encode im)) z ∙ with_front old.bytes.now (encode im) (omega arith)) h)
 
 -- ---- the three ways out
 
-module _ (s p : List ℕ) (c : Counts) (ctx : Ctx) (z : List ℕ) (f : ℕ) (list : Interval) (out : List ℕ) where
-  abbrev Assembles : Assembled → List ℕ → Type 0
-  Assembles r after =
+module _ (s p : List ℕ) (c : Counts) (ctx : Ctx) (z : List ℕ) (f : ℕ) (list : Interval) where
+  abbrev Assembles : List ℕ → Assembled → List ℕ → Type 0
+  Assembles out r after =
       (im : Image) (new : New) → Source im s p c → Counted im new ctx → Kept im new z → f < size_of im Functions → 65535 ≤ length out →
       Written (fitting true (with_body (grown im new) f (pair list.first list.count))) out r after
 
@@ -93,15 +95,16 @@ module _ (s p : List ℕ) (c : Counts) (ctx : Ctx) (z : List ℕ) (f : ℕ) (lis
         (λ i. new_bytes (src.bytes i) p (src.counts_are i) ctx z f list)
         ∙ bytes_are im src.well_formed new ctx z counted kept f l list p starts_are
 
-  pub image_long : 65535 < length s → Assembles None out
-  image_long h im new src counted kept l room = absurd (omega (arith, src.well_formed.size, ap length src.bytes))
+  pub image_long : (out : List ℕ) → 65535 < length s → Assembles out None out
+  image_long out h im new src counted kept l room = absurd (omega (arith, src.well_formed.size, ap length src.bytes))
 
-  pub bytes_long : (n : ℕ) → n ≡ new_length s c ctx → 65535 < n → Assembles None out
-  bytes_long n e h im new src counted kept l room =
+  pub bytes_long : (out : List ℕ) (n : ℕ) → n ≡ new_length s c ctx → 65535 < n → Assembles out None out
+  bytes_long out n e h im new src counted kept l room =
       past_limit (final im new src counted kept l) out (omega (arith, size_is im new src counted kept l))
 
-  pub all_put : (n : ℕ) → n ≡ new_length s c ctx → n ≤ 65535 → (r : ℕ) (after : List ℕ) → Puts out 0 (new_bytes s p c ctx z f list) r after →
-      Assembles (Some r) after
-  all_put n e h r after q im new src counted kept l room =
-      within_limit (final im new src counted kept l) out r after (omega (arith, size_is im new src counted kept l)) room
-      (subst (λ x. Puts out 0 x r after) (put_is im new src counted kept l) q)
+  pub all_put : (n : ℕ) → n ≡ new_length s c ctx → n ≤ 65535 → (old new : Out) → old.at ≡ 0 → Puts old (new_bytes s p c ctx z f list) new →
+      (after : List ℕ) → after ≡ new.bytes.now → Assembles old.bytes.now (Some new.at) after
+  all_put n e h old new z q after same im more src counted kept l room =
+      subst (Written (fitting true (final im more src counted kept l)) old.bytes.now (Some new.at)) (sym same)
+      (within_limit (final im more src counted kept l) old new (omega (arith, size_is im more src counted kept l)) room z
+      (subst (λ x. Puts old x new) (put_is im more src counted kept l) q))

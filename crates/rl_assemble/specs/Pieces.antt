@@ -10,19 +10,25 @@ use Rattle.rl_spec.specs.Found.{functions_at, parameters_at}
 use Rattle.rl_images.specs.Encoding.ReaderKnows.{counts}
 use Rattle.rl_images.specs.Encoding.Sections.{place_of}
 use Rattle.rl_text_out.specs.Put.{with_text, after_text}
+use Rattle.rl_text_out.specs.declared.Out.{Out}
+use Rattle.rl_assemble.specs.declared.Sources.{Sources}
 use Rattle.rl_context.specs.declared.Ctx.{Ctx}
 use Rattle.rl_context.specs.Additions.{texts_from, lists_from, expressions_from, statements_from}
 
 -- ---- what is put
 
--- a text is put at a place; the place after it, and the slice then
-pub record Puts (out : List ℕ) (at : ℕ) (text : List ℕ) (next : ℕ) (after : List ℕ) : Type 0 where
-  pub place : next ≡ after_text out at text
-  pub bytes : after ≡ with_text out at text
+-- a text is put at a writer's place; the place after it, and the bytes then
+pub record Puts (old : Out) (text : List ℕ) (new : Out) : Type 0 where
+  pub place : new.at ≡ after_text old.bytes.now old.at text
+  pub bytes : new.bytes.now ≡ with_text old.bytes.now old.at text
 
 -- n bytes from a place on
 abbrev pub part : List ℕ → ℕ → ℕ → List ℕ
 part s from n = take n (drop from s)
+
+-- a piece of the parts of a lowered image
+abbrev pub of : (List ℕ → Counts → Ctx → List ℕ → List ℕ) → Sources → List ℕ
+of piece x = piece x.image.bytes.now x.image.counts x.ctx x.scratch.now
 
 -- ---- the places in the image
 

@@ -1,8 +1,11 @@
 -- An image's bytes at the front of a slice, and their number; nothing is put where there is no image.
-use Rattle.std.specs.Prelude.{ℕ, ◌≤◌, ◌≡◌, List, ◌++◌, length, drop, None, Some}
+use Rattle.std.specs.Prelude.{ℕ, ◌≤◌, ◌≡◌, List, ◌++◌, length, drop, None, Some, Option as Maybe}
 use Rattle.std.proofs.Math.Option.{Option, none, some}
 use Rattle.rl_spec.specs.Image.{Image, encode}
-use Rattle.rl_assemble.specs.declared.Assembled.{Assembled}
+
+-- the number of the bytes
+abbrev pub Assembled : Type 0
+Assembled = Maybe ℕ
 
 abbrev pub length_of : Option Image → Assembled
 length_of none = None

@@ -1,286 +1,224 @@
 // The bytes of a lowered image: what the image has of each section, then what is new, and the function's new body list.
 #![tactic(auto)]
 
-ghost use Rattle.std.specs.Prelude.{◌≡◌, true, ◌+◌, ◌*◌, ◌≤◌, ◌<◌, length};
+ghost use Rattle.std.specs.Prelude.{◌≡◌, true, ◌+◌, ◌-◌, ◌*◌, ◌≤◌, ◌<◌, length};
 ghost use Rattle.rl_spec.specs.declared.Section.TheVariants.{Functions};
 ghost use Rattle.rl_spec.specs.Image.{Image, pair, bytes_of, size_of};
 ghost use Rattle.rl_spec.specs.Lower.{with_body, fitting};
 ghost use Rattle.rl_context.specs.Additions.{New, grown, Counted, Kept};
 ghost use Rattle.rl_assemble.specs.Written.{Written};
-ghost use Rattle.rl_assemble.specs.Pieces.{Puts, Source, new_counts, new_header, new_text, new_texts, new_lists, new_trees, new_rest, new_bytes, new_length, expressions_at, statements_at, body_at, both};
+ghost use Rattle.rl_assemble.specs.Pieces.{Puts, Source, new_counts, new_header, new_text, new_texts, new_lists, new_trees, new_rest, new_bytes, new_length, expressions_at, statements_at, body_at, both, of};
 ghost use Rattle.rl_assemble.specs.Pieces as pieces;
 
 use rl_bytes::{get_or, part};
 use rl_context::Ctx;
 use rl_encode::put_number;
-use rl_records::{before, functions_at, parameters_at};
-use rl_spec::{Counts, Interval};
-use rl_text_out::put_text;
+use rl_records::{ImageRef, functions_at, parameters_at};
+use rl_spec::Interval;
+use rl_text_out::Out;
 
-// ---- pieces, one after the other; each function answers the place after what it put
+// The image, and what lowering has added to it: as much of each section in the scratch slice as the context counts.
+#[derive(Clone, Copy)]
+pub struct Sources<'a> {
+    pub image: ImageRef<'a>,
+    pub ctx: Ctx,
+    pub scratch: &'a [u8],
+}
 
-fn put_part(out: &mut [u8], at: usize, s: &[u8], from: usize, n: usize) -> usize
-    ensures { Puts out.old at (pieces.part s.now from n) result out.new }
+#[tactic(auto, using(crate::proofs::Puts::text_put))]
+fn put_part(out: &mut Out, s: &[u8], from: usize, n: usize)
+    ensures same_reference { out.new.bytes.ghost_name ≡ out.old.bytes.ghost_name }
+    ensures puts { Puts out.old (pieces.part s.now from n) out.new }
 {
-    put_text(out, at, part(s, from, n))
+    out.text(part(s, from, n));
 }
 
 // A number in two bytes.
-fn put_two(out: &mut [u8], at: usize, n: u32) -> usize
-    ensures { Puts out.old at (bytes_of 2 n) result out.new }
+fn put_two(out: &mut Out, n: u32)
+    ensures same_reference { out.new.bytes.ghost_name ≡ out.old.bytes.ghost_name }
+    ensures puts { Puts out.old (bytes_of 2 n) out.new }
 {
     let mut two = [0u8; 2];
     put_number(&mut two, 0, n as u64, 2);
-    put_text(out, at, &two)
+    out.text(&two);
 }
 
-fn put_counts(out: &mut [u8], at: usize, ctx: Ctx) -> usize
-    ensures { Puts out.old at (new_counts ctx) result out.new }
+fn put_counts(out: &mut Out, ctx: Ctx)
+    ensures same_reference { out.new.bytes.ghost_name ≡ out.old.bytes.ghost_name }
+    ensures puts { Puts out.old (new_counts ctx) out.new }
 {
-    let bytes = ctx.bytes;
-    let texts = ctx.texts;
-    let lists = ctx.lists;
-    let expressions = ctx.expressions;
-    let statements = ctx.statements;
-    let a = put_two(out, at, bytes);
-    let b = put_two(out, a, texts);
-    let c = put_two(out, b, lists);
-    let d = put_two(out, c, expressions);
-    put_two(out, d, statements)
+    put_two(out, ctx.bytes);
+    put_two(out, ctx.texts);
+    put_two(out, ctx.lists);
+    put_two(out, ctx.expressions);
+    put_two(out, ctx.statements);
 }
 
-fn put_header(out: &mut [u8], at: usize, image: &[u8], ctx: Ctx) -> usize
-    ensures { Puts out.old at (new_header image.now ctx) result out.new }
-{
-    let a = put_part(out, at, image, 0, 5);
-    let b = put_counts(out, a, ctx);
-    put_part(out, b, image, 15, 8)
+// Each `put_` function puts a piece behind what is there.
+impl Sources<'_> {
+    fn put_header(self, out: &mut Out)
+        ensures same_reference { out.new.bytes.ghost_name ≡ out.old.bytes.ghost_name }
+        ensures puts { Puts out.old (new_header self.entry.image.bytes.now self.entry.ctx) out.new }
+    {
+        put_part(out, self.image.bytes, 0, 5);
+        put_counts(out, self.ctx);
+        put_part(out, self.image.bytes, 15, 8);
+    }
+
+    // What the image has, then what is new.
+    fn put_both(self, out: &mut Out, from: usize, n: usize, place: usize, m: usize)
+        ensures same_reference { out.new.bytes.ghost_name ≡ out.old.bytes.ghost_name }
+        ensures puts { Puts out.old (both self.entry.image.bytes.now from n self.entry.scratch.now place m) out.new }
+    {
+        put_part(out, self.image.bytes, from, n);
+        put_part(out, self.scratch, place, m);
+    }
+
+    #[tactic(auto, unfolding(crate::specs::Pieces::new_text))]
+    fn put_bytes(self, out: &mut Out)
+        ensures same_reference { out.new.bytes.ghost_name ≡ out.old.bytes.ghost_name }
+        ensures puts { Puts out.old (of new_text self.entry) out.new }
+    {
+        let n = self.image.counts.bytes as usize;
+        self.put_both(out, 23, n, n, (self.ctx.bytes as usize).saturating_sub(n));
+    }
+
+    // The `n` records of a section, from a place on, and the new ones, which stand as far behind `base` in the scratch slice.
+    fn put_section(self, out: &mut Out, from: usize, base: usize, width: usize, n: u16, all: u32)
+        requires base_small { base ≤ 65535 }
+        requires width_small { width ≤ 255 }
+        ensures same_reference { out.new.bytes.ghost_name ≡ out.old.bytes.ghost_name }
+        ensures puts { Puts out.old (both self.entry.image.bytes.now from (n * width) self.entry.scratch.now (base + n * width) ((all - n) * width)) out.new }
+    {
+        let size = (n as usize) * width;
+        let more = (all as usize).saturating_sub(n as usize);
+        self.put_both(out, from, size, base + size, more * width);
+    }
+
+    #[tactic(auto, unfolding(crate::specs::Pieces::new_texts))]
+    fn put_texts(self, out: &mut Out)
+        ensures same_reference { out.new.bytes.ghost_name ≡ out.old.bytes.ghost_name }
+        ensures puts { Puts out.old (of new_texts self.entry) out.new }
+    {
+        let counts = self.image.counts;
+        let from = 23 + (counts.bytes as usize);
+        self.put_section(out, from, 16384, 5, counts.texts, self.ctx.texts);
+    }
+
+    #[tactic(auto, unfolding(crate::specs::Pieces::new_lists))]
+    fn put_lists(self, out: &mut Out)
+        ensures same_reference { out.new.bytes.ghost_name ≡ out.old.bytes.ghost_name }
+        ensures puts { Puts out.old (of new_lists self.entry) out.new }
+    {
+        let counts = self.image.counts;
+        let from = 23 + (counts.bytes as usize) + (counts.texts as usize) * 5;
+        self.put_section(out, from, 26624, 3, counts.lists, self.ctx.lists);
+    }
+
+    // The expressions and the statements, from where they start and end.
+    fn put_trees(self, out: &mut Out, expressions: usize, statements: usize, parameters: usize)
+        ensures same_reference { out.new.bytes.ghost_name ≡ out.old.bytes.ghost_name }
+        ensures puts { Puts out.old (new_trees self.entry.image.bytes.now expressions statements parameters self.entry.ctx self.entry.scratch.now) out.new }
+    {
+        self.put_both(
+            out,
+            expressions,
+            statements.saturating_sub(expressions),
+            38912,
+            self.ctx.expression_bytes as usize,
+        );
+        self.put_both(
+            out,
+            statements,
+            parameters.saturating_sub(statements),
+            137216,
+            self.ctx.statement_bytes as usize,
+        );
+    }
+
+    // The other sections, with another body list at a place.
+    fn put_rest(self, out: &mut Out, parameters: usize, body: usize, list: Interval)
+        requires { body ≤ 4294967295 }
+        ensures same_reference { out.new.bytes.ghost_name ≡ out.old.bytes.ghost_name }
+        ensures puts { Puts out.old (new_rest self.entry.image.bytes.now parameters body list) out.new }
+    {
+        let image = self.image.bytes;
+        put_part(out, image, parameters, body.saturating_sub(parameters));
+        put_two(out, list.first as u32);
+        put_two(out, list.count as u32);
+        put_part(out, image, body + 4, image.len());
+    }
+
+    #[tactic(auto, unfolding(crate::specs::Pieces::new_length))]
+    fn new_length(self) -> usize
+        requires { length self.image.bytes.now ≤ 65535 }
+        ensures { result ≡ new_length self.entry.image.bytes.now self.entry.image.counts self.entry.ctx }
+    {
+        let ctx = self.ctx;
+        let counts = self.image.counts;
+        let bytes = (ctx.bytes as usize).saturating_sub(counts.bytes as usize);
+        let texts = (ctx.texts as usize).saturating_sub(counts.texts as usize);
+        let lists = (ctx.lists as usize).saturating_sub(counts.lists as usize);
+        self.image.bytes.len()
+            + bytes
+            + texts * 5
+            + lists * 3
+            + (ctx.expression_bytes as usize)
+            + (ctx.statement_bytes as usize)
+    }
+
+    fn put_image(self, out: &mut Out, function: u16, list: Interval)
+        requires { length self.image.bytes.now ≤ 65535 }
+        ensures same_reference { out.new.bytes.ghost_name ≡ out.old.bytes.ghost_name }
+        ensures puts { Puts out.old (new_bytes self.entry.image.bytes.now self.entry.image.starts.now self.entry.image.counts self.entry.ctx self.entry.scratch.now function list) out.new }
+    {
+        let image = self.image;
+        let statements = statements_at(image);
+        let parameters = parameters_at(image.bytes, image.counts);
+        self.put_header(out);
+        self.put_bytes(out);
+        self.put_texts(out);
+        self.put_lists(out);
+        self.put_trees(out, expressions_at(image), statements, parameters);
+        self.put_rest(out, parameters, body_at(image, function), list);
+    }
 }
 
-// What the image has, then what is new.
-fn put_both(
-    out: &mut [u8],
-    at: usize,
-    image: &[u8],
-    from: usize,
-    n: usize,
-    scratch: &[u8],
-    place: usize,
-    m: usize,
-) -> usize
-    ensures { Puts out.old at (both image.now from n scratch.now place m) result out.new }
-{
-    let a = put_part(out, at, image, from, n);
-    put_part(out, a, scratch, place, m)
-}
+// ---- places in the image
 
-fn put_bytes(
-    out: &mut [u8],
-    at: usize,
-    image: &[u8],
-    counts: Counts,
-    ctx: Ctx,
-    scratch: &[u8],
-) -> usize
-    ensures { Puts out.old at (new_text image.now counts ctx scratch.now) result out.new }
+fn expressions_at(image: ImageRef) -> usize
+    ensures { result ≡ expressions_at image.entry.counts }
 {
-    let bytes = counts.bytes as usize;
-    let n = before(ctx.bytes as usize, bytes);
-    put_both(out, at, image, 23, bytes, scratch, bytes, n)
-}
-
-fn put_texts(
-    out: &mut [u8],
-    at: usize,
-    image: &[u8],
-    counts: Counts,
-    ctx: Ctx,
-    scratch: &[u8],
-) -> usize
-    ensures { Puts out.old at (new_texts image.now counts ctx scratch.now) result out.new }
-{
-    let from = 23 + (counts.bytes as usize);
-    let size = (counts.texts as usize) * 5;
-    let n = before(ctx.texts as usize, counts.texts as usize) * 5;
-    put_both(out, at, image, from, size, scratch, 16384 + size, n)
-}
-
-fn put_lists(
-    out: &mut [u8],
-    at: usize,
-    image: &[u8],
-    counts: Counts,
-    ctx: Ctx,
-    scratch: &[u8],
-) -> usize
-    ensures { Puts out.old at (new_lists image.now counts ctx scratch.now) result out.new }
-{
-    let from = 23 + (counts.bytes as usize) + (counts.texts as usize) * 5;
-    let size = (counts.lists as usize) * 3;
-    let n = before(ctx.lists as usize, counts.lists as usize) * 3;
-    put_both(out, at, image, from, size, scratch, 26624 + size, n)
-}
-
-// The expressions and the statements, from where they start and end.
-fn put_trees(
-    out: &mut [u8],
-    at: usize,
-    image: &[u8],
-    expressions: usize,
-    statements: usize,
-    parameters: usize,
-    ctx: Ctx,
-    scratch: &[u8],
-) -> usize
-    ensures { Puts out.old at (new_trees image.now expressions statements parameters ctx scratch.now) result out.new }
-{
-    let expression_bytes = ctx.expression_bytes as usize;
-    let statement_bytes = ctx.statement_bytes as usize;
-    let n = before(statements, expressions);
-    let m = before(parameters, statements);
-    let a = put_both(
-        out,
-        at,
-        image,
-        expressions,
-        n,
-        scratch,
-        38912,
-        expression_bytes,
-    );
-    put_both(
-        out,
-        a,
-        image,
-        statements,
-        m,
-        scratch,
-        137216,
-        statement_bytes,
-    )
-}
-
-// The other sections, with another body list at a place.
-fn put_rest(
-    out: &mut [u8],
-    at: usize,
-    image: &[u8],
-    parameters: usize,
-    body: usize,
-    list: Interval,
-) -> usize
-    requires { body ≤ 4294967295 }
-    ensures { Puts out.old at (new_rest image.now parameters body list) result out.new }
-{
-    let first = list.first as u32;
-    let count = list.count as u32;
-    let n = before(body, parameters);
-    let a = put_part(out, at, image, parameters, n);
-    let b = put_two(out, a, first);
-    let c = put_two(out, b, count);
-    put_part(out, c, image, body + 4, image.len())
-}
-
-// ---- the image
-
-fn expressions_at(counts: Counts) -> usize
-    ensures { result ≡ expressions_at counts }
-{
+    let counts = image.counts;
     23 + (counts.bytes as usize) + (counts.texts as usize) * 5 + (counts.lists as usize) * 3
 }
 
-fn statements_at(image: &[u8], starts: &[u16], counts: Counts) -> usize
-    ensures { result ≡ statements_at image.now starts.now counts }
+fn statements_at(image: ImageRef) -> usize
+    ensures { result ≡ statements_at image.entry.bytes.now image.entry.starts.now image.entry.counts }
 {
-    let statements = counts.statements;
-    let expressions = counts.expressions as usize;
-    if statements == 0 {
-        return parameters_at(image, counts);
+    if image.counts.statements == 0 {
+        return parameters_at(image.bytes, image.counts);
     }
-    get_or(starts, expressions, 0) as usize
+    get_or(image.starts, image.counts.expressions as usize, 0) as usize
 }
 
-fn body_at(image: &[u8], counts: Counts, function: u16) -> usize
-    requires { length image.now ≤ 65535 }
-    ensures value { result ≡ body_at image.now counts function }
+fn body_at(image: ImageRef, function: u16) -> usize
+    requires { length image.bytes.now ≤ 65535 }
+    ensures value { result ≡ body_at image.entry.bytes.now image.entry.counts function }
     ensures upper_bound { result ≤ 4294967295 }
 {
-    functions_at(image, counts) + (function as usize) * 24 + 12
+    functions_at(image.bytes, image.counts) + (function as usize) * 24 + 12
 }
 
-fn new_length(image: &[u8], counts: Counts, ctx: Ctx) -> usize
-    requires { length image.now ≤ 65535 }
-    ensures { result ≡ new_length image.now counts ctx }
+// The lowered image's bytes, from the image's and from what lowering has added, and their number; none, and nothing is put, where they are
+// more than 65,535.
+pub fn assemble(sources: Sources, function: u16, list: Interval, out: &mut [u8]) -> Option<usize>
+    ensures { (im : Image) (new : New) → Source im sources.entry.image.bytes.now sources.entry.image.starts.now sources.entry.image.counts → Counted im new sources.entry.ctx → Kept im new sources.entry.scratch.now → function < size_of im Functions → 65535 ≤ length out.old → Written (fitting true (with_body (grown im new) function (pair list.first list.count))) out.old result out.new }
 {
-    let bytes = before(ctx.bytes as usize, counts.bytes as usize);
-    let texts = before(ctx.texts as usize, counts.texts as usize);
-    let lists = before(ctx.lists as usize, counts.lists as usize);
-    let expression_bytes = ctx.expression_bytes as usize;
-    let statement_bytes = ctx.statement_bytes as usize;
-    image.len() + bytes + texts * 5 + lists * 3 + expression_bytes + statement_bytes
-}
-
-fn put_image(
-    out: &mut [u8],
-    image: &[u8],
-    starts: &[u16],
-    counts: Counts,
-    ctx: Ctx,
-    scratch: &[u8],
-    function: u16,
-    list: Interval,
-) -> usize
-    requires { length image.now ≤ 65535 }
-    ensures { Puts out.old 0 (new_bytes image.now starts.now counts ctx scratch.now function list) result out.new }
-{
-    let statements = statements_at(image, starts, counts);
-    let parameters = parameters_at(image, counts);
-    let body = body_at(image, counts, function);
-    let expressions = expressions_at(counts);
-    let a = put_header(out, 0, image, ctx);
-    let b = put_bytes(out, a, image, counts, ctx, scratch);
-    let c = put_texts(out, b, image, counts, ctx, scratch);
-    let d = put_lists(out, c, image, counts, ctx, scratch);
-    let e = put_trees(
-        out,
-        d,
-        image,
-        expressions,
-        statements,
-        parameters,
-        ctx,
-        scratch,
-    );
-    put_rest(out, e, image, parameters, body, list)
-}
-
-// The number of an image's bytes, or that it would pass a limit.
-#[derive(Drop)]
-pub enum Assembled {
-    Length(usize),
-    PastLimit,
-}
-
-// The lowered image's bytes, from the image's and from what lowering has added; nothing is put where they are more than 65,535.
-pub fn assemble(
-    image: &[u8],
-    starts: &[u16],
-    counts: Counts,
-    ctx: Ctx,
-    scratch: &[u8],
-    function: u16,
-    list: Interval,
-    out: &mut [u8],
-) -> Assembled
-    ensures { (im : Image) (new : New) → Source im image.now starts.now counts → Counted im new ctx → Kept im new scratch.now → function < size_of im Functions → 65535 ≤ length out.old → Written (fitting true (with_body (grown im new) function (pair list.first list.count))) out.old result out.new }
-{
-    if 65535 < image.len() {
-        return Assembled::PastLimit;
+    if 65535 < sources.image.bytes.len() || 65535 < sources.new_length() {
+        return None;
     }
-    let long = 65535 < new_length(image, counts, ctx);
-    if long {
-        return Assembled::PastLimit;
-    }
-    let n = put_image(out, image, starts, counts, ctx, scratch, function, list);
-    Assembled::Length(n)
+    let mut out = Out { bytes: out, at: 0 };
+    sources.put_image(&mut out, function, list);
+    Some(out.at)
 }

@@ -38,8 +38,10 @@ use Rattle.rl_images.specs.Lowering.AddsLower.{adds_statement, adds_wrap}
 use Rattle.rl_context.proofs.Waits.{counted_same}
 use Rattle.rl_context.specs.Guards.{Gathers, clauses_in}
 use Rattle.rl_transform.specs.Transforms.{walk_below, Ready, Returns}
-use Rattle.rl_bodies.specs.Bodies.{entries_in, Waits, BodyFits, ends_bare}
-use Rattle.rl_bodies.proofs.Lasts.{length_entries, entry_number, last_number, no_numbers}
+use Rattle.std.specs.Prelude.{None, Some}
+use Rattle.rl_spec.specs.Answers.{Optional}
+use Rattle.rl_bodies.specs.Bodies.{entries_in, Waits, BodyFits, ends_bare, bare_value}
+use Rattle.rl_bodies.proofs.Lasts.{length_entries, entry_number, last_number, no_numbers, no_bare, is_bare}
 
 -- ---- what comes of a list is no shorter
 
@@ -260,18 +262,13 @@ module _ (s p : List ℕ) (c : Counts) (rows : List ℕ) (body ensured : Interva
     gone : Does of 0 0 all (flat_map (walk_below es c.statements) numbers) (at (waiting_with ctx 0) scratch side) d.0 (at done scratch' side')
     gone = subst (λ z. Does of 0 0 all (flat_map (walk_below es c.statements) numbers) (at z scratch side) d.0 (at done scratch' side')) a d.1
 
-    pub plain_done : (t : State) (r : Bool) → r ≡ ends_bare of numbers → r ≡ false → Waits of (take count side') (at back₀ scratch' waiting) t →
+    pub plain_done : (t : State) (o : Optional) → o ≡ bare_value of numbers → o ≡ None → Waits of (take count side') (at back₀ scratch' waiting) t →
         Gathers of 0 (ensured_body es numbers) (at ctx scratch waiting) t
-    plain_done t r e f w =
-        (d.0, ensured_plain d.0 gone t count cnt (sym e ∙ f) (subst (λ z. Waits of (take count side') (at z scratch' waiting) t) b w))
+    plain_done t o e f w =
+        (d.0, ensured_plain d.0 gone t count cnt (no_bare of numbers o e f) (subst (λ z. Waits of (take count side') (at z scratch' waiting) t) b w))
 
-    pub bare_done : (u t : State) (r : Bool) (value most : ℕ) → r ≡ ends_bare of numbers → r ≡ true → (ends_bare of numbers ≡ true → value ≡ number (last_of of numbers) 1) → most ≡ count - 1 →
+    pub bare_done : (u t : State) (o : Optional) (value most : ℕ) → o ≡ bare_value of numbers → o ≡ Some value → most ≡ count - 1 →
         Gathers of 0 (wrap_return value es) (at back₀ scratch' waiting) u → Waits of (take most side') u t → Gathers of 0 (ensured_body es numbers) (at ctx scratch waiting) t
-    bare_done u t r value most e f g q w v =
-        (w.0 ++ take most side', ensured_bare d.0 gone u t value most count w.0 cnt (sym e ∙ f) (g (sym e ∙ f)) q (subst (λ z. Does of 0 0 all (wrap_return value es) (at z scratch' waiting) w.0 u) b w.1) v)
-
-pub waits_low : (count n size : ℕ) → count ≡ min n 4096 → 4096 ≡ size → count ≤ size
-waits_low count n size e h = omega arith
-
-pub waits_lower : (most count n size : ℕ) → most ≡ count - 1 → count ≡ min n 4096 → 4096 ≡ size → most ≤ size
-waits_lower most count n size q e h = omega arith
+    bare_done u t o value most e f q w v =
+        let g = is_bare of numbers o e value f in
+        (w.0 ++ take most side', ensured_bare d.0 gone u t value most count w.0 cnt g.0 g.1 q (subst (λ z. Does of 0 0 all (wrap_return value es) (at z scratch' waiting) w.0 u) b w.1) v)

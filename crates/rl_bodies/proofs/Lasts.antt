@@ -2,13 +2,13 @@
 -- Assumes nothing.
 use Prim.Native.Nat.{ℕ, zero, suc, ◌+◌, ◌-◌, ◌<◌}
 use mathlib.Core.Path.{◌≡◌, refl, ap, ap₂, sym, ◌∙◌, subst}
-use mathlib.Core.Bool.{true, false, not, ◌&&◌}
+use mathlib.Core.Bool.{Bool, true, false, not, cond, ◌&&◌}
 use mathlib.Core.List.{List, map}
 use native.Mathlib.Omega.{arith}
 use native.Mathlib.Nat.{add-zero}
-use lib.Dec.{T, eqb}
+use lib.Dec.{eqb}
 use lib.ListN.{length, get_or, length-map}
-use borrow.Author.Tests.{eqb-true}
+use borrow.Author.Tests.{eqb-true, eq-eqb, ne_eqb}
 use Rattle.rl_spec.specs.declared.Counts.{Counts}
 use Rattle.rl_spec.specs.declared.Interval.{Interval}
 use Rattle.rl_spec.specs.declared.Section.TheVariants.{Statements}
@@ -24,7 +24,9 @@ use Rattle.rl_images.specs.Images.Reports.{length_up}
 use Rattle.rl_context.proofs.Copying.{kind_in}
 use Rattle.rl_context.proofs.CopiedEntries.{two}
 use Rattle.rl_transform.proofs.Rebuilding.{statement_is}
-use Rattle.rl_bodies.specs.Bodies.{entries_in, BodyFits, ends_bare}
+use Rattle.std.specs.Prelude.{None, Some}
+use Rattle.rl_spec.specs.Answers.{Optional}
+use Rattle.rl_bodies.specs.Bodies.{entries_in, BodyFits, ends_bare, bare_value}
 
 pub length_entries : (im : Image) (a n : ℕ) → length (map (entry_of im) (up_from a n)) ≡ n
 length_entries im a n = length-map (up_from a n) (entry_of im) ∙ length_up a n
@@ -57,8 +59,32 @@ pub none_bare : (im : Image) (body : Interval) → body.count ≡ 0 → false �
 unfolding up_from
 none_bare im body h = sym (ap (λ n. ends_bare im (map (entry_of im) (up_from body.first n))) h)
 
-pub bare_none : (im : Image) (body : Interval) → body.count ≡ 0 → ends_bare im (entries_in im body) ≡ true → ⊥
-bare_none im body h e = subst T (sym (none_bare im body h ∙ e)) tt
+pub nothing_last : (im : Image) (body : Interval) → body.count ≡ 0 → None ≡ bare_value im (entries_in im body)
+nothing_last im body h = ap (λ b. cond b (Some (number (last_of im (entries_in im body)) 1)) None) (none_bare im body h)
+
+-- what a value or none says
+abbrev IsSome : Optional → Type 0
+IsSome (Some n) = Unit {0}
+IsSome None = ⊥
+
+abbrev value_in : Optional → ℕ
+value_in (Some n) = n
+value_in None = 0
+
+when_none : (b : Bool) (x : ℕ) (o : Optional) → o ≡ cond b (Some x) None → o ≡ None → b ≡ false
+when_none true x o e h = absurd (subst IsSome (sym e ∙ h) tt)
+when_none false x o e h = refl
+
+when_some : (b : Bool) (x v : ℕ) (o : Optional) → o ≡ cond b (Some x) None → o ≡ Some v → (b ≡ true) × (v ≡ x)
+when_some true x v o e h = (refl, ap value_in (sym h ∙ e))
+when_some false x v o e h = absurd (subst IsSome (sym h ∙ e) tt)
+
+module _ (im : Image) (ns : List ℕ) (o : Optional) (e : o ≡ bare_value im ns) where
+  pub no_bare : o ≡ None → ends_bare im ns ≡ false
+  no_bare h = when_none (ends_bare im ns) (number (last_of im ns) 1) o e h
+
+  pub is_bare : (v : ℕ) → o ≡ Some v → (ends_bare im ns ≡ true) × (v ≡ number (last_of im ns) 1)
+  is_bare v h = when_some (ends_bare im ns) (number (last_of im ns) 1) v o e h
 
 module _ (s p : List ℕ) (c : Counts) (body : Interval) (fit : BodyFits s p c body) (some : body.count ≡ 0 → ⊥)
     (last start : ℕ) (l : last ≡ entry_of (image_found s p c) (body.first + body.count - 1)) (e : start ≡ get_or p (c.expressions + last) 0) where
@@ -74,12 +100,12 @@ module _ (s p : List ℕ) (c : Counts) (body : Interval) (fit : BodyFits s p c b
   last_is : (kind : ℕ) → kind ≡ get_or s start 0 → last_of im (entries_in im body) ≡ record_as s kind start
   last_is kind q = ap (record_of im Statements) (last_number im body.first body.count some ∙ sym l) ∙ statement_is s p c last start kind in_range e q
 
-  pub some_bare : (kind : ℕ) → kind ≡ (record_in s start).kind → eqb kind 65 ≡ ends_bare im (entries_in im body)
+  some_bare : (kind : ℕ) → kind ≡ (record_in s start).kind → eqb kind 65 ≡ ends_bare im (entries_in im body)
   unfolding record_as
   some_bare kind q =
       sym (ap₂ (λ a b. not a && b) (not_empty (entry_of im) body.first body.count some) (ap (λ r. eqb r.kind 65) (last_is kind (q ∙ kind_in s start))))
 
-  pub value_is : (value : ℕ) → value ≡ u16_at s (start + 5) → ends_bare im (entries_in im body) ≡ true → value ≡ number (last_of im (entries_in im body)) 1
+  value_is : (value : ℕ) → value ≡ u16_at s (start + 5) → ends_bare im (entries_in im body) ≡ true → value ≡ number (last_of im (entries_in im body)) 1
   unfolding record_as fields_at fields_of fields_in schema sort_of
   value_is value v b =
       v ∙ ap (u16_at s) place ∙ sym (two s (start + 1 + 4)) ∙ sym (ap (λ r. number r 1) (last_is (get_or s start 0) refl ∙ ap (λ k. record_as s k start) is_65))
@@ -89,3 +115,16 @@ module _ (s p : List ℕ) (c : Counts) (body : Interval) (fit : BodyFits s p c b
 
       is_65 : get_or s start 0 ≡ 65
       is_65 = eqb-true (get_or s start 0) 65 (some_bare (get_or s start 0) (sym (kind_in s start)) ∙ b)
+
+  module _ (kind : ℕ) (q : kind ≡ (record_in s start).kind) where
+    abbrev as_bare : Bool → Optional
+    as_bare b = cond b (Some (number (last_of im (entries_in im body)) 1)) None
+
+    pub other_last : (kind ≡ 65 → ⊥) → None ≡ bare_value im (entries_in im body)
+    other_last d = ap as_bare (sym (ne_eqb kind 65 d) ∙ some_bare kind q)
+
+    pub bare_last : (value : ℕ) → kind ≡ 65 → value ≡ u16_at s (start + 5) → Some value ≡ bare_value im (entries_in im body)
+    bare_last value d v = ap Some (value_is value v ends) ∙ sym (ap as_bare ends)
+      where
+        ends : ends_bare im (entries_in im body) ≡ true
+        ends = sym (some_bare kind q) ∙ eq-eqb kind 65 d

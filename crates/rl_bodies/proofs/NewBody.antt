@@ -185,4 +185,4 @@ pub body_done : (im : Image) (f : ℕ) (ctx : Ctx) (scratch waiting : List ℕ) 
     Gathers im 0 (desugared_in im f) (at ctx scratch waiting) v → Listed first v list w →
     Does im 0 0 nothing (new_body im f) (at ctx scratch waiting) (pair list.first list.count) w
 unfolding new_body
-body_done im f ctx scratch waiting v w first list same d listed = does_list first same d.1 listed
+body_done _ f ctx scratch waiting v w first list same d listed = does_list first same d.1 listed

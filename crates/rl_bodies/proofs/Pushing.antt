@@ -7,6 +7,7 @@ use native.Mathlib.Omega.{arith}
 use native.Mathlib.Numerals.{add-one}
 use lib.ListN.{length, get_or, take}
 use lib.Seq.{take-suc}
+use Rattle.std.proofs.lemmas.List.{take_all}
 use Rattle.rl_spec.specs.declared.Counts.{Counts}
 use Rattle.rl_spec.specs.declared.Interval.{Interval}
 use Rattle.rl_spec.specs.Image.{Image, entry_of}
@@ -71,18 +72,17 @@ module _ (other : List ℕ) (im : Image) (start : State) where
   first_none = record { waits = does_nil im start }
 
   module _ (here : State) (i : ℕ) (w : First other im start here i) where
-    pub first_more : (next : State) (n count : ℕ) → i < count → count ≤ length other → n ≡ get_or other i 0 → Pushes n here next →
-        First other im start next (i + 1)
-    first_more next n count h k e push =
+    pub first_more : (next : State) (n : ℕ) → i < length other → n ≡ get_or other i 0 → Pushes n here next → First other im start next (i + 1)
+    first_more next n h e push =
         record {
           waits =
               subst (λ ns. Waits im ns start next)
-              (ap (λ z. take i other ++ z ∷ []) e ∙ sym (take-suc other i 0 (omega arith)) ∙ ap (λ z. take z other) (sym (add-one i)))
+              (ap (λ z. take i other ++ z ∷ []) e ∙ sym (take-suc other i 0 h) ∙ ap (λ z. take z other) (sym (add-one i)))
               (waits_more w.waits push);
         }
 
-    pub first_all : (count : ℕ) → i ≤ count → count ≤ i → Waits im (take count other) start here
-    first_all count h k = let e : i ≡ count = omega arith in subst (λ z. Waits im (take z other) start here) e w.waits
+    pub first_all : length other ≤ i → Waits im other start here
+    first_all h = subst (λ z. Waits im z start here) (take_all i other h) w.waits
 
 -- ---- the guards of a function's parameters
 
@@ -92,9 +92,6 @@ Guarded im params start here i = Gathering im (param_of im) (guard_for im) param
 module _ (im : Image) (params : Interval) (start : State) where
   adds_guard : (p : Param ℕ) → Adds (guard_for im p)
   adds_guard p = adds_refinement im p.name p.refinement
-
-  pub guards_none : Guarded im params start start 0
-  guards_none = gather_none im (param_of im) (guard_for im) adds_guard params.first params.count start
 
   module _ (of : Image) (function : ℕ) (same : im ≡ of) (e : params ≡ (function_at of function).params)
       (here : State) (i : ℕ) (w : Guarded im params start here i) where

@@ -1,10 +1,13 @@
 -- What the parts of a new body promise.
-use Rattle.std.specs.Prelude.{ℕ, ◌+◌, ◌<◌, ◌≡◌, Bool, not, cond, ◌&&◌, List, map, eqb, length}
+use Rattle.std.specs.Prelude.{ℕ, ◌+◌, ◌<◌, ◌≡◌, Bool, not, cond, ◌&&◌, List, map, eqb, length, None, Some}
 use Rattle.rl_spec.specs.declared.Counts.{Counts}
 use Rattle.rl_spec.specs.declared.Section.TheVariants.{Texts, Lists, Expressions, Statements}
 use Rattle.rl_spec.specs.declared.Interval.{Interval}
 use Rattle.rl_spec.specs.Image.{Image, size_of, entry_of}
+use Rattle.rl_spec.specs.Answers.{Optional}
 use Rattle.rl_spec.specs.Found.{image_found}
+use Rattle.rl_spec.specs.Tree.{number}
+use Rattle.rl_records.specs.declared.ImageRef.{ImageRef}
 use Rattle.rl_spec.specs.Ranges.{numbers_in}
 use Rattle.rl_spec.specs.FnContracts.{param_of, is_empty}
 use Rattle.rl_spec.specs.Records.{function_at}
@@ -34,12 +37,19 @@ Waits im ns s t = Does im 0 0 all (give ns) s ns t
 abbrev pub ends_bare : Image → List ℕ → Bool
 ends_bare im body = not (is_empty body) && eqb (last_of im body).kind 65
 
+-- its value then
+abbrev pub bare_value : Image → List ℕ → Optional
+bare_value im body = cond (ends_bare im body) (Some (number (last_of im body) 1)) None
+
 abbrev pub rest_in : Image → Interval → Interval → Make (List ℕ)
 rest_in im body ensured = cond (is_empty (clauses_in im ensured)) (give (entries_in im body)) (ensured_body (clauses_in im ensured) (entries_in im body))
 
 -- a body's entries are statements of the image
 abbrev pub BodyFits : List ℕ → List ℕ → Counts → Interval → Type 0
 BodyFits s p c body = (i : ℕ) → i < body.count → entry_of (image_found s p c) (body.first + i) < c.statements
+
+abbrev pub body_fits : ImageRef → Interval → Type 0
+body_fits image body = BodyFits image.bytes.now image.starts.now image.counts body
 
 -- nothing is new
 pub record Fresh (im : Image) (ctx : Ctx) : Type 0 where

@@ -1,80 +1,60 @@
 // Answers in one word: a refusal's number in the high 32 bits.
-ghost use Rattle.std.specs.Prelude.{◌≡◌, ◌≤◌};
-ghost use Rattle.rl_spec.specs.Read.{number_of, place_in, packed};
-ghost use Rattle.rl_spec.specs.Boundary.{above, prove_packed, proved_place, lower_packed, lowered_place, text_packed, text_place, message_packed, message_place, pages_packed, pages_place};
+ghost use Rattle.std.specs.Prelude.{◌≡◌, ◌+◌, ◌*◌, ◌^◌, ◌≤◌, ℕ};
+ghost use Rattle.rl_spec.specs.Read.{number_of};
+ghost use Rattle.rl_spec.specs.Boundary.{above};
+ghost use Rattle.rl_boundary.specs.Packing.{packed_by, place_of};
 
 use rl_numbers::number_of;
-use rl_spec::{Answer, Cause, LowerAnswer, MessageAnswer, PagesAnswer, ProveAnswer, TextAnswer};
+use rl_spec::{Accepted, Refusal, TextPart};
 
-pub fn pack(cause: Cause, place: usize) -> u64
-    requires { place ≤ 65535 }
-    ensures { result ≡ above (number_of cause) place }
-{
-    number_of(cause) * 4294967296 + (place as u64)
+// What an answer that refuses nothing says in the low 32 bits.
+pub trait Says {
+    ghost says: { Self → ℕ };
+
+    fn word(self) -> u64
+        ensures { result ≡ says self };
 }
 
-// 0 where the image is accepted, or a refusal.
-pub fn pack_read(answer: Answer) -> u64
-    requires { place_in answer ≤ 65535 }
-    ensures { result ≡ packed answer }
-{
-    match answer {
-        Answer::Accepted { arena, counts } => 0,
-        Answer::Refused { cause, place } => pack(cause, place),
+// An image that is accepted: 0.
+impl Says for Accepted {
+    ghost says = { λ a. 0 };
+
+    fn word(self) -> u64 {
+        0
     }
 }
 
-// The number of reports, or a refusal.
-pub fn pack_proved(answer: ProveAnswer) -> u64
-    requires { proved_place answer ≤ 65535 }
-    ensures { result ≡ prove_packed answer }
-{
-    match answer {
-        ProveAnswer::Proved(n) => n as u64,
-        ProveAnswer::Refused { cause, place } => pack(cause, place),
+// The number of reports, the length of the image or of the message that is written, or of the pages.
+impl Says for u32 {
+    ghost says = { λ n. n };
+
+    fn word(self) -> u64 {
+        u64::from(self)
     }
 }
 
-// The length of the image written, or a refusal.
-pub fn pack_lowered(answer: LowerAnswer) -> u64
-    requires { lowered_place answer ≤ 65535 }
-    ensures { result ≡ lower_packed answer }
-{
-    match answer {
-        LowerAnswer::Lowered(n) => n as u64,
-        LowerAnswer::Refused { cause, place } => pack(cause, place),
+// Where a text starts, and above 16 bits how many bytes it has.
+impl Says for TextPart {
+    ghost says = { λ part. part.start + part.length * 2 ^ 16 };
+
+    fn word(self) -> u64 {
+        u64::from(self.start) + u64::from(self.length) * 65536
     }
 }
 
-// Where a text starts, and above 16 bits how many bytes it has, or a refusal.
-pub fn pack_text(answer: TextAnswer) -> u64
-    requires { text_place answer ≤ 65535 }
-    ensures { result ≡ text_packed answer }
+pub fn pack_refusal(refusal: Refusal) -> u64
+    requires { refusal.place ≤ 65535 }
+    ensures { result ≡ above (number_of refusal.cause) refusal.place }
 {
-    match answer {
-        TextAnswer::Found(part) => (part.start as u64) + (part.length as u64) * 65536,
-        TextAnswer::Refused { cause, place } => pack(cause, place),
-    }
+    number_of(refusal.cause) * 4294967296 + (refusal.place as u64)
 }
 
-// The length of a message, or a refusal.
-pub fn pack_message(answer: MessageAnswer) -> u64
-    requires { message_place answer ≤ 65535 }
-    ensures { result ≡ message_packed answer }
+pub fn pack<T: Says>(answer: Result<T, Refusal>) -> u64
+    requires { place_of answer ≤ 65535 }
+    ensures { result ≡ packed_by T.says answer }
 {
     match answer {
-        MessageAnswer::Message(n) => n as u64,
-        MessageAnswer::Refused { cause, place } => pack(cause, place),
-    }
-}
-
-// How many bytes of pages are written, or a refusal.
-pub fn pack_pages(answer: PagesAnswer) -> u64
-    requires { pages_place answer ≤ 65535 }
-    ensures { result ≡ pages_packed answer }
-{
-    match answer {
-        PagesAnswer::Written(n) => n as u64,
-        PagesAnswer::Refused { cause, place } => pack(cause, place),
+        Ok(said) => said.word(),
+        Err(refusal) => pack_refusal(refusal),
     }
 }

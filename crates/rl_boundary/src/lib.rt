@@ -4,7 +4,5 @@
 mod answers;
 mod values;
 
-pub use answers::{
-    pack, pack_lowered, pack_message, pack_pages, pack_proved, pack_read, pack_text,
-};
-pub use values::{arguments_of, put_outcome, put_value, put_words};
+pub use answers::{Says, pack, pack_refusal};
+pub use values::{arguments_of, put_outcome, put_value};

@@ -1,20 +1,20 @@
 -- One law for each way out of `prove` and `prove_all`.
 -- Assumes nothing.
-use Prim.Native.Nat.{ℕ, ◌-◌, ◌/◌, ◌≤◌, ◌<◌, min}
+use Prim.Native.Nat.{ℕ, ◌+◌, ◌-◌, ◌≤◌, ◌<◌, min}
 use mathlib.Core.Path.{◌≡◌, refl, sym, ap, subst, ◌∙◌}
-use mathlib.Core.List.{List, []}
+use mathlib.Core.List.{List, [], append-nil}
 use native.Mathlib.Omega.{arith}
 use lib.ListN.{length, get_or, replicate, length-replicate}
 use mir.Syntax.{w8}
 use mir.Val.{Fits}
 use borrow.Author.Tests.{lt-ltb, le-ltb}
 use Rattle.rl_laws.specs.Tests.{by_ltb}
-use Rattle.rl_spec.specs.Answers.{Answer, accepted, refused, ProveAnswer}
-use Rattle.std.specs.Prelude.{Ok}
+use Rattle.rl_spec.specs.Answers.{Answer, accepted, refused, at_zero, ProveAnswer}
+use Rattle.std.specs.Prelude.{Err}
 use Rattle.rl_spec.specs.declared.ArenaNo.{ArenaNo}
-use Rattle.rl_spec.specs.declared.Cause.{Cause}
 use Rattle.rl_spec.specs.declared.Cause.TheVariants.{NoSuchCall, ReportsTooShort}
 use Rattle.rl_spec.specs.declared.Counts.{Counts}
+use Rattle.rl_spec.specs.declared.Refusal.{Refusal}
 use Rattle.rl_spec.specs.declared.Section.TheVariants.{Texts, Calls}
 use Rattle.rl_spec.specs.Schema.{limits}
 use Rattle.rl_spec.specs.Read.{counts_of, answer_of, work_of, starts_of}
@@ -28,7 +28,7 @@ use Rattle.rl_images.specs.Encoding.Accepted.{accepted_well_formed}
 use Rattle.rl_images.specs.Reading.Found.{found_is_image}
 use Rattle.rl_images.specs.Images.Limits.{size_within, texts_within, parameters_within, all_bytes}
 use Rattle.rl_images.specs.Reading.Starts.{section_size, sizes_are_counts}
-use Rattle.rl_checker.specs.Entries.{Limited, ProvesOne, ProvesAll, fitting_at}
+use Rattle.rl_checker.specs.Entries.{Limited, ProvesCalls, fitting_at}
 use Rattle.rl_images.specs.Reading.Refusals.{zeros_unless, refused_work}
 
 -- ---- the answer by the place after the entries
@@ -56,14 +56,6 @@ module _ (l e : List ℕ) (at room : ℕ) (n : length l ≡ room) (sh : Shown l 
       (λ h. rw (n, ← p, lt-ltb room (length e) h, m) (zeros_unless ReportsTooShort s k))
       (λ h. rw (n, ← p, le-ltb room (length e) h) w)
 
-pub fitted_short : (room at : ℕ) → room < at → refused ReportsTooShort 0 ≡ fitting_at room at
-unfolding fitting_at
-fitted_short room at h = rw (lt-ltb room at h) refl
-
-pub fitted_all : (room at : ℕ) → at ≤ room → Ok (at / 4) ≡ fitting_at room at
-unfolding fitting_at
-fitted_all room at h = rw (le-ltb room at h) refl
-
 -- ---- an accepted image
 
 module _ (s : List ℕ) (bytes : (i : ℕ) → Fits w8 (get_or s i 0)) (k : ℕ) (no : ArenaNo) (c : Counts) (e : answer_of s k ≡ accepted no c) where
@@ -84,16 +76,16 @@ module _ (s : List ℕ) (bytes : (i : ℕ) → Fits w8 (get_or s i 0)) (k : ℕ)
 -- ---- the ways out
 
 module _ (s : List ℕ) (k room : ℕ) (a : Answer) (e : a ≡ answer_of s k) (l : List ℕ) (z : l ≡ replicate room 0) where
-  module _ (q : Cause) (n : ℕ) (f : a ≡ refused q n) (w : List ℕ) (g : w ≡ work_of s k) where
-    unread_work : (r : ProveAnswer) → r ≡ refused q n → w ≡ work_unless (prove_number r) s k
-    unread_work r h = g ∙ refused_work s k q n (sym e ∙ f) ∙ zeros_unless q s k ∙ ap (λ (x : ProveAnswer). work_unless (prove_number x) s k) (sym h)
+  module _ (q : Refusal) (f : a ≡ Err q) (w : List ℕ) (g : w ≡ work_of s k) where
+    unread_work : (r : ProveAnswer) → r ≡ Err q → w ≡ work_unless (prove_number r) s k
+    unread_work r h = g ∙ refused_work s k q.cause q.place (sym e ∙ f) ∙ zeros_unless q.cause s k ∙ ap (λ (x : ProveAnswer). work_unless (prove_number x) s k) (sym h)
 
     module _ (call : ℕ) where
-      unread : prove_of s k call room ≡ refused q n
+      unread : prove_of s k call room ≡ Err q
       unfolding prove_of
       unread = rw (← e, f) refl
 
-      pub prove_unread : refused q n ≡ prove_of s k call room
+      pub prove_unread : Err q ≡ prove_of s k call room
       prove_unread = sym unread
 
       pub prove_unread_slice : l ≡ reports_of s k call room
@@ -103,11 +95,11 @@ module _ (s : List ℕ) (k room : ℕ) (a : Answer) (e : a ≡ answer_of s k) (l
       pub prove_unread_work : w ≡ work_unless (prove_number (prove_of s k call room)) s k
       prove_unread_work = unread_work (prove_of s k call room) unread
 
-    unread_all : prove_all_of s k room ≡ refused q n
+    unread_all : prove_all_of s k room ≡ Err q
     unfolding prove_all_of
     unread_all = rw (← e, f) refl
 
-    pub all_unread : refused q n ≡ prove_all_of s k room
+    pub all_unread : Err q ≡ prove_all_of s k room
     all_unread = sym unread_all
 
     pub all_unread_slice : l ≡ all_reports_of s k room
@@ -123,8 +115,8 @@ module _ (s : List ℕ) (k room : ℕ) (a : Answer) (e : a ≡ answer_of s k) (l
       unfolding prove_of
       missing = rw (← e, f, le-ltb call c.calls h) refl
 
-      pub prove_missing : refused NoSuchCall 0 ≡ prove_of s k call room
-      prove_missing = sym missing
+      pub prove_missing : (r : Refusal) → r ≡ at_zero NoSuchCall → Err r ≡ prove_of s k call room
+      prove_missing r i = ap Err i ∙ sym missing
 
       pub prove_missing_slice : l ≡ reports_of s k call room
       unfolding reports_of
@@ -140,9 +132,14 @@ module _ (s : List ℕ) (k room : ℕ) (a : Answer) (e : a ≡ answer_of s k) (l
       start : Limited (image_found s p c) c × Shown l [] 0
       start = (subst (λ (im : Image). Limited im c) (sym same) (limited s bytes k no c (sym e ∙ f)), none_shown l room z)
 
-      module _ (call : ℕ) (h : call < c.calls) (out : List ℕ) (at : ℕ) (o : ProvesOne (image_found s p c) c call l out at) (n : length out ≡ length l) where
+      module _ (call : ℕ) (h : call < c.calls) (out : List ℕ) (at : ℕ) (o : ProvesCalls (image_found s p c) c call (call + 1) l out at) (n : length out ≡ length l) where
         shown : Shown out (call_entries (image_of s) call) at
-        shown = subst (λ (im : Image). Shown out (call_entries im call) at) same (o start.0 start.1)
+        unfolding all_entries
+        shown =
+            let one : call + 1 - call ≡ 1 = omega arith in
+            subst (λ (x : List ℕ). Shown out x at) (append-nil (call_entries (image_of s) call))
+            (subst (λ (i : ℕ). Shown out (all_entries (image_of s) i call) at) one
+            (subst (λ (im : Image). Shown out (all_entries im (call + 1 - call) call) at) same (o start.0 start.1)))
 
         wide : length out ≡ room
         wide = n ∙ ap length z ∙ length-replicate room 0
@@ -161,14 +158,17 @@ module _ (s : List ℕ) (k room : ℕ) (a : Answer) (e : a ≡ answer_of s k) (l
         pub prove_found_work : (v w : List ℕ) → v ≡ work_of s k → length v ≡ k → w ≡ kept_at (length out) at v → w ≡ work_unless (prove_number (prove_of s k call room)) s k
         prove_found_work v w g m i = i ∙ work_is out (call_entries (image_of s) call) at room wide shown v s k g m ∙ ap (λ (x : ProveAnswer). work_unless (prove_number x) s k) (sym found)
 
-      module _ (out : List ℕ) (at : ℕ) (o : ProvesAll (image_found s p c) c l out at) (n : length out ≡ length l) where
+      module _ (most : ℕ) (x : most ≡ min c.calls 256) (out : List ℕ) (at : ℕ) (o : ProvesCalls (image_found s p c) c 0 most l out at) (n : length out ≡ length l) where
         abbrev every : List ℕ
         every = all_entries (image_of s) c.calls 0
 
         shown_all : Shown out every at
         shown_all =
-            subst (λ (i : ℕ). Shown out (all_entries (image_of s) i 0) at) (calls_within s bytes k no c (sym e ∙ f))
-            (subst (λ (im : Image). Shown out (all_entries im (min c.calls 256) 0) at) same (o start.0 start.1))
+            subst (λ (i : ℕ). Shown out (all_entries (image_of s) i 0) at) (own_most ∙ x ∙ calls_within s bytes k no c (sym e ∙ f))
+            (subst (λ (im : Image). Shown out (all_entries im (most - 0) 0) at) same (o start.0 start.1))
+          where
+            own_most : most - 0 ≡ most
+            own_most = omega arith
 
         wide_all : length out ≡ room
         wide_all = n ∙ ap length z ∙ length-replicate room 0

@@ -1,7 +1,7 @@
--- One law for each way out of proving one call, and of the loop over all.
+-- One law for each way out of the loop over calls, and the step to classes and scratch of its own.
 -- Assumes nothing.
-use Prim.Native.Nat.{ℕ, suc, ◌+◌, ◌-◌, ◌*◌, ◌≤◌, ◌<◌, min}
-use mathlib.Core.Path.{◌≡◌, refl, sym, ap, subst, ◌∙◌}
+use Prim.Native.Nat.{ℕ, suc, ◌+◌, ◌-◌, ◌*◌, ◌≤◌, ◌<◌}
+use mathlib.Core.Path.{◌≡◌, refl, sym, subst, ◌∙◌}
 use mathlib.Core.List.{List, [], ◌++◌, append-nil, append_assoc}
 use native.Mathlib.Omega.{arith}
 use lib.ListN.{length, replicate, length-replicate}
@@ -13,7 +13,7 @@ use Rattle.rl_spec.specs.Prove.{call_entries, all_entries}
 use Rattle.rl_names.specs.Names.{Classes}
 use Rattle.rl_prover.specs.Reports.{Shown}
 use Rattle.rl_prover.specs.Calls.{Room, ProvesCall}
-use Rattle.rl_checker.specs.Entries.{Limited, ProvesOne, ProvesEach, ProvesAll}
+use Rattle.rl_checker.specs.Entries.{Limited, ProvesEach, ProvesCalls}
 
 -- ---- one call
 
@@ -30,56 +30,55 @@ module _ (s p : List ℕ) (c : Counts) (cs : List ℕ) where
   roomy : Limited (image_found s p c) c → Room (image_found s p c) (replicate 768 0)
   roomy h f = subst (λ (i : ℕ). (function_at (image_found s p c) f).params.count * 3 ≤ i) (sym (length-replicate {A = ℕ} 768 0)) (omega (arith, h.parameters f))
 
-  pub one_proves : (call : ℕ) (l out : List ℕ) (r : ℕ) → Classed → ProvesCall (image_found s p c) cs call (replicate 768 0) l 0 out r → ProvesOne (image_found s p c) c call l out r
-  unfolding call_entries
-  one_proves call l out r k f h sh = f (omega arith) (classed k h) (roomy h) [] sh
-
--- ---- all calls
+-- ---- the loop
 
 -- before a call: what is shown so far, and what is left
-pub record Each (im : Image) (c : Counts) (cs w₀ m₀ l₀ : List ℕ) (most : ℕ) (w m l : List ℕ) (at call : ℕ) : Type 0 where
-  pub limit : most ≡ min c.calls 256
-  pub within : call ≤ most
-  pub near : at ≤ call * 524280
+pub record Each (im : Image) (cs w₀ m₀ l₀ : List ℕ) (first end : ℕ) (w m l : List ℕ) (at call : ℕ) : Type 0 where
+  pub few : end ≤ first + 256
+  pub after : first ≤ call
+  pub within : call ≤ end
+  pub near : at ≤ (call - first) * 524280
   pub width : length w ≡ length w₀
   pub size : length m ≡ length m₀
   pub room : length l ≡ length l₀
-  pub so_far : Classes (text_of im) cs → Room im w₀ → Shown l₀ [] 0 → (e : List ℕ) × (Shown l e at × (all_entries im most 0 ≡ e ++ all_entries im (most - call) call))
+  pub so_far : Classes (text_of im) cs → Room im w₀ → Shown l₀ [] 0 → (e : List ℕ) × (Shown l e at × (all_entries im (end - first) first ≡ e ++ all_entries im (end - call) call))
 
-module _ (im : Image) (c : Counts) (cs w₀ m₀ l₀ : List ℕ) (most : ℕ) where
-  pub each_start : most ≡ min c.calls 256 → Each im c cs w₀ m₀ l₀ most w₀ m₀ l₀ 0 0
-  each_start e =
-      let z : most - 0 ≡ most = omega arith in
+module _ (im : Image) (cs w₀ m₀ l₀ : List ℕ) (first end : ℕ) where
+  pub each_start : first ≤ end → end ≤ first + 256 → Each im cs w₀ m₀ l₀ first end w₀ m₀ l₀ 0 first
+  each_start h k =
       record {
-        limit = e;
-        within = omega arith;
+        few = k;
+        after = omega arith;
+        within = h;
         near = omega arith;
         width = refl;
         size = refl;
         room = refl;
-        so_far = λ cl ro sh. ([], (sh, rw z refl));
+        so_far = λ cl ro sh. ([], (sh, refl));
       }
 
-  module _ (w m l : List ℕ) (at call : ℕ) (t : Each im c cs w₀ m₀ l₀ most w m l at call) where
-    pub each_end : most ≤ call → ProvesEach im c cs w₀ l₀ l at
+  module _ (w m l : List ℕ) (at call : ℕ) (t : Each im cs w₀ m₀ l₀ first end w m l at call) where
+    pub each_end : end ≤ call → ProvesEach im cs first end w₀ l₀ l at
     unfolding all_entries
     each_end h cl ro sh =
         let x = t.so_far cl ro sh in
-        let z : most - call ≡ 0 = omega arith in
-        let whole : all_entries im (min c.calls 256) 0 ≡ x.0 = ap (λ (n : ℕ). all_entries im n 0) (sym t.limit) ∙ x.1.1 ∙ rw z (append-nil x.0) in
+        let z : end - call ≡ 0 = omega arith in
+        let whole : all_entries im (end - first) first ≡ x.0 = x.1.1 ∙ rw z (append-nil x.0) in
         subst (λ (e : List ℕ). Shown l e at) (sym whole) x.1.0
 
     pub each_bound : at ≤ 134215680
-    each_bound = let a = t.limit in let b = t.within in let d = t.near in omega arith
+    each_bound = let a = t.few in let b = t.within in let d = t.near in omega arith
 
-    pub each_next : call < most → (w₁ m₁ l₁ : List ℕ) (r : ℕ) → ProvesCall im cs call w l at l₁ r → r ≤ at + 524280 → length w₁ ≡ length w → length m₁ ≡ length m → length l₁ ≡ length l → Each im c cs w₀ m₀ l₀ most w₁ m₁ l₁ r (call + 1)
+    pub each_next : call < end → (w₁ m₁ l₁ : List ℕ) (r : ℕ) → ProvesCall im cs call w l at l₁ r → r ≤ at + 524280 → length w₁ ≡ length w → length m₁ ≡ length m → length l₁ ≡ length l → Each im cs w₀ m₀ l₀ first end w₁ m₁ l₁ r (call + 1)
     unfolding all_entries call_entries
     each_next h w₁ m₁ l₁ r f b x y z =
-        let lim = t.limit in
+        let few = t.few in
+        let a = t.after in
         let d = t.near in
-        let n : most - call ≡ suc (most - (call + 1)) = omega arith in
+        let n : end - call ≡ suc (end - (call + 1)) = omega arith in
         record {
-          limit = lim;
+          few = few;
+          after = omega arith;
           within = omega arith;
           near = omega arith;
           width = x ∙ t.width;
@@ -92,10 +91,10 @@ module _ (im : Image) (c : Counts) (cs w₀ m₀ l₀ : List ℕ) (most : ℕ) w
                 q.0 ++ call_entries im call,
                 (
                   f (omega arith) cl own q.0 q.1.0,
-                  q.1.1 ∙ rw n (sym (append_assoc q.0 (call_entries im call) (all_entries im (most - (call + 1)) (call + 1)))),
+                  q.1.1 ∙ rw n (sym (append_assoc q.0 (call_entries im call) (all_entries im (end - (call + 1)) (call + 1)))),
                 ),
               );
         }
 
-pub all_prove : (s p : List ℕ) (c : Counts) (cs l out : List ℕ) (r : ℕ) → Classed s p c cs → ProvesEach (image_found s p c) c cs (replicate 768 0) l out r → ProvesAll (image_found s p c) c l out r
-all_prove s p c cs l out r k f h sh = f (classed s p c cs k h) (roomy s p c cs h) sh
+pub calls_prove : (s p : List ℕ) (c : Counts) (cs : List ℕ) (first end : ℕ) (l out : List ℕ) (r : ℕ) → Classed s p c cs → ProvesEach (image_found s p c) cs first end (replicate 768 0) l out r → ProvesCalls (image_found s p c) c first end l out r
+calls_prove s p c cs first end l out r k f h sh = f (classed s p c cs k h) (roomy s p c cs h) sh

@@ -6,6 +6,7 @@ use mathlib.Core.Bool.{Bool, true, false, cond}
 use mathlib.Core.List.{List}
 use native.Mathlib.Omega.{arith}
 use native.Mathlib.Numerals.{add-one}
+use lib.Dec.{eqb}
 use lib.ListN.{length, get_or, set, replicate, length-set, length-replicate}
 use lib.Seq.{get_or-set_same, get_or-set_other}
 use borrow.Author.Tests.{eq-eqb, ne_eqb}
@@ -19,11 +20,6 @@ use Rattle.rl_names.specs.Names.{Classes}
 use Rattle.rl_classes.specs.Classes.{first_from, class_of, ClassOfEach}
 use Rattle.rl_classes.specs.Links.{next_link, meet, link_after, Linked, PlaceOf}
 use Rattle.rl_classes.proofs.Same.{apart_same, met_first, classes_tell}
-
-zeros : (n k : ℕ) → ◌≡◌ {A = ℕ} (get_or (replicate n 0) k 0) 0
-zeros zero k = refl
-zeros (suc n) zero = refl
-zeros (suc n) (suc k) = zeros n k
 
 -- a search reads only the links of the texts that it has passed
 link_kept : (bytes : ℕ → List ℕ) (links t : List ℕ) (at x n : ℕ) → n ≤ at → link_after bytes (set links at x) t n ≡ link_after bytes links t n
@@ -52,21 +48,21 @@ module _ (s : List ℕ) (c : Counts) where
       pub way : (p : List ℕ) → link ≡ link_after (bytes p) links (bytes p t) u
 
     module _ (text : List ℕ) (e : IsText t text) where
-      pub find_empty : length text ≡ 0 → Placed 0 0
+      pub find_empty : (b : Bool) → b ≡ eqb (length text) 0 → b ≡ true → Placed 0 0
       unfolding class_of
-      find_empty z p h =
+      find_empty b f k p h =
           record {
-            right = sym (rw (eq-eqb (length (bytes p t)) 0 (ap length (sym (e p)) ∙ z)) refl);
+            right = sym (rw (← e p, ← f, k) refl);
             linked = λ q. absurd (omega arith);
           }
 
-      pub find_start : (length text ≡ 0 → ⊥) → Searched 0 0
+      pub find_start : (b : Bool) → b ≡ eqb (length text) 0 → b ≡ false → Searched 0 0
       unfolding class_of link_after
-      find_start z =
+      find_start b f k =
           let y : t - 0 ≡ t = omega arith in
           record {
             within = omega arith;
-            left = λ p h. rw (ne_eqb (length (bytes p t)) 0 (λ q. z (ap length (e p) ∙ q)), y) refl;
+            left = λ p h. rw (← e p, ← f, k, y) refl;
             way = λ p. refl;
           }
 
@@ -132,17 +128,6 @@ module _ (s : List ℕ) (c : Counts) where
     pub rest : (k : ℕ) → t ≤ k → get_or cs k 0 ≡ 0
 
   module _ (start-links start : List ℕ) where
-    pub classed_start : (before : List ℕ) → start ≡ replicate (length before) 0 → Classed start-links start start-links start 0
-    classed_start before e =
-        record {
-          within = omega arith;
-          wide = refl;
-          long = refl;
-          linked = λ p l m k i. absurd (omega arith);
-          done = λ p l m k i. absurd (omega arith);
-          rest = λ k i. rw e (zeros (length before) k);
-        }
-
     module _ (links cs : List ℕ) (t : ℕ) (v : Classed start-links start links cs t) where
       pub classed_more : t < c.texts → (class link : ℕ) → Placed links t class link → (links' cs' : List ℕ) → links' ≡ set links t link → cs' ≡ set cs t class → Classed start-links start links' cs' (t + 1)
       classed_more h class link f links' cs' d e =

@@ -1,6 +1,6 @@
--- Laws for the functions on two texts: the first mismatch, whether they are the same, the next link.
+-- Laws for the functions on two texts: the first mismatch, whether they are the same.
 -- Assumes nothing.
-use Prim.Native.Nat.{ℕ, suc, ◌+◌, ◌-◌, ◌*◌, ◌%◌, ◌≤◌, ◌<◌, min}
+use Prim.Native.Nat.{ℕ, suc, ◌+◌, ◌-◌, ◌≤◌, ◌<◌, min, max}
 use mathlib.Core.Path.{◌≡◌, refl, sym, ap, ◌∙◌}
 use mathlib.Core.Bool.{Bool, true, false}
 use mathlib.Core.List.{List, [], ◌∷◌, ◌++◌}
@@ -8,11 +8,11 @@ use native.Mathlib.Omega.{arith}
 use native.Mathlib.Numerals.{add-one}
 use lib.ListN.{length, get_or, take, drop, length-drop, drop_of_length-le, take-append-drop}
 use lib.Seq.{drop-cons}
-use borrow.Author.Tests.{lt-ltb, le-ltb, eq-eqb, ne_eqb}
+use borrow.Author.Tests.{eq-eqb, ne_eqb}
 use Rattle.rl_laws.specs.Tests.{by_ltb, by_eqb}
 use Rattle.rl_laws.specs.Words.{eight_at, Word, eight_then, eight_long, same_eight}
 use Rattle.rl_spec.specs.Values.{same_text}
-use Rattle.rl_classes.specs.Links.{common, mismatch, next_link}
+use Rattle.rl_classes.specs.Links.{common, mismatch}
 use Rattle.rl_classes.proofs.Same.{never, same_equal, equal_same, apart_same}
 
 -- ---- the first mismatch; whole is what the loop has to answer
@@ -54,14 +54,15 @@ module _ (a b : List ℕ) (i whole : ℕ) (v : whole ≡ mismatch a b i) where
           let e : common (drop i a) (drop i b) ≡ suc (common (drop (i + 1) a) (drop (i + 1) b)) = rw (drop-cons a i 0 p, drop-cons b i 0 q, eq-eqb (get_or a i 0) (get_or b i 0) h, add-one i) refl in
           v ∙ rw e (omega arith)
 
-  pub mismatch_past : (n : ℕ) → n ≡ min (length a) (length b) → n ≤ i → i ≡ whole
-  mismatch_past n e p =
-      by_ltb i (length a)
-      (λ l. mismatch_short l (omega arith))
-      mismatch_end
-
-  pub mismatch_rest : (r : ℕ) → r ≡ mismatch a b i → r ≡ whole
-  mismatch_rest r e = e ∙ sym v
+-- past all bytes of a
+pub mismatch_done : (a b : List ℕ) (at i : ℕ) → mismatch a b at ≡ mismatch a b i → length a ≤ i → (at ≤ length a → i ≤ length a) → max at (length a) ≡ mismatch a b at
+mismatch_done a b at i v h k =
+    by_ltb at (length a)
+    (λ l.
+    let e : i ≡ mismatch a b at = mismatch_end a b i (mismatch a b at) v h in
+    let f : i ≤ length a = k (omega arith) in
+    omega arith)
+    (λ l. let e : at ≡ mismatch a b at = mismatch_end a b at (mismatch a b at) refl l in omega arith)
 
 -- ---- whether they are the same
 
@@ -117,14 +118,3 @@ module _ (a b : List ℕ) (at to : ℕ) (v : to ≡ mismatch a b at) where
   pub same_prefix : length a ≤ to → length b ≤ to → (x y : List ℕ) (r : Bool) → x ≡ take at a → y ≡ take at b → r ≡ same_text x y → r ≡ same_text a b
   same_prefix h k x y r e f g =
       g ∙ rw (e, f) (both (take at a) (take at b) a b (λ q. mismatch_whole a b at (omega arith) (omega arith) q) (λ q. ap (take at) q))
-
--- ---- the next link
-
-module _ (a b : List ℕ) (u link to : ℕ) (v : to ≡ mismatch a b (link % 65536)) where
-  pub link_stays : to ≤ link % 65536 → link ≡ next_link a b u link
-  unfolding next_link
-  link_stays h = rw (← v, le-ltb (link % 65536) to h) refl
-
-  pub link_goes : link % 65536 < to → (u + 1) * 65536 + to % 65536 ≡ next_link a b u link
-  unfolding next_link
-  link_goes h = rw (← v, lt-ltb (link % 65536) to h) refl

@@ -163,3 +163,7 @@ module _ (out₀ s out : List ℕ) (at columns place i column : ℕ) where
 -- the buffer keeps its length
 pub same_room : (out₀ out out' t : List ℕ) (at : ℕ) → length out ≡ length out₀ → out' ≡ with_text out at t → length out' ≡ length out₀
 same_room out₀ out out' t at e f = ap length f ∙ length_with out at t ∙ e
+
+pub ruleset column_laws = (column_there, space_is, question_is, octets_are)
+
+pub ruleset left_laws = (next_within, next_fits, all_after, all_with)

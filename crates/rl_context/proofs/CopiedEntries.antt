@@ -1,8 +1,7 @@
 -- A field's copy by its plan, and the entries of a list one by one.
 -- Assumes nothing.
-use Rattle.std.proofs.Common.{◌≡◌, ℕ, suc, ◌+◌, ◌-◌, ◌/◌, ◌%◌, ◌<◌, ◌≤◌, Bool, true, false, cond, ◌&&◌, ◌||◌, ltb, List, [], ◌∷◌, ◌++◌, map, sym, refl, ap, ◌∙◌, subst, ap₂, append_assoc, add-zero, add_assoc, arith, ltb-true, le-ltb, lt-ltb}
-use mathlib.Core.Option.{Option, some}
-use native.Mathlib.Nat.{sub-zero}
+use Rattle.std.proofs.Common.{◌≡◌, ℕ, suc, ◌+◌, ◌-◌, ◌/◌, ◌%◌, ◌<◌, ◌≤◌, Bool, true, false, cond, ◌||◌, List, [], ◌∷◌, ◌++◌, map, sym, refl, ap, ◌∙◌, subst, ap₂, append_assoc, add_assoc, arith, le-ltb, lt-ltb}
+use mathlib.Core.Option.{Option}
 use Rattle.rl_spec.specs.declared.Counts.{Counts}
 use Rattle.rl_spec.specs.declared.Interval.{Interval}
 use Rattle.rl_spec.specs.declared.Section.TheVariants.{Lists, Expressions}
@@ -17,10 +16,8 @@ use Rattle.rl_spec.specs.Ranges.{up_from}
 use Rattle.rl_spec.specs.Make.{Context, Make, and_then, ◌>>=◌, give, image_so_far, new_list, entries_of}
 use Rattle.rl_spec.specs.Lower.{is_node, clone_entries, clone_field, deep_clone_expr}
 use Rattle.rl_encode.specs.Words.{word_field}
-use Rattle.rl_images.specs.Images.SchemaSorts.{and_right}
 use Rattle.rl_images.specs.Images.FieldFacts.{list_says}
 use Rattle.rl_images.specs.Lowering.Gives.{gives, after}
-use Rattle.rl_context.specs.declared.Ctx.{Ctx}
 use Rattle.rl_context.specs.Additions.{Live}
 use Rattle.rl_context.specs.Does.{State, at, nothing, one, all, Ends, Start, Does, Pushes, Listed}
 use Rattle.rl_context.proofs.Composed.{Keeps, does_then, does_bind, does_give, does_same, does_push, does_list}
@@ -93,12 +90,10 @@ module _ (s p : List ℕ) (c : Counts) (id code place : ℕ) (sort : Sort) (q : 
   field_keeps : Keeps (nothing {A = Unit {0}}) (λ _. clone_field (clone_below id) o (field_in s o place)) (nothing {A = Field})
   field_keeps = keeps_more nothing (λ _. adds_field (clone_below id) (adds_below id) o (field_in s o place))
 
-  pub field_kept : (scratch w : List ℕ) (ctx ctx' : Ctx) (word : ℕ) → q ≡ plan.Keep → ctx' ≡ ctx → word_field o word ≡ field_in s o place →
-      CopiesField im s id code place (at ctx scratch w) word (at ctx' scratch w)
-  field_kept scratch w ctx ctx' word k v f =
-      subst (λ z. CopiesField im s id code place (at ctx scratch w) word (at z scratch w)) (sym v)
-      (does_same (clone_field (clone_below id) o (field_in s o place)) field_keeps (λ x ws l. ap (λ m. m x) (subst (Said o) k by_plan (clone_below id) (field_in s o place) ∙ ap give (sym f)))
-      (does_give im 0 (word_field o word) (at ctx scratch w)))
+  pub field_kept : (t : State) (word : ℕ) → q ≡ plan.Keep → word_field o word ≡ field_in s o place → CopiesField im s id code place t word t
+  field_kept t word k f =
+      does_same (clone_field (clone_below id) o (field_in s o place)) field_keeps (λ x ws l. ap (λ m. m x) (subst (Said o) k by_plan (clone_below id) (field_in s o place) ∙ ap give (sym f)))
+      (does_give im 0 (word_field o word) t)
 
   module _ (child : ℕ) (k : q ≡ plan.Node) (f : child ≡ u16_at s place) where
     node_said : (is_pair o ≡ false) × ((width_of o ≡ 2) × ((clone : ℕ → Make ℕ) (f : Field) → clone_field clone o f ≡ (clone (first f) >>= λ n. give (num n))))
@@ -115,16 +110,11 @@ module _ (s p : List ℕ) (c : Counts) (id code place : ℕ) (sort : Sort) (q : 
         subst (λ z. Does im 0 0 nothing (clone_field (clone_below id) o (field_in s o place)) t z u) (ap num (sym w) ∙ sym (ap (λ b. cond b (pair (word % 65536) (word / 65536)) (num word)) node_said.0))
         (subst (λ m. Does im 0 0 nothing m t (num index) u) (sym field_is) (does_bind d (keeps_more nothing (λ n. adds_give (num n))) (does_give im 0 (num index) u)))
 
-    pub field_shared : (scratch v : List ℕ) (ctx ctx' : Ctx) (word : ℕ) → id ≤ child → ctx' ≡ ctx → word ≡ child →
-        CopiesField im s id code place (at ctx scratch v) word (at ctx' scratch v)
-    field_shared scratch v ctx ctx' word h c w =
-        subst (λ z. CopiesField im s id code place (at ctx scratch v) word (at z scratch v)) (sym c)
-        (copied (at ctx scratch v) (at ctx scratch v) child word (subst (λ m. Does im 0 0 nothing m (at ctx scratch v) child (at ctx scratch v)) (sym (clone_above id child h)) (does_give im 0 child (at ctx scratch v))) w)
+    pub field_shared : (t : State) → id ≤ child → CopiesField im s id code place t child t
+    field_shared t h = copied t t child child (subst (λ m. Does im 0 0 nothing m t child t) (sym (clone_above id child h)) (does_give im 0 child t)) refl
 
-    pub field_copied : (t : State) (scratch v : List ℕ) (ctx ctx' : Ctx) (index word : ℕ) → child < id → Copies im child t index (at ctx scratch v) → ctx' ≡ ctx → word ≡ index →
-        CopiesField im s id code place t word (at ctx' scratch v)
-    field_copied t scratch v ctx ctx' index word h d c w = subst (λ z. CopiesField im s id code place t word (at z scratch v)) (sym c)
-        (copied t (at ctx scratch v) index word (subst (λ m. Does im 0 0 nothing m t index (at ctx scratch v)) (sym (clone_below_lem id child h)) d) w)
+    pub field_copied : (t u : State) (index : ℕ) → child < id → Copies im child t index u → CopiesField im s id code place t index u
+    field_copied t u index h d = copied t u index index (subst (λ m. Does im 0 0 nothing m t index u) (sym (clone_below_lem id child h)) d) refl
 
   module _ (left right : Target) (k : q ≡ plan.List left right) (a n : ℕ) (f : a ≡ u16_at s place) (h : n ≡ u16_at s (place + 2)) where
     list_said : Said o (plan.List left right)
@@ -176,14 +166,6 @@ module _ (s p : List ℕ) (c : Counts) (id a n : ℕ) (l r : Target) (start : St
   abbrev of : Image
   of = image_found s p c
 
-  pub entries_none : CopyingEntries s p c id a n l r start start 0 l r
-  entries_none =
-      record {
-        some = omega arith;
-        done = [];
-        follows = λ ns t d. subst (λ z. Does of 0 0 all (clone_entries (clone_below id) l r (map (entry_of of) z)) start ns t) (ap₂ up_from (add-zero a) (sub-zero n)) d;
-      }
-
   module _ (here : State) (i : ℕ) (left right : Target) (w : CopyingEntries s p c id a n l r start here i left right) where
     next_entry : i < n → up_from (a + i) (n - i) ≡ (a + i) ∷ up_from (a + (i + 1)) (n - (i + 1))
     next_entry h = cons (n - i) (n - (i + 1)) (omega arith) ∙ ap (λ z. (a + i) ∷ up_from z (n - (i + 1))) (add_assoc a i 1)
@@ -219,21 +201,22 @@ module _ (s p : List ℕ) (c : Counts) (id a n : ℕ) (l r : Target) (start : St
 
 -- ---- an entry
 
-pub entry_before : (id : ℕ) (target : Target) (n : ℕ) (b : Bool) → b ≡ is_node target && ltb n id → b ≡ true → n < id
-entry_before id target n b q t = ltb-true n id (and_right (is_node target) (ltb n id) (sym q ∙ t))
+module _ (of : Image) (id : ℕ) (target : Target) (n : ℕ) (here next : State) where
+  by_give : cond (is_node target) (clone_below id n) (give n) ≡ give n → Pushes n here next → CopiesEntry of id target n here next
+  by_give e o = (n, subst (λ m. Does of 0 0 one m here n next) (sym e) (does_push (does_give of 0 n here) o))
 
-module _ (of : Image) (id : ℕ) (target : Target) (n : ℕ) (here : State) (b : Bool) (q : b ≡ is_node target && ltb n id) where
-  entry_is : (a c : Bool) → cond a (cond c (deep_clone_expr n) (give n)) (give n) ≡ cond (a && c) (deep_clone_expr n) (give n)
-  entry_is true c = refl
-  entry_is false c = refl
+  pub entry_copied : (made : ℕ) (mid : State) (b : Bool) → b ≡ is_node target → b ≡ true → n < id → Copies of n here made mid → Pushes made mid next → CopiesEntry of id target n here next
+  entry_copied made mid b q t h d o = (
+    made,
+    subst (λ m. Does of 0 0 one m here made next) (sym (ap (λ z. cond z (clone_below id n) (give n)) (sym q ∙ t) ∙ clone_below_lem id n h)) (does_push d o),
+  )
 
-  copy_is : cond (is_node target) (clone_below id n) (give n) ≡ cond b (deep_clone_expr n) (give n)
-  copy_is = entry_is (is_node target) (ltb n id) ∙ ap (λ z. cond z (deep_clone_expr n) (give n)) (sym q)
+  pub entry_kept : (b : Bool) → b ≡ is_node target → b ≡ false → Pushes n here next → CopiesEntry of id target n here next
+  entry_kept b q f o = by_give (ap (λ z. cond z (clone_below id n) (give n)) (sym q ∙ f)) o
 
-  pub entry_copied : (made : ℕ) (mid next : State) → b ≡ true → Copies of n here made mid → Pushes made mid next → CopiesEntry of id target n here next
-  entry_copied made mid next t d o =
-      (made, subst (λ m. Does of 0 0 one m here made next) (sym (copy_is ∙ ap (λ z. cond z (deep_clone_expr n) (give n)) t)) (does_push d o))
-
-  pub entry_kept : (next : State) → b ≡ false → Pushes n here next → CopiesEntry of id target n here next
-  entry_kept next t o =
-      (n, subst (λ m. Does of 0 0 one m here n next) (sym (copy_is ∙ ap (λ z. cond z (deep_clone_expr n) (give n)) t)) (does_push (does_give of 0 n here) o))
+  pub entry_late : id ≤ n → Pushes n here next → CopiesEntry of id target n here next
+  entry_late h o = by_give (ap (λ z. cond (is_node target) z (give n)) (clone_above id n h) ∙ same (is_node target)) o
+    where
+      same : (b : Bool) → cond b (give n) (give n) ≡ give n
+      same true = refl
+      same false = refl

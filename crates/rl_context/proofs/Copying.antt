@@ -223,9 +223,6 @@ place_left place width j h k = omega arith
 pub place_fits : (place width j rest : ℕ) → j + length (codes rest) ≤ 8 → place ≤ 66000 + 8 * j → width ≤ 8 → Fits w64 (place + width)
 place_fits place width j rest f h k = omega arith
 
-pub j_fits : (j rest : ℕ) → j + length (codes rest) ≤ 8 → Fits w64 (j + 1)
-j_fits j rest f = omega arith
-
 pub still_eight : (words next : List ℕ) (j word : ℕ) → length words ≡ 8 → next ≡ set words j word → length next ≡ 8
 still_eight words next j word h e = ap length e ∙ length-set words j word ∙ h
 
@@ -235,4 +232,4 @@ small_left rest h = omega arith
 pub as_made : (im : Image) (kind : ℕ) (ws : List ℕ) (s : State) (index : ℕ) (t : State) → Does im 0 0 nothing (append Expressions (word_record kind ws ∷ [])) s index t →
     Does im 0 0 nothing (append Expressions (made kind (word_fields (fields_of kind) ws 0) ∷ [])) s index t
 unfolding word_record
-as_made im kind ws s index t d = d
+as_made _ kind ws s index t d = d

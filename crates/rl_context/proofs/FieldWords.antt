@@ -1,19 +1,14 @@
 -- A field as a word.
 -- Assumes nothing.
-use Rattle.std.proofs.Common.{◌≡◌, ℕ, ◌+◌, ◌*◌, ◌/◌, ◌%◌, ◌<◌, Bool, true, false, cond, ◌||◌, T, sym, ap, ◌∙◌, subst, ap₂, arith}
+use Rattle.std.proofs.Common.{◌≡◌, ℕ, ◌+◌, ◌*◌, ◌/◌, ◌%◌, ◌<◌, Bool, true, false, cond, T, sym, ap, ◌∙◌, subst, ap₂, arith}
 use mathlib.Core.List as list
 use Rattle.rl_spec.specs.declared.Sort.{Sort}
-use Rattle.rl_spec.specs.declared.Sort.TheVariants.{Many}
-use Rattle.rl_spec.specs.declared.Target.{Target}
 use Rattle.rl_spec.specs.Bytes.{num_at, u16_at}
 use Rattle.rl_spec.specs.Schema.{sort_of, width_of}
 use Rattle.rl_spec.specs.Image.{num, pair, first, is_pair, field_in}
-use Rattle.rl_spec.specs.Lower.{is_node}
 use Rattle.rl_arena.specs.Find.{number_in}
 use Rattle.rl_arena.proofs.Laws.{first_number}
 use Rattle.rl_encode.specs.Words.{word_field}
-use Rattle.rl_context.specs.declared.copy.Plan.TheVariants.{Keep, List}
-use Rattle.rl_context.specs.Copies.{plan_of}
 
 pub two_words : (x y : ℕ) → x < 65536 → pair ((x + y * 65536) % 65536) ((x + y * 65536) / 65536) ≡ pair x y
 two_words x y h = ap₂ pair a b
@@ -36,10 +31,3 @@ module _ (s : list.List ℕ) (code place : ℕ) (o : Sort) (e : o ≡ sort_of co
           cond d (pair (r % 65536) (r / 65536)) (num r) ≡ cond d (pair (u16_at s place) (u16_at s (place + 2))) (num (num_at s place (width_of (sort_of code))))
       go true q k = absurd (subst T q tt)
       go false q k = ap num k
-
-module _ (sort : Sort) (left right : Target) (n : ℕ) (e : sort ≡ Many left right n) (b : Bool) (q : b ≡ is_node left || is_node right) where
-  pub plan_list : b ≡ true → List left right ≡ plan_of sort
-  plan_list t = sym (ap plan_of e ∙ ap (λ z. cond z (List left right) Keep) (sym q ∙ t))
-
-  pub plan_keep : b ≡ false → Keep ≡ plan_of sort
-  plan_keep t = sym (ap plan_of e ∙ ap (λ z. cond z (List left right) Keep) (sym q ∙ t))

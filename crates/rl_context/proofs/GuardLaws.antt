@@ -2,13 +2,13 @@
 -- Assumes nothing.
 use Rattle.std.proofs.Common.{◌≡◌, ℕ, suc, ◌+◌, ◌-◌, ◌<◌, ◌≤◌, List, [], ◌∷◌, map, length, sym, refl, ap, ◌∙◌, subst, ap₂, arith}
 use Rattle.rl_spec.specs.declared.Clause.{Clause}
-use Rattle.std.specs.Prelude.{None, Some}
+use Rattle.std.specs.Prelude.{Some}
 use Rattle.rl_spec.specs.declared.Interval.{Interval}
 use Rattle.rl_spec.specs.Image.{num, Image}
 use Rattle.rl_spec.specs.Records.{clause_at}
 use Rattle.rl_spec.specs.Ranges.{up_from}
 use Rattle.rl_spec.specs.Make.{Make, each}
-use Rattle.rl_spec.specs.Lower.{expr, str_lit, deep_clone_expr, violation, only_if, guard, msg_expr_by, msg_expr, clause_guard}
+use Rattle.rl_spec.specs.Lower.{expr, deep_clone_expr, violation, only_if, guard, msg_expr_by, msg_expr, clause_guard}
 use Rattle.rl_schema.specs.Codes.{table}
 use Rattle.rl_context.specs.Does.{State, nothing, Does, Pushes}
 use Rattle.rl_context.proofs.Composed.{does_bind, does_give, does_push, does_each}
@@ -31,9 +31,6 @@ guard_does pred msg d e =
     (keeps_more nothing (λ copy. adds_bind (adds_expr 33 (num 5 ∷ num copy ∷ [])) (λ neg. adds_bind (adds_violation msg) (λ stm. adds_only_if neg stm)))) e
 
 module _ {im : Image} {k : ℕ} {s : State} (clause : Clause) (default : List ℕ) where
-  pub message_default : {t : State} {m : ℕ} → clause.message ≡ None → Does im k k nothing (str_lit default) s m t → Does im k k nothing (msg_expr clause default) s m t
-  message_default {t} {m} e d = subst (λ o. Does im k k nothing (msg_expr_by o default) s m t) (sym e) d
-
   pub message_own : (n : ℕ) → clause.message ≡ Some n → Does im k k nothing (msg_expr clause default) s n s
   message_own n e = subst (λ o. Does im k k nothing (msg_expr_by o default) s n s) (sym e) (does_give im k n s)
 

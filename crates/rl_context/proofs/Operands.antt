@@ -2,6 +2,7 @@
 -- Assumes nothing.
 use Rattle.std.proofs.Common.{◌≡◌, ℕ, ◌<◌, ◌≤◌, Bool, true, false, cond, List, [], ◌∷◌, length, take, drop, ℤ, sym, refl, ap, ◌∙◌, subst, arith, length-take-le, to_z-of_z, w64, SFits, to_z, of_z}
 use mathlib.Core.Option.{Option, none}
+use mir.Val.{bool_byte}
 use Rattle.rl_spec.specs.declared.RefineOperand as operand
 use Rattle.rl_spec.specs.declared.RefineOperand.TheVariants.{Integer, Str, Bool as Truth, Param as Named}
 use Rattle.rl_spec.specs.Schema.{limits, sort_of, schema, fields_in, fields_of}
@@ -26,44 +27,42 @@ use Rattle.rl_context.proofs.Rows.{row_integer, row_string, row_bool, row_identi
 use Rattle.rl_context.specs.declared.refinements.Operand.{Operand}
 use Rattle.rl_context.specs.Guards.{Makes, Leaf, an_integer, a_string, a_bool, an_identifier, leaf_of, copy_of, OperandMade}
 
-module _ {im : Image} (image : Image) (x : operand.RefineOperand) {s t : State} (r : Operand) where
-  of_operand : (y : operand.RefineOperand) → x ≡ y → OperandMade im (leaf_of image (operand_of y)) s r t → OperandMade im (leaf_of image (operand_of x)) s r t
-  of_operand y e m = subst (λ z. OperandMade im (leaf_of image (operand_of z)) s r t) (sym e) m
+abbrev operand_as : ℕ → ℕ → ℕ → Operand
+operand_as kind row word = record { kind = record { number = kind; row = row }; word = word }
 
-  text_made : (kind : ℕ) (text : List ℕ) (z : ℕ) → Leaf kind → codes 3075 ≡ fields_of kind → text ≡ text_of image z → (r.kind ≡ kind) × ((r.row ≡ 3075) × Makes im (new_text text) s r.word t) →
-      OperandMade im (new_text (text_of image z) >>= λ n. give (kind, n)) s r t
-  text_made kind text z leaf row e m =
+module _ {im : Image} (image : Image) (x : operand.RefineOperand) {s t : State} where
+  of_operand : (r : Operand) (y : operand.RefineOperand) → x ≡ y → OperandMade im (leaf_of image (operand_of y)) s r t → OperandMade im (leaf_of image (operand_of x)) s r t
+  of_operand r y e m = subst (λ z. OperandMade im (leaf_of image (operand_of z)) s r t) (sym e) m
+
+  text_made : (kind row : ℕ) (text : List ℕ) (z n : ℕ) → Leaf kind → codes row ≡ fields_of kind → text ≡ text_of image z → Makes im (new_text text) s n t →
+      OperandMade im (new_text (text_of image z) >>= λ m. give (kind, m)) s (operand_as kind row n) t
+  text_made kind row text z n leaf is e m =
       record {
-        does =
-            subst (λ k. Does {A = ℕ × ℕ} im 0 0 nothing (new_text (text_of image z) >>= λ n. give (kind, n)) s (k, r.word) t) (sym m.0)
-            (does_bind (subst (λ l. Makes im (new_text l) s r.word t) e m.1.1) (keeps_more nothing (λ n. adds_give (kind, n))) (does_give im 0 (kind, r.word) t));
-        leaf = subst Leaf (sym m.0) leaf;
-        row = ap codes m.1.0 ∙ row ∙ ap fields_of (sym m.0);
+        does = does_bind (subst (λ l. Makes im (new_text l) s n t) e m) (keeps_more nothing (λ m. adds_give (kind, m))) (does_give im 0 (kind, n) t);
+        leaf = leaf;
+        row = is;
       }
 
-  pub str_made : (z : ℕ) (text : List ℕ) → x ≡ Str z → text ≡ text_of image z → (r.kind ≡ 25) × ((r.row ≡ 3075) × Makes im (new_text text) s r.word t) → OperandMade im (leaf_of image (operand_of x)) s r t
-  str_made z text e q m = of_operand (Str z) e (text_made 25 text z a_string row_string q m)
+  pub str_made : (z n : ℕ) (text : List ℕ) → x ≡ Str z → text ≡ text_of image z → Makes im (new_text text) s n t → OperandMade im (leaf_of image (operand_of x)) s (operand_as 25 3075 n) t
+  str_made z n text e q m = of_operand _ (Str z) e (text_made 25 3075 text z n a_string row_string q m)
 
-  pub named_made : (z : ℕ) (text : List ℕ) → x ≡ Named z → text ≡ text_of image z → (r.kind ≡ 30) × ((r.row ≡ 3075) × Makes im (new_text text) s r.word t) → OperandMade im (leaf_of image (operand_of x)) s r t
-  named_made z text e q m = of_operand (Named z) e (text_made 30 text z an_identifier row_identifier q m)
+  pub named_made : (z n : ℕ) (text : List ℕ) → x ≡ Named z → text ≡ text_of image z → Makes im (new_text text) s n t → OperandMade im (leaf_of image (operand_of x)) s (operand_as 30 3075 n) t
+  named_made z n text e q m = of_operand _ (Named z) e (text_made 30 3075 text z n an_identifier row_identifier q m)
 
 module _ {im : Image} (image : Image) (x : operand.RefineOperand) (s : State) where
-  pub integer_made : (v : ℤ) (w : ℕ) → x ≡ Integer v → SFits w64 v → w ≡ bits64 (to_z w64 (of_z w64 v)) →
-      OperandMade im (leaf_of image (operand_of x)) s (record { ctx = s.ctx; kind = 17; row = 1027; word = w }) s
+  pub integer_made : (v : ℤ) (w : ℕ) → x ≡ Integer v → SFits w64 v → w ≡ bits64 (to_z w64 (of_z w64 v)) → OperandMade im (leaf_of image (operand_of x)) s (operand_as 17 1027 w) s
   integer_made v w e h q =
-      of_operand image x (record { ctx = s.ctx; kind = 17; row = 1027; word = w }) (Integer v) e
+      of_operand image x (operand_as 17 1027 w) (Integer v) e
       (record { does = subst (λ n. Does {A = ℕ × ℕ} im 0 0 nothing (give (17, bits64 v)) s (17, n) s) (sym (q ∙ ap bits64 (to_z-of_z h))) (does_give im 0 (17, bits64 v) s); leaf = an_integer; row = row_integer })
 
-  truth_made : (b : Bool) → x ≡ Truth b → OperandMade im (leaf_of image (operand_of x)) s (record { ctx = s.ctx; kind = 26; row = 1283; word = cond b 1 0 }) s
+  pub truth_made : (b : Bool) → x ≡ Truth b → OperandMade im (leaf_of image (operand_of x)) s (operand_as 26 1283 (bool_byte b)) s
   truth_made b e =
-      of_operand image x (record { ctx = s.ctx; kind = 26; row = 1283; word = cond b 1 0 }) (Truth b) e
-      (record { does = does_give im 0 (26, cond b 1 0) s; leaf = a_bool; row = row_bool })
-
-  pub true_made : (b : Bool) → x ≡ Truth b → b ≡ true → OperandMade im (leaf_of image (operand_of x)) s (record { ctx = s.ctx; kind = 26; row = 1283; word = 1 }) s
-  true_made b e q = truth_made true (e ∙ ap Truth q)
-
-  pub false_made : (b : Bool) → x ≡ Truth b → b ≡ false → OperandMade im (leaf_of image (operand_of x)) s (record { ctx = s.ctx; kind = 26; row = 1283; word = 0 }) s
-  false_made b e q = truth_made false (e ∙ ap Truth q)
+      of_operand image x (operand_as 26 1283 (bool_byte b)) (Truth b) e
+      (record { does = subst (λ n. Does {A = ℕ × ℕ} im 0 0 nothing (give (26, cond b 1 0)) s (26, n) s) (byte_is b) (does_give im 0 (26, cond b 1 0) s); leaf = a_bool; row = row_bool })
+    where
+      byte_is : (b : Bool) → cond b 1 0 ≡ bool_byte b
+      byte_is true = refl
+      byte_is false = refl
 
 -- ---- the nodes: a leaf's fields are its span and its number
 

@@ -4,10 +4,8 @@ use Rattle.std.proofs.Common.{◌≡◌, ℕ, ◌+◌, ◌≤◌, true, List, []
 use mathlib.Core.Option.{some, map}
 use Rattle.rl_spec.specs.declared.Function.{Function}
 use Rattle.rl_spec.specs.declared.Param as decl
-use Rattle.std.specs.Prelude.{None}
-use Rattle.rl_spec.specs.Answers.{refined}
-use Rattle.rl_spec.specs.declared.RefineOp as op
-use Rattle.rl_spec.specs.declared.RefineOperand as operand
+use Rattle.std.specs.Prelude.{None, Some}
+use Rattle.rl_spec.specs.declared.Refinement as refinement
 use Rattle.rl_spec.specs.declared.Violation.TheVariants.{Refinement}
 use Rattle.rl_spec.specs.Schema.{fields_of}
 use Rattle.rl_spec.specs.Image.{num, Image, text_of}
@@ -103,8 +101,8 @@ module _ (image : Image) (name : ℕ) (refinement : ParamRefinement ℕ) where
 
   -- THE LAW: the operands and the predicate, with the token and the name as the code has them
   module _ {im : Image} {s₀ s₁ s₂ s₃ s₄ s₅ : State} (p : Predicate) {right left : ℕ} (called : List ℕ) where
-    pub predicate_does : p.token ≡ token → called ≡ text_of image name → Leaf p.kind → codes p.row ≡ fields_of p.kind →
-        Does im 0 0 nothing (leaf_of image refinement.operand) s₀ (p.kind, p.word) s₁ → Makes im (expr p.kind (num p.word ∷ [])) s₁ right s₂ →
+    pub predicate_does : p.token ≡ token → called ≡ text_of image name → Leaf p.right.kind.number → codes p.right.kind.row ≡ fields_of p.right.kind.number →
+        Does im 0 0 nothing (leaf_of image refinement.operand) s₀ (p.right.kind.number, p.right.word) s₁ → Makes im (expr p.right.kind.number (num p.right.word ∷ [])) s₁ right s₂ →
         Makes im (new_text called) s₂ p.text s₃ → Makes im (expr 30 (num p.text ∷ [])) s₃ left s₄ →
         Makes im (expr 32 (num left ∷ num p.token ∷ num right ∷ [])) s₄ p.index s₅ → PredicateMade im image name refinement s₀ p s₅
     predicate_does e f leaf row d₁ d₂ d₃ d₄ d₅ =
@@ -118,14 +116,14 @@ module _ (image : Image) (name : ℕ) (refinement : ParamRefinement ℕ) where
           row = row;
         }
       where
-        parts : Does im 0 0 nothing (predicate_of image name refinement) s₀ (p.index, ((p.kind, p.word), p.text)) s₅
+        parts : Does im 0 0 nothing (predicate_of image name refinement) s₀ (p.index, ((p.right.kind.number, p.right.word), p.text)) s₅
         parts =
             does_bind d₁ (keeps_more nothing more_leaf)
-            (does_bind d₂ (keeps_more nothing (more_right (p.kind, p.word)))
-            (does_bind (subst (λ z. Makes im (new_text z) s₂ p.text s₃) f d₃) (keeps_more nothing (more_name (p.kind, p.word) right))
-            (does_bind d₄ (keeps_more nothing (more_left (p.kind, p.word) right p.text))
-            (does_bind (subst (λ z. Makes im (expr 32 (num left ∷ num z ∷ num right ∷ [])) s₄ p.index s₅) e d₅) (keeps_more nothing (λ pred. adds_give (pred, ((p.kind, p.word), p.text))))
-            (does_give im 0 (p.index, ((p.kind, p.word), p.text)) s₅)))))
+            (does_bind d₂ (keeps_more nothing (more_right (p.right.kind.number, p.right.word)))
+            (does_bind (subst (λ z. Makes im (new_text z) s₂ p.text s₃) f d₃) (keeps_more nothing (more_name (p.right.kind.number, p.right.word) right))
+            (does_bind d₄ (keeps_more nothing (more_left (p.right.kind.number, p.right.word) right p.text))
+            (does_bind (subst (λ z. Makes im (expr 32 (num left ∷ num z ∷ num right ∷ [])) s₄ p.index s₅) e d₅) (keeps_more nothing (λ pred. adds_give (pred, ((p.right.kind.number, p.right.word), p.text))))
+            (does_give im 0 (p.index, ((p.right.kind.number, p.right.word), p.text)) s₅)))))
 
   -- what is known of the predicate then
   abbrev Compared : ℕ × ((ℕ × ℕ) × ℕ) → Context → Type 0
@@ -173,22 +171,22 @@ module _ (image : Image) (name : ℕ) (refinement : ParamRefinement ℕ) where
   refined_is text = ap (λ m. m >>= from_predicate text) predicate_is ∙ assoc (predicate_of image name refinement) first (from_predicate text)
 
   abbrev Here : Predicate → Context → Type 0
-  Here p x = Comparison x p.kind p.word p.text token p.index
+  Here p x = Comparison x p.right.kind.number p.right.word p.text token p.index
 
   module _ {im : Image} {s₂ s₃ s₄ s₅ : State} (p : Predicate) (msg : ℕ) {copy stm : ℕ} where
     -- the copy and the guard
-    guard_done : Leaf p.kind → Makes im (copy_of (p.kind, p.word) p.text token) s₂ copy s₃ → Makes im (guard_of copy msg) s₃ stm s₄ → Pushes stm s₄ s₅ →
+    guard_done : Leaf p.right.kind.number → Makes im (copy_of (p.right.kind.number, p.right.word) p.text token) s₂ copy s₃ → Makes im (guard_of copy msg) s₃ stm s₄ → Pushes stm s₄ s₅ →
         DoesIf im 0 0 all (Here p) (from_message p.index msg) s₂ (stm ∷ []) s₅
     unfolding guard
     guard_done leaf d g h =
         if_same (from_message p.index msg) (keeps_more all (λ _. more_message p.index msg))
         (λ x e c.
-        ap (λ o. and_then (and_then o (λ c. guard_of c msg)) (λ s. give (s ∷ []))) (comparison_copied x p.kind p.word p.text token p.index e leaf c))
+        ap (λ o. and_then (and_then o (λ c. guard_of c msg)) (λ s. give (s ∷ []))) (comparison_copied x p.right.kind.number p.right.word p.text token p.index e leaf c))
         (does_only (does_push
         (does_bind d (keeps_more nothing (λ c. adds_bind (adds_expr 33 _) (λ neg. adds_bind (adds_violation msg) (λ s. adds_only_if neg s)))) g) h))
 
     -- THE LAW: the predicate, the message, the copy and the guard
-    pub refined_does : {s₀ s₁ : State} (text : List ℕ) → PredicateMade im image name refinement s₀ p s₁ → Makes im (str_lit text) s₁ msg s₂ → Makes im (copy_of (p.kind, p.word) p.text p.token) s₂ copy s₃ →
+    pub refined_does : {s₀ s₁ : State} (text : List ℕ) → PredicateMade im image name refinement s₀ p s₁ → Makes im (str_lit text) s₁ msg s₂ → Makes im (copy_of (p.right.kind.number, p.right.word) p.text p.token) s₂ copy s₃ →
         Makes im (guard_of copy msg) s₃ stm s₄ → Pushes stm s₄ s₅ → Gathers im 0 (refined_by image name refinement text) s₀ s₅
     refined_does {s₀} text m d k g h = (
       stm ∷ [],
@@ -196,7 +194,7 @@ module _ (image : Image) (name : ℕ) (refinement : ParamRefinement ℕ) where
           (if_start
           (if_bind {Q = Here p} m.parts (λ x y e _ is. given_is (compared x e) is) (keeps_more all (λ q. more_predicate text q.0))
           (if_bind {Q = Here p} d (λ x y e c is. comparison_later (given_is (adds_later (adds_str text) x e) is) c) (keeps_more all (more_message p.index))
-          (guard_done m.leaf (subst (λ z. Makes im (copy_of (p.kind, p.word) p.text z) s₂ copy s₃) m.token k) g h)))),
+          (guard_done m.leaf (subst (λ z. Makes im (copy_of (p.right.kind.number, p.right.word) p.text z) s₂ copy s₃) m.token k) g h)))),
     )
 
 -- ---- a parameter's guard
@@ -212,16 +210,16 @@ module _ (image : Image) (f n : ℕ) (function : Function) (p : decl.Param) (e :
   pub unrefined_done : (im : Image) (s : State) → p.refinement ≡ None → Gathers im 0 (guard_in image f n) s s
   unrefined_done im s h = subst (λ m. Gathers im 0 m s s) (ap (λ z. refinement_guard image p.name (refinement_of z)) (sym h) ∙ sym guard_is) ([], does_none s)
 
-  default_is : (o : op.RefineOp) (x : operand.RefineOperand) → p.refinement ≡ refined o x → default_text image f (Refinement n) ≡ refinement_text (text_of image p.name) (some (map_refinement (text_of image) (refined_as o x)))
+  default_is : (r : refinement.Refinement) → p.refinement ≡ Some r → default_text image f (Refinement n) ≡ refinement_text (text_of image p.name) (some (map_refinement (text_of image) (refined_as r)))
   unfolding param_of
-  default_is o x h =
+  default_is r h =
       ap (λ z. refinement_text (text_of image z.name) (map (map_refinement (text_of image)) (refinement_of z.refinement))) (sym at_number)
       ∙ ap (λ z. refinement_text (text_of image p.name) (map (map_refinement (text_of image)) (refinement_of z))) h
 
-  pub refinement_done : {im : Image} {s t : State} (o : op.RefineOp) (x : operand.RefineOperand) (room w text : List ℕ) (size : ℕ) → p.refinement ≡ refined o x → 16385 ≤ length room →
+  pub refinement_done : {im : Image} {s t : State} (r : refinement.Refinement) (room w text : List ℕ) (size : ℕ) → p.refinement ≡ Some r → 16385 ≤ length room →
       size ≡ after_text room 0 (default_text image f (Refinement n)) → w ≡ with_text room 0 (default_text image f (Refinement n)) → text ≡ take size (drop 0 w) →
-      Gathers im 0 (refined_by image p.name (refined_as o x) text) s t → Gathers im 0 (guard_in image f n) s t
-  refinement_done {im} {s} {t} o x room w text size h k a b c g = (
+      Gathers im 0 (refined_by image p.name (refined_as r) text) s t → Gathers im 0 (guard_in image f n) s t
+  refinement_done {im} {s} {t} r room w text size h k a b c g = (
     g.0,
     does_same (guard_in image f n) (keeps_more all (λ _. adds_guard_in))
         (λ y ws l. ap (λ m. m y) (guard_is ∙ ap (λ z. refinement_guard image p.name (refinement_of z)) h) ∙ sym (same_message y (ap (λ z. length z.image.records) l.context) (ap (λ z. z.limited) l.context)))
@@ -233,9 +231,9 @@ module _ (image : Image) (f n : ℕ) (function : Function) (p : decl.Param) (e :
 
       -- the message that has room, and the whole one
       same_message : (y : Context) → Eight y.image → y.limited ≡ true →
-          refined_by image p.name (refined_as o x) text y ≡ refinement_guard image p.name (some (refined_as o x)) y
+          refined_by image p.name (refined_as r) text y ≡ refinement_guard image p.name (some (refined_as r)) y
       same_message y e v =
-          later_bind (adds_predicate image p.name (refined_as o x)) y e
+          later_bind (adds_predicate image p.name (refined_as r)) y e
           (λ pred z l.
-          ap (λ q. and_then q (λ msg. from_message image p.name (refined_as o x) pred msg))
-          (same_str room (default_text image f (Refinement n)) w text size k a b c z (l.limited ∙ v) ∙ ap (λ q. str_lit q z) (default_is o x h)))
+          ap (λ q. and_then q (λ msg. from_message image p.name (refined_as r) pred msg))
+          (same_str room (default_text image f (Refinement n)) w text size k a b c z (l.limited ∙ v) ∙ ap (λ q. str_lit q z) (default_is r h)))

@@ -30,8 +30,8 @@ numbered ctx n =
     }
 
 module _ (im : Image) (self : Ctx) (s w : List ℕ) where
-  pub temp_full : self.full ≡ true → Does im 0 1 nothing take_temp (at self s w) self.temp_counter (at self s w)
-  temp_full f = stops_does nothing f adds_temp (λ x ws v l. not_both f v)
+  pub temp_full : (t : State) → t.ctx.full ≡ true → self.full ≡ true → Does im 0 1 nothing take_temp (at self s w) self.temp_counter t
+  temp_full t g f = stops_does nothing g adds_temp (λ x ws v l. not_both f v)
 
   pub temp_many : (t : State) → t.ctx.full ≡ true → 2048 < self.temp_counter → Does im 0 1 nothing take_temp (at self s w) self.temp_counter t
   temp_many t f h =

@@ -166,8 +166,3 @@ module _ (im : Image) (k : ℕ) (self : Ctx) (scratch w text : List ℕ) (f : se
             },
           ),
         )
-
-pub text_record_room : (scratch text next : List ℕ) (bytes texts : ℕ) → 186496 ≤ length scratch → bytes + length text ≤ 16384 → texts + 1 ≤ 2048 →
-    next ≡ with_text scratch bytes text → 16384 + texts * 5 + 5 ≤ length next
-text_record_room scratch text next bytes texts h few room e =
-    rw (e, text_over scratch bytes text (omega arith), length_over scratch bytes text (omega arith)) (omega arith)

@@ -1,7 +1,6 @@
 -- Entries that wait, and the lists that they become.
 -- Assumes nothing.
-use Rattle.std.proofs.Common.{◌≡◌, ℕ, suc, ◌+◌, ◌*◌, ◌<◌, ◌≤◌, true, false, List, [], ◌∷◌, ◌++◌, length, get_or, take, drop, set, sym, refl, ap, ◌∙◌, subst, ap₂, append-nil, arith, length-append, length-drop, length-set, length-take-le, get_or-drop, take-suc, take-suc-set}
-use mathlib.Core.Option.{some}
+use Rattle.std.proofs.Common.{◌≡◌, ℕ, suc, ◌+◌, ◌*◌, ◌<◌, ◌≤◌, true, false, List, [], ◌∷◌, ◌++◌, length, get_or, take, drop, set, sym, refl, ap, ◌∙◌, subst, ap₂, append-nil, arith, length-append, length-drop, length-set, length-take-le, get_or-drop, get_or-take, Fits, w16, ◌-◌, take-suc, take-suc-set}
 use Rattle.rl_spec.specs.Image.{num, Image, bytes_of, encode_records}
 use Rattle.rl_spec.specs.Make.{Context, made}
 use Rattle.rl_images.specs.Lowering.Gives.{Gives, gives, weaker}
@@ -21,8 +20,8 @@ more_over : (ws : List ℕ) {x : Context} (n : ℕ) → Over (ws ++ []) x → Ov
 more_over ws n h = record { sections = h.sections; more = rw (length-append ws (n ∷ [])) (omega (arith, h.more, length-append ws [])) }
 
 module _ (entry : ℕ) (self : Ctx) (scratch w : List ℕ) where
-  pub push_full : self.full ≡ true → Pushes entry (at self scratch w) (at self scratch w)
-  push_full f = record { pushes = λ im k ws o e. ends_full f (weaker (e.full f) (λ b x h. more_over ws b h)) }
+  pub push_full : (t : State) → t.ctx.full ≡ true → self.full ≡ true → Pushes entry (at self scratch w) t
+  push_full t g f = record { pushes = λ im k ws o e. ends_full g (weaker (e.full f) (λ b x h. more_over ws b h)) }
 
   pub push_many : (t : State) → t.ctx.full ≡ true → 4096 ≤ self.waiting → Pushes entry (at self scratch w) t
   push_many t g h =
@@ -113,7 +112,7 @@ module _ (out₀ w : List ℕ) (to first count : ℕ) (out : List ℕ) (i : ℕ)
   pub entering_room : i < count → to + i * 3 + 3 ≤ length out
   entering_room h = rw e.size (omega (arith, e.room))
 
-  pub entering_more : (next : List ℕ) (n : ℕ) → i < count → n < 65536 → n ≡ get_or w (first + i) 0 → next ≡ over out (to + i * 3) (bytes_of 3 (3 + n * 256)) →
+  entering_more : (next : List ℕ) (n : ℕ) → i < count → n < 65536 → n ≡ get_or w (first + i) 0 → next ≡ over out (to + i * 3) (bytes_of 3 (3 + n * 256)) →
       Entering out₀ w to first count next (i + 1)
   entering_more next n h small g q =
       record {
@@ -148,6 +147,23 @@ module _ (out₀ w : List ℕ) (to first count : ℕ) (out : List ℕ) (i : ℕ)
         where
           next_count : suc i ≡ i + 1
           next_count = omega arith
+
+  -- with the element of the part that the code goes through
+  pub entering_next : (next : List ℕ) → i < length (take (first + count - first) (drop first w)) → ((k : ℕ) → Fits w16 (get_or w k 0)) →
+      next ≡ over out (to + i * 3) (bytes_of 3 (3 + get_or (take (first + count - first) (drop first w)) i 0 * 256)) → Entering out₀ w to first count next (i + 1)
+  entering_next next h fits q = entering_more next _ below (subst (λ n. n < 65536) (sym element) (omega (arith, fits (first + i)))) element q
+    where
+      many : first + count - first ≡ count
+      many = omega arith
+
+      long : first + count - first ≤ length (drop first w)
+      long = rw length-drop (omega (arith, e.more))
+
+      below : i < count
+      below = omega (arith, h, many, length-take-le (first + count - first) (drop first w) long)
+
+      element : get_or (take (first + count - first) (drop first w)) i 0 ≡ get_or w (first + i) 0
+      element = get_or-take (first + count - first) (drop first w) i 0 (omega (arith, below)) ∙ get_or-drop first w i 0
 
   pub entering_all : count ≤ i → out ≡ over out₀ to (encode_records (list_records (take count (drop first w))))
   entering_all h = e.is ∙ ap (λ k. over out₀ to (encode_records (list_records (take k (drop first w))))) same

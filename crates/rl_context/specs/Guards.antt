@@ -2,8 +2,7 @@
 use Rattle.std.specs.Prelude.{◌≡◌, ℕ, ◌+◌, ◌<◌, Bool, cond, List, [], ◌∷◌, map}
 use Rattle.rl_spec.specs.declared.Clause.{Clause}
 use Rattle.rl_spec.specs.declared.Interval.{Interval}
-use Rattle.rl_spec.specs.declared.RefineOp as op
-use Rattle.rl_spec.specs.declared.RefineOperand as operand
+use Rattle.rl_spec.specs.declared.Refinement.{Refinement}
 use Rattle.rl_spec.specs.Folded.{op_of}
 use Rattle.rl_spec.specs.Schema.{fields_of}
 use Rattle.rl_spec.specs.Image.{num, Image, text_of}
@@ -87,22 +86,22 @@ refined_by im name refinement text = do
   give (s ∷ [])
 
 -- a refinement of the code
-abbrev pub refined_as : op.RefineOp → operand.RefineOperand → ParamRefinement ℕ
-refined_as o x = record { op = op_of o; operand = operand_of x }
+abbrev pub refined_as : Refinement → ParamRefinement ℕ
+refined_as r = record { op = op_of r.op; operand = operand_of r.operand }
 
 -- an operand of the code, once its text is made
 pub record OperandMade (im : Image) (m : Make (ℕ × ℕ)) (s : State) (o : Operand) (t : State) : Type 0 where
-  pub does : Does im 0 0 nothing m s (o.kind, o.word) t
-  pub leaf : Leaf o.kind
-  pub row : codes o.row ≡ fields_of o.kind
+  pub does : Does im 0 0 nothing m s (o.kind.number, o.word) t
+  pub leaf : Leaf o.kind.number
+  pub row : codes o.kind.row ≡ fields_of o.kind.number
 
 -- a predicate of the code
 pub record PredicateMade (im image : Image) (name : ℕ) (refinement : ParamRefinement ℕ) (s : State) (p : Predicate) (t : State) : Type 0 where
   pub does : Makes im (refine_predicate image name refinement) s p.index t
-  pub parts : Does im 0 0 nothing (predicate_of image name refinement) s (p.index, ((p.kind, p.word), p.text)) t
+  pub parts : Does im 0 0 nothing (predicate_of image name refinement) s (p.index, ((p.right.kind.number, p.right.word), p.text)) t
   pub token : p.token ≡ token_of refinement.op
-  pub leaf : Leaf p.kind
-  pub row : codes p.row ≡ fields_of p.kind
+  pub leaf : Leaf p.right.kind.number
+  pub row : codes p.right.kind.row ≡ fields_of p.right.kind.number
 
 -- the guard of a function's parameter, by its number
 abbrev pub guard_for : Image → Param ℕ → Make (List ℕ)

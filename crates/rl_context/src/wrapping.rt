@@ -1,6 +1,6 @@
 // Wrapped returns: rl-resolver's wrap_return. The statements wait then.
 ghost use Rattle.std.specs.Prelude.{◌≡◌, cond, []};
-ghost use Rattle.rl_spec.specs.Found.{image_found};
+ghost use Rattle.rl_records.specs.Found.{found, found_with};
 ghost use Rattle.rl_spec.specs.Image.{Image};
 ghost use Rattle.rl_spec.specs.Make.{give};
 ghost use Rattle.rl_spec.specs.Lower.{skip_err, wrap_as, wrap_return};
@@ -10,7 +10,8 @@ ghost use Rattle.rl_context.specs.Guards.{Makes, Gathers, inner_of, clauses_in, 
 
 use crate::{Ctx, Made};
 use rl_bytes::part;
-use rl_spec::{Counts, Interval};
+use rl_records::ImageRef;
+use rl_spec::Interval;
 use rl_text_out::{put_number, put_text};
 
 impl Ctx {
@@ -19,10 +20,10 @@ impl Ctx {
         ensures { (im : Image) → Gathers im 0 (skip_err temp.now) (at self scratch.old waiting.old) (at result scratch.new waiting.new) }
     {
         let node = self.ident(scratch, temp);
-        let check = node.ctx.is_err_call(scratch, waiting, node.index);
+        let check = node.ctx.is_err_call(scratch, waiting, node.made);
         let last = check.ctx.return_of(scratch, temp);
-        let skip = last.ctx.only_if(scratch, waiting, check.index, last.index);
-        let index = skip.index;
+        let skip = last.ctx.only_if(scratch, waiting, check.made, last.made);
+        let index = skip.made;
         skip.ctx.push(waiting, index)
     }
 
@@ -37,12 +38,18 @@ impl Ctx {
     }
 
     // The value that `ret` names.
-    fn inner_of(self, scratch: &mut [u8], waiting: &mut [u16], temp: &[u8], is_result: bool) -> Made
-        ensures { (im : Image) → Makes im (inner_of temp.now is_result) (at self scratch.old waiting.old) result.index (at result.ctx scratch.new waiting.new) }
+    fn inner_of(
+        self,
+        scratch: &mut [u8],
+        waiting: &mut [u16],
+        temp: &[u8],
+        is_result: bool,
+    ) -> Made<u16>
+        ensures { (im : Image) → Makes im (inner_of temp.now is_result) (at self scratch.old waiting.old) result.made (at result.ctx scratch.new waiting.new) }
     {
         let node = self.ident(scratch, temp);
         if is_result {
-            let index = node.index;
+            let index = node.made;
             return node.ctx.unwrap_call(scratch, waiting, index);
         }
         node
@@ -51,9 +58,7 @@ impl Ctx {
     // Under the temporary's name.
     fn wrap_as(
         self,
-        image: &[u8],
-        starts: &[u16],
-        counts: Counts,
+        image: ImageRef,
         rows: &[u64],
         scratch: &mut [u8],
         waiting: &mut [u16],
@@ -62,18 +67,16 @@ impl Ctx {
         value: u16,
         ensured: Interval,
     ) -> Ctx
-        ensures { rows.now ≡ table → ConditionsIn (image_found image.now starts.now counts) ensured counts.expressions → Gathers (image_found image.now starts.now counts) 1 (wrap_as temp.now is_result value (clauses_in (image_found image.now starts.now counts) ensured)) (at self scratch.old waiting.old) (at result scratch.new waiting.new) }
+        ensures { rows.now ≡ table → ConditionsIn (found image.entry) ensured image.entry.counts.expressions → Gathers (found image.entry) 1 (wrap_as temp.now is_result value (clauses_in (found image.entry) ensured)) (at self scratch.old waiting.old) (at result scratch.new waiting.new) }
     {
         let dec = self.declare(scratch, temp, value);
-        let declared = dec.ctx.push(waiting, dec.index);
+        let declared = dec.ctx.push(waiting, dec.made);
         let skipped = declared.skip_of(scratch, waiting, temp, is_result);
         let inner = skipped.inner_of(scratch, waiting, temp, is_result);
-        let ret = inner.ctx.declare(scratch, b"ret", inner.index);
-        let named = ret.ctx.push(waiting, ret.index);
+        let ret = inner.ctx.declare(scratch, b"ret", inner.made);
+        let named = ret.ctx.push(waiting, ret.made);
         let guarded = named.clause_guards(
             image,
-            starts,
-            counts,
             rows,
             scratch,
             waiting,
@@ -81,38 +84,28 @@ impl Ctx {
             ensured,
         );
         let last = guarded.return_of(scratch, temp);
-        last.ctx.push(waiting, last.index)
+        last.ctx.push(waiting, last.made)
     }
 
     pub fn wrap_return(
         self,
-        image: &[u8],
-        starts: &[u16],
-        counts: Counts,
+        image: ImageRef,
         rows: &[u64],
         scratch: &mut [u8],
         waiting: &mut [u16],
         value: u16,
         ensured: Interval,
     ) -> Ctx
-        ensures { rows.now ≡ table → ConditionsIn (image_found image.now starts.now counts) ensured counts.expressions → Gathers (image_found image.now starts.now counts) 0 (wrap_return value (clauses_in (image_found image.now starts.now counts) ensured)) (at self scratch.old waiting.old) (at result scratch.new waiting.new) }
+        ensures { rows.now ≡ table → ConditionsIn (found image.entry) ensured image.entry.counts.expressions → Gathers (found image.entry) 0 (wrap_return value (clauses_in (found image.entry) ensured)) (at self scratch.old waiting.old) (at result scratch.new waiting.new) }
     {
+        let n = self.take_temp();
         let mut room = [0u8; 33];
         let start = put_text(&mut room, 0, b"__ensure_ret_");
-        let end = put_number(&mut room, start, self.temp_counter as u64);
-        let taken = self.take_temp();
-        let is_result = taken.is_result;
-        taken.wrap_as(
-            image,
-            starts,
-            counts,
-            rows,
-            scratch,
-            waiting,
-            part(&room, 0, end),
-            is_result,
-            value,
-            ensured,
+        let end = put_number(&mut room, start, n.made as u64);
+        let temp = part(&room, 0, end);
+        let is_result = n.ctx.is_result;
+        n.ctx.wrap_as(
+            image, rows, scratch, waiting, temp, is_result, value, ensured,
         )
     }
 }

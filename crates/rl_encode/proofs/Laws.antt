@@ -58,3 +58,5 @@ module _ (out₀ : List ℕ) (at n width i rest : ℕ) (out : List ℕ) where
     where
       z : 0 ≡ width - i
       z = omega arith
+
+pub ruleset number_laws = (putting_none, putting_more, putting_length)

@@ -145,3 +145,5 @@ module _ (out₀ : List ℕ) (at kind row : ℕ) (ws out : List ℕ) (room : at 
 
 pub record_ends : (at n r : ℕ) → r ≡ at + 1 + n → r ≡ at + suc n
 record_ends at n r h = omega arith
+
+pub ruleset record_laws = (fields_room, record_put, record_ends)

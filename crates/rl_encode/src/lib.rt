@@ -10,16 +10,15 @@ use rl_bytes::get_or;
 use rl_schema::{sort_of, width_of};
 
 // A number in `width` bytes, little-endian.
+#[tactic(auto, using(crate::proofs::Laws::number_laws))]
 pub fn put_number(out: &mut [u8], at: usize, n: u64, width: usize)
     requires { at + width ≤ length out.old }
     ensures { out.new ≡ over out.old at (bytes_of width n) }
 {
     let mut rest = n;
-    let mut i = 0;
-    while i < width {
+    for i in 0..width {
         out[at + i] = (rest % 256) as u8;
-        rest = rest / 256;
-        i += 1;
+        rest /= 256;
     }
 }
 
@@ -32,17 +31,19 @@ fn put_fields(out: &mut [u8], at: usize, row: u64, words: &[u64]) -> usize
     let mut rest = row;
     let mut place = at;
     let mut j = 0;
+    // Not a `for` over the bytes of the row: it ends where its rest is 0, and a byte 0 before that is a code.
     while rest != 0 {
         let width = width_of(sort_of((rest % 256) as u8));
         put_number(out, place, get_or(words, j, 0), width);
         place += width;
-        rest = rest / 256;
+        rest /= 256;
         j += 1;
     }
     place
 }
 
 // A record of a kind, whose row of the schema is given; answers the place after it.
+#[tactic(auto, using(crate::proofs::Records::record_laws))]
 pub fn put_record(out: &mut [u8], at: usize, kind: u8, row: u64, words: &[u64]) -> usize
     requires { at + length (kind ∷ encode_fields (codes row) (word_fields (codes row) words.now 0)) ≤ length out.old }
     ensures value { result ≡ at + length (kind ∷ encode_fields (codes row) (word_fields (codes row) words.now 0)) }

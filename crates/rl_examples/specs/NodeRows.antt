@@ -6,7 +6,7 @@ use Rattle.std.specs.Float.Ieee as F
 use Rattle.std.specs.Float.{binary64}
 use Rattle.rl_spec.specs.declared.ConstVal.{ConstVal}
 use Rattle.rl_spec.specs.declared.ConstVal.TheVariants.{Int, Float, Str, Bool as Truth}
-use Rattle.rl_spec.specs.Answers.{Folded, ran, RunAnswer}
+use Rattle.rl_spec.specs.Answers.{Folded, RunAnswer}
 use Rattle.rl_spec.specs.declared.Outcome.{Outcome}
 use Rattle.rl_spec.specs.declared.Outcome.TheVariants.{Returned, Stopped, Fault, Spent}
 use Rattle.rl_spec.specs.declared.Plain.{Plain}

@@ -1,17 +1,15 @@
--- What the head of a node means, and one law for each way out of `const_eval`.
+-- What a node folds to, by its form, and one law for each way out of `const_eval`.
 -- Assumes nothing.
-use Prim.Native.Nat.{ℕ, ◌<◌}
-use mathlib.Core.Path.{◌≡◌, refl, sym, ap, subst, ◌∙◌}
+use Prim.Native.Nat.{ℕ, ◌<◌, ◌≤◌}
+use mathlib.Core.Path.{◌≡◌, refl, sym, ap, ◌∙◌}
 use mathlib.Core.List.{List}
 use mathlib.Core.Option.{Option, none, some}
 use borrow.Author.Tests.{lt-ltb, le-ltb}
-use Rattle.rl_laws.specs.Tests.{by_ltb}
 use Rattle.rl_laws.specs.Descend.{tree_is}
 use Rattle.rl_spec.specs.Answers.{Folded}
 use Rattle.std.specs.Prelude.{None, Some}
 use Rattle.rl_spec.specs.declared.ConstVal.{ConstVal}
 use Rattle.rl_spec.specs.declared.ConstVal.TheVariants as kind
-use Rattle.rl_spec.specs.declared.Counts.{Counts}
 use Rattle.rl_spec.specs.declared.Form.{Form}
 use Rattle.rl_spec.specs.declared.Form.TheVariants as form
 use Rattle.rl_spec.specs.Image.{Image, text_of}
@@ -19,14 +17,10 @@ use Rattle.rl_spec.specs.Values as value
 use Rattle.rl_spec.specs.Folded.{as_const, as_folded, const_of, folded_of}
 use Rattle.rl_spec.specs.Tree.{other, below, form_of, tree_by, expr_tree}
 use Rattle.rl_spec.specs.Fold.{Binding, unary_folded, binary_folded, const_eval}
-use Rattle.rl_spec.specs.Found.{image_found}
-use Rattle.rl_memory.specs.declared.Recalled.{Recalled}
-use Rattle.rl_memory.specs.Memory.{recall_of, Right}
+use Rattle.rl_memory.specs.Memory.{Right}
 use Rattle.rl_names.specs.Names.{lookup_in}
 use Rattle.rl_names.proofs.Laws.{walk_is}
-use Rattle.rl_fold.specs.declared.Head.{Head}
-use Rattle.rl_fold.specs.declared.Head.TheVariants.{Done, Grouping, Unary, Binary}
-use Rattle.rl_fold.specs.Folding.{folded_at, head_of, Names, Folds}
+use Rattle.rl_fold.specs.Folding.{folded_at, Names, Folds}
 
 -- ---- the two accounts of a value
 
@@ -56,139 +50,104 @@ from_forth v o e = ap folded_of e ∙ folded_forth o
 pub from_back : (v : Folded) (o : Option (value.ConstVal ℕ)) → folded_of v ≡ o → v ≡ as_folded o
 from_back v o e = sym (folded_back v) ∙ ap as_folded e
 
--- ---- the parts of a head come before the node
-
-abbrev Falls : ℕ → Head → Type 0
-Falls n (Done v) = Unit {0}
-Falls n (Grouping e) = e < n
-Falls n (Unary op e) = e < n
-Falls n (Binary l op r) = (l < n) × (r < n)
-
-module _ (cs w : List ℕ) (count n : ℕ) where
-  head_falls : (f : Form) → Falls n (head_of cs w count n f)
-  unfolding head_of
-  head_falls form.Null = tt
-  head_falls (form.Literal v) = tt
-  head_falls (form.Identifier t) = tt
-  head_falls (form.Unary op e) = by_ltb e n (λ h. rw (lt-ltb e n h) h) (λ h. rw (le-ltb e n h) tt)
-  head_falls (form.Binary l op r) =
-      by_ltb l n (λ h. by_ltb r n (λ k. rw (lt-ltb l n h, lt-ltb r n k) (h, k)) (λ k. rw (lt-ltb l n h, le-ltb r n k) tt))
-      (λ h. rw (le-ltb l n h) tt)
-  head_falls (form.Grouping e) = by_ltb e n (λ h. rw (lt-ltb e n h) h) (λ h. rw (le-ltb e n h) tt)
-  head_falls (form.Assign x e) = tt
-  head_falls (form.OkLiteral e) = tt
-  head_falls (form.ErrLiteral e) = tt
-  head_falls (form.IsErr e) = tt
-  head_falls (form.ResultUnwrap e) = tt
-  head_falls form.Other = tt
-
-  module _ (f : Form) (h : Head) (e : h ≡ head_of cs w count n f) where
-    falls : (g : Head) → h ≡ g → Falls n g
-    falls g q = subst (Falls n) (sym e ∙ q) (head_falls f)
-
-    -- t is the measure at the node
-    module _ (t : ℕ) (z : n ≡ t) where
-      below_node : (x : ℕ) → x < n → x < t
-      below_node x l = subst (λ (k : ℕ). x < k) z l
-
-      pub falls_grouping : (x : ℕ) → h ≡ Grouping x → x < t
-      falls_grouping x q = below_node x (falls (Grouping x) q)
-
-      pub falls_unary : (op x : ℕ) → h ≡ Unary op x → x < t
-      falls_unary op x q = below_node x (falls (Unary op x) q)
-
-      pub falls_left : (l op r : ℕ) → h ≡ Binary l op r → l < t
-      falls_left l op r q = below_node l (falls (Binary l op r) q).0
-
-      pub falls_right : (l op r : ℕ) → h ≡ Binary l op r → r < t
-      falls_right l op r q = below_node r (falls (Binary l op r) q).1
-
--- ---- what a head means: the value that its node folds to
+-- ---- what a node folds to, by its form
 
 module _ (im : Image) (env : List (Binding ℕ)) where
   abbrev value_at : ℕ → Option (value.ConstVal ℕ)
   value_at n = const_eval (text_of im) env (expr_tree im n)
 
-  abbrev Means : Head → Folded → Type 0
-  Means (Done v) x = v ≡ x
-  Means (Grouping e) x = folded_at im env e ≡ x
-  Means (Unary op e) x = as_folded (unary_folded op (value_at e)) ≡ x
-  Means (Binary l op r) x = as_folded (binary_folded (text_of im) op (value_at l) (value_at r)) ≡ x
+  abbrev made : ℕ → Form → Folded
+  made n f = as_folded (const_eval (text_of im) env (tree_by im f (below n (λ _. other) (expr_tree im))))
 
-  module _ (cs w : List ℕ) (count : ℕ) (nm : Names im env cs w count) (n : ℕ) where
-    abbrev made : Form → Folded
-    made f = as_folded (const_eval (text_of im) env (tree_by im f (below n (λ _. other) (expr_tree im))))
-
-    head_means : (f : Form) → Means (head_of cs w count n f) (made f)
-    unfolding head_of const_eval unary_folded binary_folded
-    head_means form.Null = refl
-    head_means (form.Literal v) = sym (folded_back v)
-    head_means (form.Identifier t) = ap (lookup_in cs w t) (sym nm.counted) ∙ walk_is (text_of im) cs w t env nm.standing
-    head_means (form.Unary op e) =
-        by_ltb e n (λ h. rw (lt-ltb e n h) refl) (λ h. rw (le-ltb e n h) refl)
-    head_means (form.Binary l op r) =
-        by_ltb l n
-        (λ h. by_ltb r n (λ k. rw (lt-ltb l n h, lt-ltb r n k) refl) (λ k. rw (lt-ltb l n h, le-ltb r n k) (right_missing op (value_at l))))
-        (λ h. rw (le-ltb l n h) refl)
-      where
-        right_missing : (op : ℕ) (o : Option (value.ConstVal ℕ)) → None ≡ as_folded (binary_folded (text_of im) op o none)
-        right_missing op none = refl
-        right_missing op (some x) = refl
-    head_means (form.Grouping e) =
-        by_ltb e n (λ h. rw (lt-ltb e n h) refl) (λ h. rw (le-ltb e n h) refl)
-    head_means (form.Assign x e) = refl
-    head_means (form.OkLiteral e) = refl
-    head_means (form.ErrLiteral e) = refl
-    head_means (form.IsErr e) = refl
-    head_means (form.ResultUnwrap e) = refl
-    head_means form.Other = refl
-
-    pub means : (h g : Head) → h ≡ head_of cs w count n (form_of im n) → h ≡ g → Means g (folded_at im env n)
-    means h g e q =
-        subst (λ k. Means k (folded_at im env n)) (sym e ∙ q)
-        (subst (λ t. Means (head_of cs w count n (form_of im n)) (as_folded (const_eval (text_of im) env t))) (sym (tree_is im n)) (head_means (form_of im n)))
+  node : (n : ℕ) (f g : Form) → f ≡ form_of im n → f ≡ g → made n g ≡ folded_at im env n
+  node n f g e q = ap (made n) (sym q ∙ e) ∙ ap (λ t. as_folded (const_eval (text_of im) env t)) (sym (tree_is im n))
 
 -- ---- the ways out
 
-abbrev Keeps : ℕ → ℕ → Folded → List ℕ → List ℕ → Type 0
-Keeps k n v m out = (f : ℕ → Folded) → Right f k m → v ≡ f n → Right f k out
-
 module _ (im : Image) (cs w : List ℕ) (count n : ℕ) (m : List ℕ) where
-  pub fold_known : (seen : Recalled) (v : Folded) → seen ≡ recall_of m count n → seen ≡ Some v → Folds im cs w count n m v m
-  fold_known seen v e q env nm right = (right.known n v (sym e ∙ q), right)
+  pub remembered : (v r : Folded) (mid out : List ℕ) → Folds im cs w count n m v mid → r ≡ v → ((f : ℕ → Folded) → Right f count mid → v ≡ f n → Right f count out) → Folds im cs w count n m r out
+  remembered v r mid out c p k env nm right = let a = c env nm right in (p ∙ a.0, k (folded_at im env) a.1 a.0)
 
-  module _ (f : Form) (g : f ≡ form_of im n) (h : Head) (e : h ≡ head_of cs w count n f) where
-    own : h ≡ head_of cs w count n (form_of im n)
-    own = e ∙ ap (head_of cs w count n) g
+  module _ (f : Form) (e : f ≡ form_of im n) where
+    -- as a node that needs no other
+    alone : (g : Form) → f ≡ g → (v : Folded) → ((env : List (Binding ℕ)) → Names im env cs w count → v ≡ made im env n g) → Folds im cs w count n m v m
+    alone g q v k env nm right = (k env nm ∙ node im env n f g e q, right)
 
-    pub fold_done : (v r : Folded) (out : List ℕ) → h ≡ Done v → r ≡ v → Keeps count n v m out → Folds im cs w count n m r out
-    fold_done v r out q p k env nm right =
-        let x : v ≡ folded_at im env n = means im env cs w count nm n h (Done v) own q in
-        (p ∙ x, k (folded_at im env) right x)
+    pub at_literal : (v : Folded) → f ≡ form.Literal v → Folds im cs w count n m v m
+    unfolding const_eval
+    at_literal v q = alone (form.Literal v) q v (λ env nm. sym (folded_back v))
 
-    pub fold_grouping : (x : ℕ) (v r : Folded) (mid out : List ℕ) → h ≡ Grouping x → Folds im cs w count x m v mid → r ≡ v → Keeps count n v mid out → Folds im cs w count n m r out
-    fold_grouping x v r mid out q c p k env nm right =
+    pub at_identifier : (t : ℕ) (v : Folded) → f ≡ form.Identifier t → v ≡ lookup_in cs w t count → Folds im cs w count n m v m
+    unfolding const_eval
+    at_identifier t v q g =
+        alone (form.Identifier t) q v
+        (λ env nm. g ∙ ap (lookup_in cs w t) (sym nm.counted) ∙ walk_is (text_of im) cs w t env nm.standing)
+
+    pub at_grouping : (x : ℕ) (v : Folded) (mid : List ℕ) → f ≡ form.Grouping x → x < n → Folds im cs w count x m v mid → Folds im cs w count n m v mid
+    unfolding const_eval
+    at_grouping x v mid q h c env nm right =
         let a = c env nm right in
-        let y : v ≡ folded_at im env n = a.0 ∙ means im env cs w count nm n h (Grouping x) own q in
-        (p ∙ y, k (folded_at im env) a.1 y)
+        let s : folded_at im env x ≡ made im env n (form.Grouping x) = rw (lt-ltb x n h) refl in
+        (a.0 ∙ s ∙ node im env n f (form.Grouping x) e q, a.1)
 
-    pub fold_unary : (op x : ℕ) (v u r : Folded) (mid out : List ℕ) → h ≡ Unary op x → Folds im cs w count x m v mid → folded_of u ≡ unary_folded op (folded_of v) → r ≡ u → Keeps count n u mid out → Folds im cs w count n m r out
-    fold_unary op x v u r mid out q c z p k env nm right =
+    pub at_unary : (op x : ℕ) (v u : Folded) (mid : List ℕ) → f ≡ form.Unary op x → x < n → Folds im cs w count x m v mid → folded_of u ≡ unary_folded op (folded_of v) → Folds im cs w count n m u mid
+    unfolding const_eval
+    at_unary op x v u mid q h c z env nm right =
         let a = c env nm right in
         let b : folded_of v ≡ value_at im env x = from_forth v _ a.0 in
-        let y : u ≡ folded_at im env n = from_back u _ (z ∙ ap (unary_folded op) b) ∙ means im env cs w count nm n h (Unary op x) own q in
-        (p ∙ y, k (folded_at im env) a.1 y)
+        let s : as_folded (unary_folded op (value_at im env x)) ≡ made im env n (form.Unary op x) = rw (lt-ltb x n h) refl in
+        (from_back u _ (z ∙ ap (unary_folded op) b) ∙ s ∙ node im env n f (form.Unary op x) e q, a.1)
 
-    fold_both : (l op r : ℕ) (a b u out : Folded) (mid next last : List ℕ) → h ≡ Binary l op r → Folds im cs w count l m a mid → Folds im cs w count r mid b next → folded_of u ≡ binary_folded (text_of im) op (folded_of a) (folded_of b) → out ≡ u → Keeps count n u next last → Folds im cs w count n m out last
-    fold_both l op r a b u out mid next last q c d z p k env nm right =
+    pub at_binary : (l op r : ℕ) (a b u : Folded) (mid last : List ℕ) → f ≡ form.Binary l op r → l < n → r < n → Folds im cs w count l m a mid → Folds im cs w count r mid b last → folded_of u ≡ binary_folded (text_of im) op (folded_of a) (folded_of b) → Folds im cs w count n m u last
+    unfolding const_eval
+    at_binary l op r a b u mid last q h k c d z env nm right =
         let x = c env nm right in
         let y = d env nm x.1 in
-        let s : folded_of a ≡ value_at im env l = from_forth a _ x.0 in
-        let t : folded_of b ≡ value_at im env r = from_forth b _ y.0 in
-        let v : u ≡ folded_at im env n = from_back u (binary_folded (text_of im) op (value_at im env l) (value_at im env r)) (z ∙ rw (s, t) refl) ∙ means im env cs w count nm n h (Binary l op r) own q in
-        (p ∙ v, k (folded_at im env) y.1 v)
+        let i : folded_of a ≡ value_at im env l = from_forth a _ x.0 in
+        let j : folded_of b ≡ value_at im env r = from_forth b _ y.0 in
+        let s : as_folded (binary_folded (text_of im) op (value_at im env l) (value_at im env r)) ≡ made im env n (form.Binary l op r) = rw (lt-ltb l n h, lt-ltb r n k) refl in
+        (from_back u (binary_folded (text_of im) op (value_at im env l) (value_at im env r)) (z ∙ rw (i, j) refl) ∙ s ∙ node im env n f (form.Binary l op r) e q, y.1)
 
-module _ (s p : List ℕ) (c : Counts) (cs w : List ℕ) (count n : ℕ) (m : List ℕ) (f : Form) (g : f ≡ form_of (image_found s p c) n) (h : Head) (e : h ≡ head_of cs w count n f) where
-  pub fold_binary : (l op r : ℕ) (a b u out : Folded) (mid next last : List ℕ) → h ≡ Binary l op r → Folds (image_found s p c) cs w count l m a mid → Folds (image_found s p c) cs w count r mid b next → ((q : List ℕ) → folded_of u ≡ binary_folded (text_of (image_found s q c)) op (folded_of a) (folded_of b)) → out ≡ u → Keeps count n u next last → Folds (image_found s p c) cs w count n m out last
-  fold_binary l op r a b u out mid next last q x y z k o =
-      fold_both (image_found s p c) cs w count n m f g h e l op r a b u out mid next last q x y (z p) k o
+    -- ---- a part that is not before the node has no value
+
+    pub late_grouping : (x : ℕ) → f ≡ form.Grouping x → n ≤ x → Folds im cs w count n m None m
+    unfolding const_eval
+    late_grouping x q h = alone (form.Grouping x) q None (λ env nm. rw (le-ltb x n h) refl)
+
+    pub late_unary : (op x : ℕ) → f ≡ form.Unary op x → n ≤ x → Folds im cs w count n m None m
+    unfolding const_eval unary_folded
+    late_unary op x q h = alone (form.Unary op x) q None (λ env nm. rw (le-ltb x n h) refl)
+
+    pub late_left : (l op r : ℕ) → f ≡ form.Binary l op r → n ≤ l → Folds im cs w count n m None m
+    unfolding const_eval binary_folded
+    late_left l op r q h = alone (form.Binary l op r) q None (λ env nm. rw (le-ltb l n h) refl)
+
+    pub late_right : (l op r : ℕ) → f ≡ form.Binary l op r → n ≤ r → Folds im cs w count n m None m
+    unfolding const_eval binary_folded
+    late_right l op r q h =
+        alone (form.Binary l op r) q None
+        (λ env nm. rw (le-ltb r n h) (missing env (const_eval (text_of im) env (below n (λ _. other) (expr_tree im) l))))
+      where
+        missing : (env : List (Binding ℕ)) (o : Option (value.ConstVal ℕ)) → None ≡ as_folded (binary_folded (text_of im) op o none)
+        missing env none = refl
+        missing env (some x) = refl
+
+    -- ---- the other forms have no value
+
+    none_else : (g : Form) → f ≡ g → ((v : Folded) → g ≡ form.Literal v → ⊥) → ((t : ℕ) → g ≡ form.Identifier t → ⊥) → ((x : ℕ) → g ≡ form.Grouping x → ⊥) → ((op x : ℕ) → g ≡ form.Unary op x → ⊥) → ((l op r : ℕ) → g ≡ form.Binary l op r → ⊥) → Folds im cs w count n m None m
+    unfolding const_eval
+    none_else form.Null q a b c d h = alone form.Null q None (λ env nm. refl)
+    none_else (form.Literal v) q a b c d h = absurd (a v refl)
+    none_else (form.Identifier t) q a b c d h = absurd (b t refl)
+    none_else (form.Unary op x) q a b c d h = absurd (d op x refl)
+    none_else (form.Binary l op r) q a b c d h = absurd (h l op r refl)
+    none_else (form.Grouping x) q a b c d h = absurd (c x refl)
+    none_else (form.Assign x y) q a b c d h = alone (form.Assign x y) q None (λ env nm. refl)
+    none_else (form.OkLiteral x) q a b c d h = alone (form.OkLiteral x) q None (λ env nm. refl)
+    none_else (form.ErrLiteral x) q a b c d h = alone (form.ErrLiteral x) q None (λ env nm. refl)
+    none_else (form.IsErr x) q a b c d h = alone (form.IsErr x) q None (λ env nm. refl)
+    none_else (form.ResultUnwrap x) q a b c d h = alone (form.ResultUnwrap x) q None (λ env nm. refl)
+    none_else form.Other q a b c d h = alone form.Other q None (λ env nm. refl)
+
+    pub at_other : ((v : Folded) → f ≡ form.Literal v → ⊥) → ((t : ℕ) → f ≡ form.Identifier t → ⊥) → ((x : ℕ) → f ≡ form.Grouping x → ⊥) → ((op x : ℕ) → f ≡ form.Unary op x → ⊥) → ((l op r : ℕ) → f ≡ form.Binary l op r → ⊥) → Folds im cs w count n m None m
+    at_other = none_else f refl

@@ -1,45 +1,16 @@
 -- What stands when a node is folded under names with a memory. Assumes nothing.
-use Rattle.std.specs.Prelude.{ℕ, ◌≡◌, cond, List, ltb, length, None}
+use Rattle.std.specs.Prelude.{ℕ, ◌≡◌, List, length}
 use Rattle.rl_spec.specs.Answers.{Folded}
-use Rattle.rl_spec.specs.declared.Form.{Form}
-use Rattle.rl_spec.specs.declared.Form.TheVariants as form
 use Rattle.rl_spec.specs.Image.{Image, text_of}
 use Rattle.rl_spec.specs.Folded.{as_folded}
 use Rattle.rl_spec.specs.Tree.{expr_tree}
 use Rattle.rl_spec.specs.Fold.{Binding, const_eval}
 use Rattle.rl_memory.specs.Memory.{Right}
-use Rattle.rl_names.specs.Names.{lookup_in, Standing}
-use Rattle.rl_fold.specs.declared.Head.{Head}
-use Rattle.rl_fold.specs.declared.Head.TheVariants.{Done, Grouping, Unary, Binary}
+use Rattle.rl_names.specs.Names.{Standing}
 
 -- what a node folds to
 abbrev pub folded_at : Image → List (Binding ℕ) → ℕ → Folded
 folded_at im env n = as_folded (const_eval (text_of im) env (expr_tree im n))
-
--- ---- what folding a node needs, by its form; a part that is not before the node has no value
-
-abbrev pub unary_head : ℕ → ℕ → ℕ → Head
-unary_head n op e = cond (ltb e n) (Unary op e) (Done None)
-
-abbrev pub binary_head : ℕ → ℕ → ℕ → ℕ → Head
-binary_head n l op r = cond (ltb l n) (cond (ltb r n) (Binary l op r) (Done None)) (Done None)
-
-abbrev pub grouping_head : ℕ → ℕ → Head
-grouping_head n e = cond (ltb e n) (Grouping e) (Done None)
-
-unfoldable pub head_of : List ℕ → List ℕ → ℕ → ℕ → Form → Head
-head_of cs w count n form.Null = Done None
-head_of cs w count n (form.Literal v) = Done v
-head_of cs w count n (form.Identifier t) = Done (lookup_in cs w t count)
-head_of cs w count n (form.Unary op e) = unary_head n op e
-head_of cs w count n (form.Binary l op r) = binary_head n l op r
-head_of cs w count n (form.Grouping e) = grouping_head n e
-head_of cs w count n (form.Assign x e) = Done None
-head_of cs w count n (form.OkLiteral e) = Done None
-head_of cs w count n (form.ErrLiteral e) = Done None
-head_of cs w count n (form.IsErr e) = Done None
-head_of cs w count n (form.ResultUnwrap e) = Done None
-head_of cs w count n form.Other = Done None
 
 -- ---- folding
 

@@ -1,5 +1,5 @@
 -- Answers that are the same have the same parts.
-use Rattle.std.specs.Prelude.{ℕ, ◌≡◌, Result}
+use Rattle.std.specs.Prelude.{ℕ, ◌≡◌}
 use Rattle.std.proofs.Common.{ap}
 use Rattle.rl_spec.specs.declared.Accepted.{Accepted}
 use Rattle.rl_spec.specs.declared.ArenaNo.{ArenaNo}

@@ -1,3 +1,5 @@
+-- ---- answers
+pub mod AnswerLaws
 -- ---- tests, ranges, an index or none
 pub mod Tests
 pub mod Within
@@ -10,4 +12,3 @@ pub mod Descend
 pub mod Heights
 -- ---- the steps of a run
 pub mod Steps
-pub mod AnswerLaws

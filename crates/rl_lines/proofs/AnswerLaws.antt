@@ -1,8 +1,7 @@
 -- The ways out of `text` and `message`. Assumes nothing.
 use Prim.Native.Nat.{ℕ, ◌≤◌, ◌<◌}
-use mathlib.Core.Path.{◌≡◌, refl, sym, ap, subst, ◌∙◌}
-use mathlib.Core.List.{List, ◌++◌}
-use native.Mathlib.Omega.{arith}
+use mathlib.Core.Path.{◌≡◌, refl, sym, ap, ◌∙◌}
+use mathlib.Core.List.{List}
 use lib.ListN.{length, replicate}
 use borrow.Author.Tests.{lt-ltb, le-ltb}
 use Rattle.rl_spec.specs.Answers.{Answer, accepted, refused, MessageAnswer, TextAnswer}
@@ -33,9 +32,6 @@ module _ (s : List ℕ) (k : ℕ) (a : Answer) (e : a ≡ answer_of s k) where
     text_work x f w g = g ∙ ap (λ y. work_unless (text_number y) s k) (sym f)
 
     module _ (q : Cause) (n : ℕ) (f : a ≡ refused q n) where
-      pub text_unread : refused q n ≡ text_for s k t
-      text_unread = sym (text_by_lem (refused q n) f)
-
       pub text_unread_work : (w : List ℕ) → w ≡ work_of s k → w ≡ work_unless (text_number (text_for s k t)) s k
       text_unread_work w g = text_work (refused q n) (text_by_lem _ f) w (g ∙ refused_work s k q n (sym e ∙ f) ∙ zeros_unless q s k)
 
@@ -43,9 +39,6 @@ module _ (s : List ℕ) (k : ℕ) (a : Answer) (e : a ≡ answer_of s k) where
       module _ (h : c.texts ≤ t) where
         text_none : text_for s k t ≡ refused NoSuchText 0
         text_none = text_by_lem _ f ∙ rw (le-ltb t c.texts h) refl
-
-        pub text_missing : refused NoSuchText 0 ≡ text_for s k t
-        text_missing = sym text_none
 
         pub text_missing_work : (v w : List ℕ) → length v ≡ k → w ≡ replicate (length v) 0 → w ≡ work_unless (text_number (text_for s k t)) s k
         text_missing_work v w n z = text_work _ text_none w (z ∙ ap (λ (i : ℕ). replicate i 0) n ∙ zeros_unless NoSuchText s k)
@@ -78,9 +71,6 @@ module _ (s : List ℕ) (k : ℕ) (a : Answer) (e : a ≡ answer_of s k) where
       message_bytes_lem o g = g ∙ ap (message_bytes s call number) (sym f)
 
     module _ (q : Cause) (n : ℕ) (f : a ≡ refused q n) where
-      pub message_unread : refused q n ≡ message_answer s k call number
-      message_unread = sym (message_by_lem (refused q n) f)
-
       pub message_unread_out : (m : ℕ) (o : List ℕ) → m ≡ 65535 → o ≡ replicate m 0 → o ≡ message_out s k call number
       message_unread_out m o l z = message_bytes_lem _ (message_by_lem _ f) o (z ∙ ap (λ (i : ℕ). replicate i 0) l)
 
@@ -91,9 +81,6 @@ module _ (s : List ℕ) (k : ℕ) (a : Answer) (e : a ≡ answer_of s k) where
       module _ (h : c.calls ≤ call) where
         message_none : message_answer s k call number ≡ refused NoSuchCall 0
         message_none = message_by_lem _ f ∙ rw (le-ltb call c.calls h) refl
-
-        pub message_missing : refused NoSuchCall 0 ≡ message_answer s k call number
-        message_missing = sym message_none
 
         pub message_missing_out : (m : ℕ) (o : List ℕ) → m ≡ 65535 → o ≡ replicate m 0 → o ≡ message_out s k call number
         message_missing_out m o l z = message_bytes_lem _ message_none o (z ∙ ap (λ (i : ℕ). replicate i 0) l)

@@ -16,7 +16,8 @@ use Rattle.rl_laws.specs.Found.{size_found}
 use Rattle.rl_images.specs.Images.Limits.{parameters_within}
 use Rattle.rl_images.specs.Images.Reports.{at_most_512, entries_length}
 use Rattle.rl_names.specs.Names.{Classes}
-use Rattle.rl_prover.specs.declared.callee.Callee.{Callee}
+use Rattle.std.proofs.Common.{unwrap_or, Some, None}
+use Rattle.rl_spec.specs.Answers.{Optional}
 use Rattle.rl_prover.specs.Callees.{callee_in}
 use Rattle.rl_prover.specs.Calls.{Room, ProvesCall}
 use Rattle.rl_prover.specs.Reports.{Shown}
@@ -25,6 +26,10 @@ use Rattle.rl_lines.specs.Opened.{Known}
 use Rattle.rl_spec.specs.Texts.{message_at}
 use Rattle.rl_lines.specs.declared.lines.Lines.{Lines}
 use Rattle.rl_lines.specs.Lines.{function_or, padded, lines_for, entries_for}
+
+function_is : (y : Optional) → unwrap_or y 0 ≡ function_or (callee_in y)
+function_is (Some f) = refl
+function_is None = refl
 
 module _ (s p : List ℕ) (c : Counts) (kn : Known s p c) (cs : List ℕ) (cl : Classes (text_of (image_of s)) cs) (call : ℕ) where
   abbrev im : Image
@@ -51,7 +56,7 @@ module _ (s p : List ℕ) (c : Counts) (kn : Known s p c) (cs : List ℕ) (cl : 
     count_is : end / 4 ≡ length (violations_of im call)
     count_is = let e : length (call_entries im call) ≡ end = shown.place in omega (arith, entries)
 
-    module _ (k : Call) (q : (o : List ℕ) → k ≡ call_at (image_found s o c) call) (y : Callee)
+    module _ (k : Call) (q : (o : List ℕ) → k ≡ call_at (image_found s o c) call) (y : Optional)
         (g : (o : List ℕ) → Classes (text_of (image_found s o c)) cs → callee_in y ≡ callee_among (image_found s o c) (text_of (image_found s o c) k.callee) c.functions) where
       call_is : k ≡ call_at im call
       call_is = q p ∙ ap (λ (x : Image). call_at x call) kn.found
@@ -62,9 +67,9 @@ module _ (s p : List ℕ) (c : Counts) (kn : Known s p c) (cs : List ℕ) (cl : 
           subst (λ (x : Image). Classes (text_of x) cs → callee_in y ≡ callee_among x (text_of x k.callee) c.functions) kn.found (g p) cl
           ∙ rw call_is (ap (callee_among im (text_of im (call_at im call).callee)) (sym (size_found s p c Functions) ∙ ap (λ (x : Image). length (records_of x Functions)) kn.found))
 
-      pub call_lines_lem : (f : ℕ) → f ≡ function_or (callee_in y) → record { call = call; function = f; span = k.span; count = end / 4 } ≡ lines_for im call
+      pub call_lines_lem : (f : ℕ) → f ≡ unwrap_or y 0 → record { call = call; function = f; span = k.span; count = end / 4 } ≡ lines_for im call
       unfolding lines_for
-      call_lines_lem f e = rw (e, callee_is, call_is, count_is) refl
+      call_lines_lem f e = rw (e, function_is y, callee_is, call_is, count_is) refl
 
 -- what is known by the number that the lines have themselves
 module _ (im : Image) (call : ℕ) (lines : Lines) (e : lines ≡ lines_for im call) where

@@ -6,8 +6,6 @@ use mathlib.Core.Option.{some}
 use native.Mathlib.Omega.{arith}
 use lib.ListN.{length, get_or, drop, replicate, length-replicate}
 use lib.Seq.{take-length}
-use mir.Syntax.{w32}
-use mir.Val.{Fits}
 use Rattle.rl_spec.specs.declared.Cause.{Cause}
 use Rattle.rl_spec.specs.declared.Counts.{Counts}
 use Rattle.rl_spec.specs.declared.Violation.{Violation}
@@ -169,11 +167,6 @@ module _ (s p : List ℕ) (c : Counts) (kn : Known s p c) (lines : Lines) (a : l
 
         pub message_out_lem : (w : List ℕ) → Roomy (w ≡ with_text l 0 (opening ++ message_by (image_found s p c) lines.function v)) → w ≡ padded 65535 (message_at im lines.call number)
         message_out_lem w g = g room ∙ ap (with_text l 0) message_is ∙ put_whole n l _ z told ∙ ap (λ (k : ℕ). padded k (message_at im lines.call number)) m
-
--- ---- the length of a message
-
-pub message_word : (s p : List ℕ) (c : Counts) → Known s p c → (call number n : ℕ) → n ≡ length (message_at (image_of s) call number) → Fits w32 n
-message_word s p c kn call number n e = omega (arith, e, message_fits (image_of s) kn.whole call number)
 
 -- ---- a refusal
 

@@ -7,7 +7,7 @@ mod messages;
 mod opened;
 mod texts;
 
-pub use lines::{Lines, lines_of, lines_with, put_line, put_message, put_refused, violation_at};
+pub use lines::{Lines, Reported, lines_of, lines_with, put_refused, violation_at};
 pub use messages::message;
-pub use opened::open;
+pub use opened::{OpenImage, open};
 pub use texts::text;

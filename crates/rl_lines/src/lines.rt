@@ -1,17 +1,16 @@
-// The lines and messages of a call that is proved once. What each function asks of its caller is what `open` and `lines_of` leave.
+// The lines and messages of a call that is proved once.
 ghost use Rattle.std.specs.Prelude.{◌≡◌, ◌≤◌, ◌<◌, length};
-ghost use Rattle.rl_spec.specs.Image.{text_of, image_of};
+ghost use Rattle.rl_spec.specs.Image.{image_of};
 ghost use Rattle.rl_spec.specs.Printed.{refused_line, line_at};
 ghost use Rattle.rl_spec.specs.Texts.{message_at};
-ghost use Rattle.rl_names.specs.Names.{Classes};
-ghost use Rattle.rl_prover.specs.Callees.{callee_in};
 ghost use Rattle.rl_lines.specs.Opened.{Known};
-ghost use Rattle.rl_lines.specs.Lines.{function_or, padded, lines_for, entries_for, ReportAt};
+ghost use Rattle.rl_lines.specs.Lines.{padded, lines_for, entries_for, ReportAt};
 
+use crate::opened::OpenImage;
 use rl_line::{refused_line, report_line, report_message};
-use rl_prover::{Callee, find_callee, prove_call};
-use rl_records::call_at;
-use rl_spec::{Cause, Counts, Violation};
+use rl_prover::{find_callee, prove_call};
+use rl_records::ImageRef;
+use rl_spec::{Refusal, Violation};
 
 // The lines of a call: its number, its callee (0 without one), its span, and how many there are.
 #[derive(Clone, Copy)]
@@ -22,76 +21,62 @@ pub struct Lines {
     pub count: u32,
 }
 
-fn function_of(callee: Callee) -> u16
-    ensures { result ≡ function_or (callee_in callee) }
-{
-    match callee {
-        Callee::Found(f) => f,
-        Callee::Missing => 0,
-    }
+// A call of an image with its lines and the entries of its reports.
+#[derive(Clone, Copy)]
+pub struct Reported<'a> {
+    pub image: ImageRef<'a>,
+    pub lines: Lines,
+    pub entries: &'a [u32; 2048],
+    ghost known: { ∥ Known image.bytes.now image.starts.now image.counts ∥₁ },
+    ghost proved: { lines ≡ lines_for (image_of image.bytes.now) lines.call },
+    ghost reported: { entries.now ≡ entries_for (image_of image.bytes.now) lines.call },
 }
 
 // Proves a call: how many lines it has, and its reports. `names`, with room for all parameters, and `memory` are
 // scratch.
 pub fn lines_with(
-    image: &[u8],
-    starts: &[u16; 6144],
-    counts: Counts,
-    classes: &[u16; 2048],
+    opened: OpenImage,
     call: u16,
     names: &mut [u64],
     memory: &mut [u64],
     reports: &mut [u32; 2048],
 ) -> Lines
-    requires known { Known image.now starts.now counts }
-    requires classes { Classes (text_of (image_of image.now)) classes.now }
     requires in_bounds { 768 ≤ length names.old }
-    ensures value { result ≡ lines_for (image_of image.now) call }
-    ensures reports_after { reports.new ≡ entries_for (image_of image.now) call }
+    ensures value { result ≡ lines_for (image_of opened.entry.image.bytes.now) call }
+    ensures reports_after { reports.new ≡ entries_for (image_of opened.entry.image.bytes.now) call }
 {
     reports.fill(0);
     let end = prove_call(
-        image, starts, counts, classes, call, names, memory, reports, 0,
+        opened.image,
+        opened.classes,
+        call,
+        names,
+        memory,
+        reports,
+        0,
     );
-    let record = call_at(image, counts, call);
-    let callee = find_callee(image, counts, classes, record.callee);
+    let record = opened.image.call(call);
+    let callee = find_callee(opened.image, opened.classes, record.callee);
     Lines {
         call,
-        function: function_of(callee),
+        function: callee.unwrap_or(0),
         span: record.span,
         count: (end / 4) as u32,
     }
 }
 
 // The same, with scratch of its own.
-pub fn lines_of(
-    image: &[u8],
-    starts: &[u16; 6144],
-    counts: Counts,
-    classes: &[u16; 2048],
-    call: u16,
-    reports: &mut [u32; 2048],
-) -> Lines
-    requires known { Known image.now starts.now counts }
-    requires classes { Classes (text_of (image_of image.now)) classes.now }
-    ensures value { result ≡ lines_for (image_of image.now) call }
-    ensures reports_after { reports.new ≡ entries_for (image_of image.now) call }
+pub fn lines_of(opened: OpenImage, call: u16, reports: &mut [u32; 2048]) -> Lines
+    ensures value { result ≡ lines_for (image_of opened.entry.image.bytes.now) call }
+    ensures reports_after { reports.new ≡ entries_for (image_of opened.entry.image.bytes.now) call }
 {
     let mut names = [0u64; 768];
     let mut memory = [0u64; 8192];
-    lines_with(
-        image,
-        starts,
-        counts,
-        classes,
-        call,
-        &mut names,
-        &mut memory,
-        reports,
-    )
+    lines_with(opened, call, &mut names, &mut memory, reports)
 }
 
 // The violation of the report of a number.
+#[tactic(auto, using(crate::proofs::LineLaws::at_refinement, crate::proofs::LineLaws::at_requires))]
 pub fn violation_at(reports: &[u32; 2048], number: u32) -> Violation
     requires { number < 512 }
     ensures { ReportAt reports.now number result }
@@ -104,80 +89,51 @@ pub fn violation_at(reports: &[u32; 2048], number: u32) -> Violation
     Violation::Requires(n)
 }
 
-// Puts the line of a number, with its newline; nothing where the call has no such report.
-pub fn put_line(
-    image: &[u8],
-    starts: &[u16; 6144],
-    counts: Counts,
-    lines: Lines,
-    reports: &[u32; 2048],
-    number: u32,
-    out: &mut [u8; 65536],
-) -> usize
-    requires known { Known image.now starts.now counts }
-    requires lines_value { lines ≡ lines_for (image_of image.now) lines.call }
-    requires reports_value { reports.now ≡ entries_for (image_of image.now) lines.call }
-    ensures value { result ≡ length (line_at (image_of image.now) lines.call number) }
-    ensures out_after { out.new ≡ padded 65536 (line_at (image_of image.now) lines.call number) }
-{
-    let mut room = [0u8; 32800];
-    out.fill(0);
-    if lines.count <= number {
-        return 0;
+impl Reported<'_> {
+    // Puts the line of a number, with its newline; nothing where the call has no such report.
+    pub fn put_line(self, number: u32, out: &mut [u8; 65536]) -> usize
+        ensures value { result ≡ length (line_at (image_of self.entry.image.bytes.now) self.entry.lines.call number) }
+        ensures out_after { out.new ≡ padded 65536 (line_at (image_of self.entry.image.bytes.now) self.entry.lines.call number) }
+    {
+        let mut room = [0u8; 32800];
+        out.fill(0);
+        let lines = self.lines;
+        if lines.count <= number {
+            return 0;
+        }
+        let violation = violation_at(self.entries, number);
+        report_line(
+            self.image,
+            lines.function,
+            lines.call as u32,
+            lines.span,
+            violation,
+            &mut room,
+            out,
+        )
     }
-    let violation = violation_at(reports, number);
-    let call = lines.call as u32;
-    report_line(
-        image,
-        starts,
-        counts,
-        lines.function,
-        call,
-        lines.span,
-        violation,
-        &mut room,
-        out,
-    )
-}
 
-// Puts the message of the report of a number; nothing where the call has no such report.
-pub fn put_message(
-    image: &[u8],
-    starts: &[u16; 6144],
-    counts: Counts,
-    lines: Lines,
-    reports: &[u32; 2048],
-    number: u32,
-    out: &mut [u8; 65535],
-) -> usize
-    requires known { Known image.now starts.now counts }
-    requires lines_value { lines ≡ lines_for (image_of image.now) lines.call }
-    requires reports_value { reports.now ≡ entries_for (image_of image.now) lines.call }
-    ensures value { result ≡ length (message_at (image_of image.now) lines.call number) }
-    ensures out_after { out.new ≡ padded 65535 (message_at (image_of image.now) lines.call number) }
-{
-    let mut room = [0u8; 32800];
-    out.fill(0);
-    if lines.count <= number {
-        return 0;
+    // Puts the message of the report of a number; nothing where the call has no such report.
+    pub fn put_message(self, number: u32, out: &mut [u8; 65535]) -> usize
+        ensures value { result ≡ length (message_at (image_of self.entry.image.bytes.now) self.entry.lines.call number) }
+        ensures out_after { out.new ≡ padded 65535 (message_at (image_of self.entry.image.bytes.now) self.entry.lines.call number) }
+    {
+        let mut room = [0u8; 32800];
+        out.fill(0);
+        let lines = self.lines;
+        if lines.count <= number {
+            return 0;
+        }
+        let violation = violation_at(self.entries, number);
+        report_message(self.image, lines.function, violation, &mut room, out)
     }
-    let violation = violation_at(reports, number);
-    report_message(
-        image,
-        starts,
-        counts,
-        lines.function,
-        violation,
-        &mut room,
-        out,
-    )
 }
 
 // Puts the line of a refusal, with its newline.
-pub fn put_refused(cause: Cause, place: usize, out: &mut [u8; 65536]) -> usize
-    ensures value { result ≡ length (refused_line cause place) }
-    ensures out_after { out.new ≡ padded 65536 (refused_line cause place) }
+pub fn put_refused(refusal: Refusal, out: &mut [u8; 65536]) -> usize
+    ensures value { result ≡ length (refused_line refusal.cause refusal.place) }
+    ensures out_after { out.new ≡ padded 65536 (refused_line refusal.cause refusal.place) }
 {
     out.fill(0);
-    refused_line(cause, place, out)
+    refused_line(refusal, out)
 }

@@ -3,13 +3,12 @@
 use Prim.Native.Nat.{ℕ, ◌≤◌, ◌<◌}
 use mathlib.Core.Path.{◌≡◌, refl, sym, ◌∙◌}
 use mathlib.Core.Bool.{Bool, true, false}
+use mathlib.Core.Logic.{◌⊎◌, inl, inr}
 use mathlib.Core.List.{List}
 use native.Mathlib.Omega.{arith}
 use Rattle.rl_spec.specs.declared.Counts.{Counts}
 use Rattle.rl_spec.specs.declared.Interval.{Interval}
 use Rattle.rl_spec.specs.Answers.{Optional}
-use Rattle.std.specs.Prelude.{None, Some}
-use Rattle.rl_spec.specs.declared.Outcome.{Outcome}
 use Rattle.rl_spec.specs.declared.Outcome.TheVariants.{Returned, Fault}
 use Rattle.rl_spec.specs.declared.Plain.TheVariants.{Null}
 use Rattle.rl_spec.specs.declared.Value.TheVariants.{Plain}
@@ -20,60 +19,21 @@ use Rattle.rl_spec.specs.Found.{image_found}
 use Rattle.rl_spec.specs.Run as run
 use Rattle.rl_spec.specs.Run.{eval, bind}
 use Rattle.rl_spec.specs.Reading.{stmt}
-use Rattle.rl_spec.specs.Tree.{below, expr_tree, optional_tree}
+use Rattle.rl_spec.specs.Tree.{below, expr_tree}
 use Rattle.rl_spec.specs.Statement.{Stmt, declaration, return, return_alone, break, continue, other_statement, a_statement, as_statement, statement_of, item_by, item_tree}
 use Rattle.rl_laws.specs.Tests.{by_ltb}
 use Rattle.rl_laws.specs.Descend.{item_is, under_earlier, under_later, below_earlier, below_later}
 use Rattle.rl_laws.specs.Heights.{expr_height}
-use Rattle.rl_machine.specs.declared.types.Flow.{Flow}
-use Rattle.rl_machine.specs.declared.types.Flow.TheVariants.{Onward, Breaks, Continues, Skipped, Over}
-use Rattle.rl_machine.specs.declared.types.Frame.TheVariants.{Test, Declare, Discard, Return}
+use Rattle.rl_machine.specs.declared.types.Flow.TheVariants.{Breaks, Continues, Over}
+use Rattle.rl_machine.specs.declared.types.Frame.TheVariants.{Declare, Discard, Return}
 use Rattle.rl_machine.specs.declared.types.State.{State}
-use Rattle.rl_machine.specs.declared.types.State.TheVariants.{Next, Tested, Compound, Push, Ends}
-use Rattle.rl_machine.specs.Machine.{tree_under, item_under, as_return, last_as, begun_run, compound, guarded, Low, Room, Means, Begins, Follows, weight}
-use Rattle.rl_machine.proofs.Results.{then_then, through}
+use Rattle.rl_machine.specs.declared.types.State.TheVariants.{Compound, Push, Ends}
+use Rattle.rl_machine.specs.Machine.{tree_under, item_under, as_return, last_as, begun_run, compound, Low, Room, Begins}
+use Rattle.rl_machine.proofs.Results.{through}
 
 under_low : (im : Image) (n : ℕ) → Low im → expr_height (tree_under im 65536 n) ≤ 68
 unfolding expr_height
 under_low im n low = by_ltb n 65536 (λ h. rw (below_earlier im 65536 n h) (low n)) (λ h. rw (below_later im 65536 n h) (omega arith))
-
--- ---- a list
-
-abbrev pub First : Optional → State → Type 0
-First c r =
-    ((im : Image) → Means im r (λ base rest k. guarded im (optional_tree im c) rest)) × ((im : Image) (bound : ℕ) → Low im → Room im bound 0 r)
-
-module _ (c : Optional) where
-  pub first_condition : (n : ℕ) → n < 65536 → (r : State) → c ≡ Some n → r ≡ Push Test n 65536 → First c r
-  first_condition n h r e f =
-      rw (e, f) (
-        λ im base rest k env m. rw (below_earlier im 65536 n h) (sym (then_then (eval (text_of im) (expr_tree im n) env m) _ _)),
-        λ im b low. (omega (arith, under_low im n low), tt),
-      )
-
-  pub first_plain : c ≡ None → First c (Tested true)
-  first_plain e = rw e (λ im base rest k env m. refl, λ im b low. tt)
-
--- ---- after a statement
-
-abbrev pub Followed : Flow → State → Type 0
-Followed f r = ((im : Image) → Follows im f r) × (((im : Image) (bound t : ℕ) → Room im bound t r) × (weight r ≤ 1))
-
-module _ (f : Flow) where
-  pub follow_onward : f ≡ Onward → Followed f Next
-  follow_onward e = rw e (λ im base rest k env n. refl, (λ im b t. tt, omega arith))
-
-  pub follow_breaks : f ≡ Breaks → Followed f (Ends Breaks)
-  follow_breaks e = rw e (λ im base rest k env n. refl, (λ im b t. tt, omega arith))
-
-  pub follow_continues : f ≡ Continues → Followed f (Ends Continues)
-  follow_continues e = rw e (λ im base rest k env n. refl, (λ im b t. tt, omega arith))
-
-  pub follow_skipped : f ≡ Skipped → Followed f (Ends Skipped)
-  follow_skipped e = rw e (λ im base rest k env n. refl, (λ im b t. tt, omega arith))
-
-  pub follow_over : (o : Outcome) → f ≡ Over o → Followed f (Ends (Over o))
-  follow_over o e = rw e (λ im base rest k env n. refl, (λ im b t. tt, omega arith))
 
 -- ---- a statement
 
@@ -111,23 +71,34 @@ module _ (x : StatementForm) (s : ℕ) (last : Bool) where
   unfolding stmt
   begin_continue e = (λ im g base rest k env n. rw (as_made im form.Continue continue g e refl refl) refl, λ im b below low. tt)
 
-  pub begin_conditional : (branch : ℕ) (or_else : Optional) → x ≡ form.Conditional branch or_else → Begun (Compound s)
+  begin_conditional : (branch : ℕ) (or_else : Optional) → x ≡ form.Conditional branch or_else → Begun (Compound s)
   begin_conditional branch or_else e = (λ im g. holds im s last _ (made im s (form.Conditional branch or_else) (g ∙ e)) refl refl, λ im b below low. below)
 
-  pub begin_while : (n : ℕ) (list : Interval) → x ≡ form.While n list → Begun (Compound s)
+  begin_while : (n : ℕ) (list : Interval) → x ≡ form.While n list → Begun (Compound s)
   begin_while n list e = (λ im g. holds im s last _ (made im s (form.While n list) (g ∙ e)) refl refl, λ im b below low. below)
 
-  pub begin_loop : (list : Interval) → x ≡ form.Loop list → Begun (Compound s)
+  begin_loop : (list : Interval) → x ≡ form.Loop list → Begun (Compound s)
   begin_loop list e = (λ im g. holds im s last _ (made im s (form.Loop list) (g ∙ e)) refl refl, λ im b below low. below)
 
+  pub begin_compound :
+      ((n : ℕ) × (o : Optional) × (x ≡ form.Conditional n o)) ⊎ (((n : ℕ) × (list : Interval) × (x ≡ form.While n list)) ⊎ ((list : Interval) × (x ≡ form.Loop list)))
+      → Begun (Compound s)
+  begin_compound (inl (n, o, e)) = begin_conditional n o e
+  begin_compound (inr (inl (n, list, e))) = begin_while n list e
+  begin_compound (inr (inr (list, e))) = begin_loop list e
+
   module _ (r : State) where
-    pub begin_branch : (n : Optional) (list : Interval) → x ≡ form.Branch n list → r ≡ Ends (Over (Fault 1)) → Begun r
+    begin_branch : (n : Optional) (list : Interval) → x ≡ form.Branch n list → r ≡ Ends (Over (Fault 1)) → Begun r
     unfolding stmt
     begin_branch n list e f = rw f (λ im g base rest k env m. rw (as_made im (form.Branch n list) other_statement g e refl refl) refl, λ im b below low. tt)
 
-    pub begin_other : x ≡ form.Other → r ≡ Ends (Over (Fault 1)) → Begun r
+    begin_other : x ≡ form.Other → r ≡ Ends (Over (Fault 1)) → Begun r
     unfolding stmt
     begin_other e f = rw f (λ im g base rest k env m. rw (as_made im form.Other other_statement g e refl refl) refl, λ im b below low. tt)
+
+    pub begin_fault : ((n : Optional) × (list : Interval) × (x ≡ form.Branch n list)) ⊎ (x ≡ form.Other) → r ≡ Ends (Over (Fault 1)) → Begun r
+    begin_fault (inl (n, list, e)) f = begin_branch n list e f
+    begin_fault (inr e) f = begin_other e f
 
     -- ---- expressions
 

@@ -4,13 +4,11 @@ use Prim.Native.Nat.{ℕ, ◌≤◌, ◌<◌}
 use mathlib.Core.Path.{◌≡◌, refl, sym, ◌∙◌}
 use mathlib.Core.Bool.{false}
 use native.Mathlib.Omega.{arith}
-use Rattle.rl_spec.specs.declared.ConstVal.{ConstVal}
 use Rattle.rl_spec.specs.Answers.{Folded}
-use Rattle.std.specs.Prelude.{None, Some}
 use Rattle.rl_spec.specs.declared.Form.{Form}
 use Rattle.rl_spec.specs.declared.Form.TheVariants as form
 use Rattle.rl_spec.specs.declared.Outcome.TheVariants.{Fault}
-use Rattle.rl_spec.specs.declared.Plain.TheVariants.{Null, Const}
+use Rattle.rl_spec.specs.declared.Plain.TheVariants.{Null}
 use Rattle.rl_spec.specs.declared.Value.TheVariants.{Plain}
 use Rattle.rl_spec.specs.Image.{Image, text_of}
 use Rattle.rl_spec.specs.Folded.{folded_of}
@@ -21,7 +19,7 @@ use Rattle.rl_laws.specs.Heights.{expr_height}
 use Rattle.rl_machine.specs.declared.types.Flow.TheVariants.{Over}
 use Rattle.rl_machine.specs.declared.types.Frame.TheVariants.{Left, Unary, Assign, Ok, Err, IsErr, Unwrap}
 use Rattle.rl_machine.specs.declared.types.State.{State}
-use Rattle.rl_machine.specs.declared.types.State.TheVariants.{Visit, Push, Seek, Give, Ends}
+use Rattle.rl_machine.specs.declared.types.State.TheVariants.{Visit, Push, Look, Give, Ends}
 use Rattle.rl_machine.specs.Machine.{tree_under, Room, Means, Enters, EntersRoom}
 use Rattle.rl_machine.proofs.Results.{then_then, then_by}
 
@@ -31,12 +29,6 @@ abbrev pub IsFolded : Folded → State → Type 0
 IsFolded v r =
     ((im : Image) → Means im r (λ base rest k env n. and_then (or_fault 4 (folded_of v) env n) (λ w. k (folds w))))
     × ((im : Image) (bound t : ℕ) → Room im bound t r)
-
-pub folded_value : (v : Folded) (w : ConstVal) → v ≡ Some w → IsFolded v (Give (Plain (Const w)))
-folded_value v w e = rw e (λ im base rest k env n. refl, λ im b t. tt)
-
-pub folded_nothing : (v : Folded) (r : State) → v ≡ None → r ≡ Ends (Over (Fault 4)) → IsFolded v r
-folded_nothing v r e f = rw (e, f) (λ im base rest k env n. refl, λ im b t. tt)
 
 -- ---- a form
 
@@ -49,13 +41,13 @@ module _ (x : Form) (at : ℕ) where
   unfolding eval
   enter_null e = rw e (λ im base rest k env n. refl, λ im b t h. tt)
 
-  pub enter_identifier : (name : ℕ) → x ≡ form.Identifier name → Entered x at (Seek name false (Plain Null))
+  pub enter_identifier : (name : ℕ) → x ≡ form.Identifier name → Entered x at (Look name)
   unfolding eval
   enter_identifier name e = rw e (λ im base rest k env n. refl, λ im b t h. tt)
 
-  pub enter_grouping : (n : ℕ) → x ≡ form.Grouping n → Entered x at (Visit n at)
+  pub enter_grouping : (n limit : ℕ) → x ≡ form.Grouping n → limit ≡ at → Entered x at (Visit n limit)
   unfolding eval expr_height
-  enter_grouping n e = rw e (λ im base rest k env m. refl, λ im b t h. omega arith)
+  enter_grouping n limit e f = rw (e, f) (λ im base rest k env m. refl, λ im b t h. omega arith)
 
   module _ (r : State) where
     pub enter_literal : (v : Folded) → x ≡ form.Literal v → IsFolded v r → Entered x at r

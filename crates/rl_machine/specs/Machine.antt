@@ -19,7 +19,7 @@ use Rattle.rl_machine.specs.declared.types.Flow.TheVariants.{Onward, Breaks, Con
 use Rattle.rl_machine.specs.declared.types.Frame.{Frame}
 use Rattle.rl_machine.specs.declared.types.Frame.TheVariants.{Test, Declare, Discard, Return, Left, Right, Unary, Assign, Ok, Err, IsErr, Unwrap}
 use Rattle.rl_machine.specs.declared.types.State.{State}
-use Rattle.rl_machine.specs.declared.types.State.TheVariants.{Next, Tested, Compound, Visit, Push, Seek, Bind, Give, Ends}
+use Rattle.rl_machine.specs.declared.types.State.TheVariants.{Next, Tested, Compound, Visit, Push, Look, Store, Bind, Give, Ends}
 
 -- ---- how a list ends
 
@@ -133,10 +133,6 @@ module _ (im : Image) where
     by_frame IsErr v k = err_of v >>= λ b. k (folds (value.bool b))
     by_frame Unwrap v k = unwrapped v >>= k
 
-    abbrev pub seeks : Bool → ℕ → run.Value ℕ → (run.Value ℕ → Run ℕ Flow) → Run ℕ Flow
-    seeks true x v k = store (text_of im) x v >> k v
-    seeks false x v k = look (text_of im) x >>= k
-
     -- what a state comes to; k is what the frames do with a value
     abbrev pub meaning : State → (run.Value ℕ → Run ℕ Flow) → Run ℕ Flow
     meaning Next k = next
@@ -144,7 +140,8 @@ module _ (im : Image) where
     meaning (Compound s) k = compound (as_statement (item_tree im s)) >>= after
     meaning (Visit n limit) k = ev (tree_under im limit n) >>= k
     meaning (Push f n limit) k = ev (tree_under im limit n) >>= λ v. by_frame f v k
-    meaning (Seek x storing v) k = seeks storing x (value_of v) k
+    meaning (Look x) k = look (text_of im) x >>= k
+    meaning (Store x v) k = store (text_of im) x (value_of v) >> k (value_of v)
     meaning (Bind x v) k = bind (run.named x (value_of v)) >> next
     meaning (Give v) k = k (value_of v)
     meaning (Ends f) k = ends f
@@ -172,7 +169,8 @@ module _ (im : Image) where
   Room bound t (Compound s) = s < bound
   Room bound t (Visit n limit) = t + expr_height (tree_under im limit n) ≤ 69
   Room bound t (Push f n limit) = (t + 1 + expr_height (tree_under im limit n) ≤ 69) × FrameRoom t f
-  Room bound t (Seek x storing v) = Unit {0}
+  Room bound t (Look x) = Unit {0}
+  Room bound t (Store x v) = Unit {0}
   Room bound t (Bind x v) = Unit {0}
   Room bound t (Give v) = Unit {0}
   Room bound t (Ends f) = Unit {0}
@@ -188,7 +186,8 @@ weight (Tested t) = 2
 weight (Compound s) = 2
 weight (Visit n l) = 1
 weight (Push f n l) = 6
-weight (Seek x s v) = 6
+weight (Look x) = 6
+weight (Store x v) = 6
 weight (Bind x v) = 2
 weight (Give v) = 5
 weight (Ends f) = 0

@@ -3,13 +3,13 @@ ghost use Rattle.std.specs.Prelude.{◌≡◌, ℕ, ◌<◌, ◌≤◌};
 ghost use Rattle.rl_spec.specs.Image.{Image};
 ghost use Rattle.rl_spec.specs.Tree.{optional_tree};
 ghost use Rattle.rl_spec.specs.Statement.{as_statement, item_tree, statement_of};
-ghost use Rattle.rl_spec.specs.Found.{image_found};
+ghost use Rattle.rl_records.specs.Found.{found};
 ghost use Rattle.rl_machine.specs.Machine.{Means, Room, Low, last_as, item_under, guarded, Begins, Follows, weight};
 
 use crate::fault;
 use crate::types::{Flow, Frame, State};
-use rl_records::statement_at;
-use rl_spec::{Counts, Optional, Outcome, Plain, StatementForm, Value};
+use rl_records::ImageRef;
+use rl_spec::{Outcome, Plain, StatementForm, Value};
 
 // An expression of a statement.
 fn evaluate(frame: Frame, node: u16) -> State
@@ -23,13 +23,13 @@ fn evaluate(frame: Frame, node: u16) -> State
 }
 
 // A list begins with its condition, or with its first statement.
-pub fn condition_first(condition: Optional) -> State
+pub fn condition_first(condition: Option<u16>) -> State
     ensures means { (im : Image) → Means im result (λ base rest k. guarded im (optional_tree im condition) rest) }
     ensures room { (im : Image) (bound : ℕ) → Low im → Room im bound 0 result }
 {
     match condition {
-        Optional::Some(node) => evaluate(Frame::Test, node),
-        Optional::None => State::Tested(true),
+        Some(node) => evaluate(Frame::Test, node),
+        None => State::Tested(true),
     }
 }
 
@@ -50,25 +50,23 @@ fn begun_form(form: StatementForm, s: u16, last: bool) -> State
         StatementForm::ReturnAlone => {
             State::Ends(Flow::Over(Outcome::Returned(Value::Plain(Plain::Null))))
         }
-        StatementForm::Conditional { branch, other } => State::Compound(s),
-        StatementForm::Branch { condition, body } => fault(1),
-        StatementForm::While { condition, body } => State::Compound(s),
-        StatementForm::Loop(body) => State::Compound(s),
+        StatementForm::Conditional { .. } | StatementForm::While { .. } | StatementForm::Loop(_) =>
+            { State::Compound(s) }
         StatementForm::Break => State::Ends(Flow::Breaks),
         StatementForm::Continue => State::Ends(Flow::Continues),
-        StatementForm::Other => fault(1),
+        StatementForm::Branch { .. } | StatementForm::Other => fault(1),
     }
 }
 
 // What a statement below a limit begins with, once its step is charged.
-pub fn begun(image: &[u8], starts: &[u16], counts: Counts, s: u16, limit: u32, last: bool) -> State
-    ensures begins { Begins (image_found image.now starts.now counts) (last_as last (as_statement (item_under (image_found image.now starts.now counts) limit s))) result }
+pub fn begun(image: ImageRef, s: u16, limit: u32, last: bool) -> State
+    ensures begins { Begins (found image.entry) (last_as last (as_statement (item_under (found image.entry) limit s))) result }
     ensures room { (im : Image) → Low im → Room im limit 0 result }
 {
-    if limit <= (s as u32) {
+    if limit <= u32::from(s) {
         return fault(1);
     }
-    begun_form(statement_at(image, starts, counts, s), s, last)
+    begun_form(image.statement(s), s, last)
 }
 
 // After a statement that holds statements.
@@ -79,9 +77,6 @@ pub fn followed(flow: Flow) -> State
 {
     match flow {
         Flow::Onward => State::Next,
-        Flow::Breaks => State::Ends(Flow::Breaks),
-        Flow::Continues => State::Ends(Flow::Continues),
-        Flow::Skipped => State::Ends(Flow::Skipped),
-        Flow::Over(o) => State::Ends(Flow::Over(o)),
+        _ => State::Ends(flow),
     }
 }

@@ -2,13 +2,13 @@
 ghost use Rattle.std.specs.Prelude.{◌≡◌};
 ghost use Rattle.rl_spec.specs.Image.{Image};
 ghost use Rattle.rl_spec.specs.Tree.{tree_by};
-ghost use Rattle.rl_spec.specs.Found.{image_found};
+ghost use Rattle.rl_records.specs.Found.{found};
 ghost use Rattle.rl_machine.specs.Machine.{tree_under, Enters, EntersRoom};
 
 use crate::types::{Frame, State};
 use crate::{fault, folded};
-use rl_records::form_at;
-use rl_spec::{Counts, Form, Plain, Value};
+use rl_records::ImageRef;
+use rl_spec::{Form, Plain, Value};
 
 fn push(frame: Frame, node: u16, at: u16) -> State
     ensures { result ≡ State.Push frame node at }
@@ -16,7 +16,7 @@ fn push(frame: Frame, node: u16, at: u16) -> State
     State::Push {
         frame,
         node,
-        limit: at as u32,
+        limit: u32::from(at),
     }
 }
 
@@ -28,11 +28,7 @@ fn entered_form(form: Form, at: u16) -> State
     match form {
         Form::Null => State::Give(Value::Plain(Plain::Null)),
         Form::Literal(v) => folded(v),
-        Form::Identifier(name) => State::Seek {
-            name,
-            storing: false,
-            value: Value::Plain(Plain::Null),
-        },
+        Form::Identifier(name) => State::Look(name),
         Form::Unary { operator, operand } => push(Frame::Unary(operator), operand, at),
         Form::Binary {
             left,
@@ -48,7 +44,7 @@ fn entered_form(form: Form, at: u16) -> State
         }
         Form::Grouping(node) => State::Visit {
             node,
-            limit: at as u32,
+            limit: u32::from(at),
         },
         Form::Assign { name, value } => push(Frame::Assign(name), value, at),
         Form::OkLiteral(node) => push(Frame::Ok, node, at),
@@ -60,12 +56,12 @@ fn entered_form(form: Form, at: u16) -> State
 }
 
 // What a node below a limit comes to, once its step is charged.
-pub fn entered(image: &[u8], starts: &[u16], counts: Counts, node: u16, limit: u32) -> State
-    ensures enters { Enters (image_found image.now starts.now counts) (tree_under (image_found image.now starts.now counts) limit node) result }
-    ensures enters_room { EntersRoom (image_found image.now starts.now counts) (tree_under (image_found image.now starts.now counts) limit node) result }
+pub fn entered(image: ImageRef, node: u16, limit: u32) -> State
+    ensures enters { Enters (found image.entry) (tree_under (found image.entry) limit node) result }
+    ensures enters_room { EntersRoom (found image.entry) (tree_under (found image.entry) limit node) result }
 {
-    if limit <= (node as u32) {
+    if limit <= u32::from(node) {
         return fault(1);
     }
-    entered_form(form_at(image, starts, counts, node), node)
+    entered_form(image.form(node), node)
 }

@@ -16,7 +16,7 @@ ghost use Rattle.rl_machine.specs.Machine.{Means, Room};
 pub use begin::{begun, condition_first, followed};
 pub use enter::entered;
 pub use resume::resumed;
-use rl_spec::{ConstVal, Folded, Outcome, Plain, Value};
+use rl_spec::{ConstVal, Outcome, Plain, Value};
 pub use types::{Flow, Frame, State};
 
 fn fault(number: u8) -> State
@@ -26,13 +26,13 @@ fn fault(number: u8) -> State
 }
 
 // A folded value; fault 4 where there is none.
-fn folded(v: Folded) -> State
+fn folded(v: Option<ConstVal>) -> State
     ensures means { (im : Image) → Means im result (λ base rest k env n. and_then (or_fault 4 (folded_of v) env n) (λ w. k (folds w))) }
     ensures room { (im : Image) (bound t : ℕ) → Room im bound t result }
 {
     match v {
-        Folded::Value(w) => State::Give(Value::Plain(Plain::Const(w))),
-        Folded::Nothing => fault(4),
+        Some(w) => State::Give(Value::Plain(Plain::Const(w))),
+        None => fault(4),
     }
 }
 

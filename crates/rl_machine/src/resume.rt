@@ -4,25 +4,22 @@ ghost use Rattle.rl_spec.specs.Image.{Image};
 ghost use Rattle.rl_spec.specs.Folded.{folded_of};
 ghost use Rattle.rl_spec.specs.Run.{operand};
 ghost use Rattle.rl_spec.specs.Runner.{value_of};
-ghost use Rattle.rl_spec.specs.Found.{image_found};
+ghost use Rattle.rl_records.specs.Found.{found_with};
 ghost use Rattle.rl_machine.specs.Machine.{Room, Resumes, ResumesRoom};
 
 use crate::types::{Flow, Frame, State};
 use crate::{fault, folded, truth};
 use rl_fold::{binary_folded, unary_folded};
-use rl_spec::{ConstVal, Counts, Folded, Outcome, Plain, Value};
+use rl_records::ImageRef;
+use rl_spec::{ConstVal, Outcome, Plain, Value};
 
 // What an operator works on.
-fn operand(v: Value) -> Folded
+fn operand(v: Value) -> Option<ConstVal>
     ensures { folded_of result ≡ operand (value_of v) }
 {
     match v {
-        Value::Plain(p) => match p {
-            Plain::Null => Folded::Nothing,
-            Plain::Const(w) => Folded::Value(w),
-        },
-        Value::Ok(p) => Folded::Nothing,
-        Value::Err(p) => Folded::Nothing,
+        Value::Plain(Plain::Const(w)) => Some(w),
+        _ => None,
     }
 }
 
@@ -32,8 +29,7 @@ fn ok_of(v: Value) -> State
 {
     match v {
         Value::Plain(p) => State::Give(Value::Ok(p)),
-        Value::Ok(p) => fault(2),
-        Value::Err(p) => fault(2),
+        _ => fault(2),
     }
 }
 
@@ -43,8 +39,7 @@ fn err_of(v: Value) -> State
 {
     match v {
         Value::Plain(p) => State::Give(Value::Err(p)),
-        Value::Ok(p) => fault(2),
-        Value::Err(p) => fault(2),
+        _ => fault(2),
     }
 }
 
@@ -53,9 +48,9 @@ fn is_err(v: Value) -> State
     ensures room { (im : Image) (bound t : ℕ) → Room im bound t result }
 {
     match v {
-        Value::Plain(p) => fault(2),
-        Value::Ok(p) => truth(false),
-        Value::Err(p) => truth(true),
+        Value::Plain(_) => fault(2),
+        Value::Ok(_) => truth(false),
+        Value::Err(_) => truth(true),
     }
 }
 
@@ -64,7 +59,7 @@ fn unwrap(v: Value) -> State
     ensures room { (im : Image) (bound t : ℕ) → Room im bound t result }
 {
     match v {
-        Value::Plain(p) => fault(2),
+        Value::Plain(_) => fault(2),
         Value::Ok(p) => State::Give(Value::Plain(p)),
         Value::Err(p) => State::Ends(Flow::Over(Outcome::Stopped(p))),
     }
@@ -75,20 +70,14 @@ fn tested(v: Value) -> State
     ensures resumes { (im : Image) → Resumes im Frame.Test (value_of v) result }
     ensures room { (im : Image) (bound t : ℕ) → Room im bound t result }
 {
-    let x = operand(v);
-    match x {
-        Folded::Nothing => fault(2),
-        Folded::Value(w) => match w {
-            ConstVal::Int(n) => fault(2),
-            ConstVal::Float(n) => fault(2),
-            ConstVal::Str(t) => fault(2),
-            ConstVal::Bool(b) => State::Tested(b),
-        },
-    }
+    let Some(ConstVal::Bool(b)) = operand(v) else {
+        return fault(2);
+    };
+    State::Tested(b)
 }
 
-pub fn resumed(image: &[u8], counts: Counts, frame: Frame, v: Value) -> State
-    ensures by_index { (p : List ℕ) → Resumes (image_found image.now p counts) frame (value_of v) result }
+pub fn resumed(image: ImageRef, frame: Frame, v: Value) -> State
+    ensures by_index { (p : List ℕ) → Resumes (found_with image.entry p) frame (value_of v) result }
     ensures resumes_room { (im : Image) → ResumesRoom im frame result }
 {
     match frame {
@@ -103,21 +92,16 @@ pub fn resumed(image: &[u8], counts: Counts, frame: Frame, v: Value) -> State
         } => State::Push {
             frame: Frame::Right { operator, left: v },
             node: right,
-            limit: limit as u32,
+            limit: u32::from(limit),
         },
         Frame::Right { operator, left } => folded(binary_folded(
             image,
-            counts,
             operator,
             operand(left),
             operand(v),
         )),
         Frame::Unary(operator) => folded(unary_folded(operator, operand(v))),
-        Frame::Assign(name) => State::Seek {
-            name,
-            storing: true,
-            value: v,
-        },
+        Frame::Assign(name) => State::Store { name, value: v },
         Frame::Ok => ok_of(v),
         Frame::Err => err_of(v),
         Frame::IsErr => is_err(v),

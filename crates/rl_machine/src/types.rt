@@ -39,7 +39,7 @@ pub enum Frame {
 }
 
 // What comes next.
-#[derive(Drop)]
+#[derive(Clone, Copy)]
 pub enum State {
     // the next statement
     Next,
@@ -48,26 +48,14 @@ pub enum State {
     // a statement that holds statements
     Compound(u16),
     // a node; one that is not below the limit is a form that is not taken
-    Visit {
-        node: u16,
-        limit: u32,
-    },
+    Visit { node: u16, limit: u32 },
     // a node whose value a new frame waits for
-    Push {
-        frame: Frame,
-        node: u16,
-        limit: u32,
-    },
-    // a name is looked up, or given a value
-    Seek {
-        name: u16,
-        storing: bool,
-        value: Value,
-    },
-    Bind {
-        name: u16,
-        value: Value,
-    },
+    Push { frame: Frame, node: u16, limit: u32 },
+    // a name is looked up
+    Look(u16),
+    // a name is given a value
+    Store { name: u16, value: Value },
+    Bind { name: u16, value: Value },
     // a value for the newest frame
     Give(Value),
     Ends(Flow),

@@ -1,4 +1,4 @@
--- One law for each way out of a function.
+-- The laws of recalling and remembering.
 -- Assumes nothing.
 use Prim.Native.Nat.{ℕ, ◌+◌, ◌*◌, ◌≤◌, ◌<◌}
 use mathlib.Core.Path.{◌≡◌, refl, sym, ap, subst, ◌∙◌}
@@ -11,9 +11,9 @@ use Rattle.rl_laws.specs.Tests.{by_eqb}
 use Rattle.rl_spec.specs.declared.ConstVal.TheVariants as kind
 use Rattle.rl_spec.specs.Answers.{Folded}
 use Rattle.std.specs.Prelude.{None, Some}
-use Rattle.rl_spec.specs.Words.{sort_word_of, payload_word_of, words_value}
-use Rattle.rl_memory.specs.declared.Recalled.{Recalled}
-use Rattle.rl_memory.specs.Memory.{recalled, recall_of, tag_word, remember_of, Right}
+use Rattle.rl_spec.specs.Words.{sort_word_of, words_value}
+use Rattle.rl_memory.specs.Memory.{Recalled}
+use Rattle.rl_memory.specs.Memory.{recalled, recall_of, tag_word, Right}
 
 -- ---- recalling
 
@@ -23,10 +23,6 @@ module _ (k tag payload : ℕ) where
   recalled_unknown h = rw h refl
 
   module _ (z : tag ≡ 0 → ⊥) where
-    pub recalled_none : 4 < tag → tag ≡ 5 + k → Some None ≡ recalled k tag payload
-    unfolding recalled
-    recalled_none h e = rw (ne_eqb tag 0 z, lt-ltb 4 tag h, eq-eqb tag (5 + k) e) refl
-
     pub recalled_stale : 4 < tag → (tag ≡ 5 + k → ⊥) → None ≡ recalled k tag payload
     unfolding recalled
     recalled_stale h d = rw (ne_eqb tag 0 z, lt-ltb 4 tag h, ne_eqb tag (5 + k) d) refl
@@ -35,22 +31,7 @@ module _ (k tag payload : ℕ) where
     unfolding recalled
     recalled_value h v g = rw (ne_eqb tag 0 z, le-ltb 4 tag h, ← g) refl
 
-pub recall_is : (m : List ℕ) (k n tag payload : ℕ) (r : Recalled) → tag ≡ get_or m (n * 2) 0 → payload ≡ get_or m (n * 2 + 1) 0 → r ≡ recalled k tag payload → r ≡ recall_of m k n
-unfolding recall_of
-recall_is m k n tag payload r e f g = g ∙ rw (e, f) refl
-
 -- ---- remembering
-
-pub tag_none : (k : ℕ) (v : Folded) (r : ℕ) → r ≡ sort_word_of v → r ≡ 0 → 5 + k ≡ tag_word k v
-tag_none k (Some (kind.Int x)) r e h = absurd (omega arith)
-tag_none k (Some (kind.Float x)) r e h = absurd (omega arith)
-tag_none k (Some (kind.Str x)) r e h = absurd (omega arith)
-tag_none k (Some (kind.Bool x)) r e h = absurd (omega arith)
-tag_none k None r e h = refl
-
-pub tag_some : (k : ℕ) (v : Folded) (r : ℕ) → r ≡ sort_word_of v → (r ≡ 0 → ⊥) → r ≡ tag_word k v
-tag_some k (Some v) r e h = e
-tag_some k None r e h = absurd (h e)
 
 tag_early : (k : ℕ) (v : Folded) → tag_word k v ≤ 5 + k
 tag_early k (Some (kind.Int x)) = omega arith
@@ -103,11 +84,7 @@ module _ (m : List ℕ) (k n : ℕ) (v : Folded) where
   abbrev Keeps : List ℕ → Type 0
   Keeps out = (f : ℕ → Folded) → Right f k m → v ≡ f n → Right f k out
 
-  module _ (sort payload : ℕ) (e : sort ≡ tag_word k v) (g : payload ≡ payload_word_of v) (h : n * 2 + 1 < length m) where
-    pub remember_is : written m n sort payload h ≡ remember_of m k n v
-    unfolding remember_of
-    remember_is = rw (lt-ltb (n * 2 + 1) (length m) h, e, g) refl
-
+  module _ (sort payload : ℕ) (e : sort ≡ tag_word k v) (h : n * 2 + 1 < length m) where
     pub remember_keeps : words_value (sort_word_of v) payload ≡ v → Keeps (written m n sort payload h)
     remember_keeps b f r q =
         let s : recalled k sort payload ≡ Some v = ap (λ (x : ℕ). recalled k x payload) e ∙ tag_back k v payload b in
@@ -125,10 +102,3 @@ module _ (m : List ℕ) (k n : ℕ) (v : Folded) where
               (λ (p : j ≡ n). subst (λ (i : ℕ). get_or (written m n sort payload h) (i * 2) 0 ≤ 5 + k) (sym p) (subst (λ (i : ℕ). i ≤ 5 + k) (sym (own_tag m n sort payload h ∙ e)) (tag_early k v)))
               (λ p. subst (λ (i : ℕ). i ≤ 5 + k) (sym (other_tag m n sort payload h j p)) (r.early j));
         }
-
-  pub remember_not : length m ≤ n * 2 + 1 → m ≡ remember_of m k n v
-  unfolding remember_of
-  remember_not h = rw (le-ltb (n * 2 + 1) (length m) h) refl
-
-  pub keeps_same : Keeps m
-  keeps_same f r q = r

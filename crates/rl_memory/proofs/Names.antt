@@ -10,7 +10,7 @@ use Rattle.rl_spec.specs.declared.ConstVal.{ConstVal}
 use Rattle.rl_spec.specs.Answers.{Folded}
 use Rattle.std.specs.Prelude.{None, Some}
 use Rattle.rl_spec.specs.Words.{words_value}
-use Rattle.rl_memory.specs.declared.Recalled.{Recalled}
+use Rattle.rl_memory.specs.Memory.{Recalled}
 use Rattle.rl_memory.specs.Memory.{recall_of, Right}
 use Rattle.rl_memory.proofs.Laws.{known_is, recalled_unknown, recalled_stale, recalled_value}
 

@@ -1,10 +1,13 @@
 -- What is remembered of nodes that were folded under some names: two words a node. The first is its value's sort, or 5 and the number
 -- of names where it had no value, or 0; the second the payload. That a node has no value holds only under as many names.
 -- Assumes nothing.
-use Rattle.std.specs.Prelude.{ℕ, ◌+◌, ◌*◌, ◌≤◌, ◌≡◌, cond, List, length, get_or, set, ltb, eqb, None, Some}
+use Rattle.std.specs.Prelude.{ℕ, ◌+◌, ◌*◌, ◌≤◌, ◌≡◌, cond, List, length, get_or, set, ltb, eqb, Option, None, Some}
 use Rattle.rl_spec.specs.Answers.{Folded}
 use Rattle.rl_spec.specs.Words.{sort_word, payload_word_of, words_value}
-use Rattle.rl_memory.specs.declared.Recalled.{Recalled}
+
+-- nothing, or the value or that there is none
+abbrev pub Recalled : Type 0
+Recalled = Option Folded
 
 -- by the two words, under k names
 unfoldable pub recalled : ℕ → ℕ → ℕ → Recalled

@@ -1,94 +1,23 @@
 -- Laws for a clause's own text and for the message.
 -- Assumes nothing.
-use Prim.Native.Nat.{ℕ, ◌+◌}
-use mathlib.Core.Path.{◌≡◌, refl, ap, ◌∙◌}
-use mathlib.Core.List.{List, [], ◌∷◌}
-use mathlib.Core.Option.{Option, none, some}
-use types.Run.{OneOf, miss}
-use denote.Enum.Declared.{tag_of}
-use Rattle.rl_spec.specs.declared.ConstVal.{ConstVal}
-use Rattle.rl_spec.specs.declared.ConstVal.TheVariants as kind
-use Rattle.rl_spec.specs.contracts.ConstVal as const-val
-use Rattle.rl_spec.specs.declared.Counts.{Counts}
-use Rattle.rl_spec.specs.declared.Clause.{Clause}
-use Rattle.rl_spec.specs.Answers.{Optional, Folded}
-use Rattle.std.specs.Prelude.{None, Some}
+use Prim.Native.Nat.{ℕ}
+use mathlib.Core.Path.{◌≡◌}
+use mathlib.Core.Option.{Option}
+use Rattle.rl_spec.specs.Answers.{Optional}
+use Rattle.std.specs.Prelude.{Some}
 use Rattle.rl_spec.specs.declared.Form.{Form}
-use Rattle.rl_spec.specs.declared.Form.TheVariants as form
-use Rattle.rl_spec.specs.contracts.Form as forms
-use Rattle.rl_spec.specs.declared.Function.{Function}
-use Rattle.rl_spec.specs.declared.Violation.{Violation}
-use Rattle.rl_spec.specs.declared.Violation.TheVariants.{Refinement, Requires}
-use Rattle.rl_spec.specs.Image.{Image, text_of}
+use Rattle.rl_spec.specs.Image.{Image}
 use Rattle.rl_spec.specs.Tree.{Expr, tree_by, form_of, optional_tree}
-use Rattle.rl_spec.specs.Records.{clause_at, function_at}
-use Rattle.rl_spec.specs.Found.{image_found}
-use Rattle.rl_spec.specs.Message.{string_in, own_string, clause_message, message_with}
+use Rattle.rl_spec.specs.Message.{string_in, own_string}
 use Rattle.rl_laws.specs.Descend.{tree_is}
-use Rattle.rl_message.specs.Own.{text_option}
 
 -- ---- the text of a String
 
 abbrev StringOf : Form → Option ℕ → Type 0
 StringOf f r = (im : Image) (tree : ℕ → Expr ℕ) → r ≡ string_in (tree_by im f tree)
 
--- every form but a literal
-pub no_literal : (f : Form) → OneOf (0 ∷ 2 ∷ 3 ∷ 4 ∷ 5 ∷ 6 ∷ 7 ∷ 8 ∷ 9 ∷ 10 ∷ 11 ∷ []) (tag_of forms.the_type f) → StringOf f none
-no_literal form.Null h im tree = refl
-no_literal (form.Literal v) h im tree = absurd (miss (0 ∷ 2 ∷ 3 ∷ 4 ∷ 5 ∷ 6 ∷ 7 ∷ 8 ∷ 9 ∷ 10 ∷ 11 ∷ []) 1 tt h)
-no_literal (form.Identifier t) h im tree = refl
-no_literal (form.Unary op e) h im tree = refl
-no_literal (form.Binary l op r) h im tree = refl
-no_literal (form.Grouping e) h im tree = refl
-no_literal (form.Assign t e) h im tree = refl
-no_literal (form.OkLiteral e) h im tree = refl
-no_literal (form.ErrLiteral e) h im tree = refl
-no_literal (form.IsErr e) h im tree = refl
-no_literal (form.ResultUnwrap e) h im tree = refl
-no_literal form.Other h im tree = refl
-
-module _ (f : Form) (v : Folded) (e : f ≡ form.Literal v) where
-  pub no_value : v ≡ None → StringOf f none
-  no_value g im tree = rw (e, g) refl
-
-  -- every value but a text
-  pub no_string : (x : ConstVal) → v ≡ Some x → OneOf (0 ∷ 1 ∷ 3 ∷ []) (tag_of const-val.the_type x) → StringOf f none
-  no_string (kind.Int x) g h im tree = rw (e, g) refl
-  no_string (kind.Float x) g h im tree = rw (e, g) refl
-  no_string (kind.Str x) g h im tree = absurd (miss (0 ∷ 1 ∷ 3 ∷ []) 2 tt h)
-  no_string (kind.Bool x) g h im tree = rw (e, g) refl
-
-  pub a_string_lem : (x : ConstVal) (t : ℕ) → v ≡ Some x → x ≡ kind.Str t → StringOf f (some t)
-  a_string_lem x t g h im tree = rw (e, g, h) refl
-
 -- ---- the text of a message's node
 
 module _ (im : Image) (m : Optional) where
-  pub no_message_lem : m ≡ None → none ≡ own_string (optional_tree im m)
-  no_message_lem e = rw e refl
-
   pub a_message_lem : (n : ℕ) → m ≡ Some n → (f : Form) (r : Option ℕ) → f ≡ form_of im n → StringOf f r → r ≡ own_string (optional_tree im m)
   a_message_lem n h f r e g = rw (h, tree_is im n, ← e) (g im _)
-
--- ---- the text of a clause
-
-module _ (s : List ℕ) (c : Counts) (p d : List ℕ) (clause : Clause) (own : Optional)
-    (e : text_option own ≡ own_string (optional_tree (image_found s p c) clause.message)) where
-  pub by_own : (t : ℕ) (r : List ℕ) → own ≡ Some t → ((q : List ℕ) → r ≡ text_of (image_found s q c) t) → r ≡ clause_message (image_found s p c) clause d
-  by_own t r h g = rw (← e, h) (g p)
-
-  pub by_default : own ≡ None → d ≡ clause_message (image_found s p c) clause d
-  by_default h = rw (← e, h) refl
-
--- ---- the message of a violation
-
-module _ (s : List ℕ) (c : Counts) (f : ℕ) where
-  pub clause_is : (n : ℕ) (g : Function) (k : Clause) → ((p : List ℕ) → g ≡ function_at (image_found s p c) f) → ((p : List ℕ) → k ≡ clause_at (image_found s p c) (g.required.first + n)) → (p : List ℕ) → k ≡ clause_at (image_found s p c) ((function_at (image_found s p c) f).required.first + n)
-  clause_is n g k e h p = h p ∙ ap (λ (x : Function). clause_at (image_found s p c) (x.required.first + n)) (e p)
-
-  module _ (p d : List ℕ) (v : Violation) where
-    pub by_refinement : (n : ℕ) → v ≡ Refinement n → d ≡ message_with (image_found s p c) f v d
-    by_refinement n e = rw e refl
-
-    pub by_requires : (n : ℕ) (k : Clause) (r : List ℕ) → v ≡ Requires n → ((q : List ℕ) → k ≡ clause_at (image_found s q c) ((function_at (image_found s q c) f).required.first + n)) → r ≡ clause_message (image_found s p c) k d → r ≡ message_with (image_found s p c) f v d
-    by_requires n k r e g h = rw (e, ← g p) h

@@ -1,135 +1,121 @@
 // The default texts, put into a lent buffer. What has no room is left out.
-ghost use Rattle.std.specs.Prelude.{◌≡◌, List, ◌++◌, ℕ, ◌+◌};
+ghost use Rattle.std.specs.Prelude.{◌≡◌, List, ◌++◌, ℕ, ◌+◌, Some};
 ghost use Rattle.rl_spec.specs.Folded.{op_of};
 ghost use Rattle.rl_spec.specs.Tree.{ascii};
 ghost use Rattle.rl_spec.specs.Records.{param_at, function_at};
 ghost use Rattle.rl_spec.specs.FnContracts.{operand_of, refinement_of};
-ghost use Rattle.rl_spec.specs.Found.{image_found};
 ghost use Rattle.std.proofs.Math.Option.{map};
 ghost use Rattle.rl_spec.specs.Image.{text_of};
 ghost use Rattle.rl_spec.specs.Mapped.{map_operand, map_refinement};
 ghost use Rattle.rl_spec.specs.Message.{refine_op_str, bool_text, integer_text, operand_str, refinement_text, default_text};
+ghost use Rattle.rl_records.specs.Found.{found_with};
 ghost use Rattle.rl_text_out.specs.Put.{after_text, with_text};
 
-use rl_records::{function_at, param_at, text_at};
-use rl_spec::{Counts, Param, ParamRefinement, RefineOp, RefineOperand, Violation};
-use rl_text_out::{put_number, put_text};
-use rl_values::magnitude;
+use rl_records::ImageRef;
+use rl_spec::{Param, RefineOp, RefineOperand, Refinement, Violation};
+use rl_text_out::Out;
 
-fn refine_op_str(out: &mut [u8], at: usize, op: RefineOp) -> usize
-    ensures value { result ≡ after_text out.old at (refine_op_str (op_of op)) }
-    ensures out_after { out.new ≡ with_text out.old at (refine_op_str (op_of op)) }
+#[tactic(auto, unfolding(rl_spec::specs::Tree::ascii))]
+fn refine_op_str(op: RefineOp) -> &'static [u8]
+    ensures { result.now ≡ refine_op_str (op_of op) }
 {
     match op {
-        RefineOp::Gt => put_text(out, at, b">"),
-        RefineOp::Ge => put_text(out, at, b">="),
-        RefineOp::Lt => put_text(out, at, b"<"),
-        RefineOp::Le => put_text(out, at, b"<="),
-        RefineOp::Eq => put_text(out, at, b"=="),
-        RefineOp::Ne => put_text(out, at, b"!="),
+        RefineOp::Gt => b">",
+        RefineOp::Ge => b">=",
+        RefineOp::Lt => b"<",
+        RefineOp::Le => b"<=",
+        RefineOp::Eq => b"==",
+        RefineOp::Ne => b"!=",
     }
 }
 
-fn put_bool(out: &mut [u8], at: usize, b: bool) -> usize
-    ensures value { result ≡ after_text out.old at (bool_text b) }
-    ensures out_after { out.new ≡ with_text out.old at (bool_text b) }
+#[tactic(auto, unfolding(rl_spec::specs::Tree::ascii))]
+fn bool_text(b: bool) -> &'static [u8]
+    ensures { result.now ≡ bool_text b }
 {
-    if b {
-        return put_text(out, at, b"true");
-    }
-    put_text(out, at, b"false")
+    if b { b"true" } else { b"false" }
 }
 
-fn put_integer(out: &mut [u8], at: usize, x: i64) -> usize
-    ensures value { result ≡ after_text out.old at (integer_text x) }
-    ensures out_after { out.new ≡ with_text out.old at (integer_text x) }
+fn put_integer(out: &mut Out, x: i64)
+    ensures same_reference { out.new.bytes.ghost_name ≡ out.old.bytes.ghost_name }
+    ensures bytes { out.new.bytes.now ≡ with_text out.old.bytes.now out.old.at (integer_text x) }
+    ensures at { out.new.at ≡ after_text out.old.bytes.now out.old.at (integer_text x) }
 {
     if x < 0 {
-        let digits = put_text(out, at, b"-");
-        return put_number(out, digits, magnitude(x));
+        out.text(b"-");
     }
-    put_number(out, at, magnitude(x))
+    out.number(x.unsigned_abs());
 }
 
 // A text in quotes, as it is.
-fn put_quoted(out: &mut [u8], at: usize, text: &[u8]) -> usize
-    ensures value { result ≡ after_text out.old at (ascii "\"" ++ text.now ++ ascii "\"") }
-    ensures out_after { out.new ≡ with_text out.old at (ascii "\"" ++ text.now ++ ascii "\"") }
+fn put_quoted(out: &mut Out, text: &[u8])
+    ensures same_reference { out.new.bytes.ghost_name ≡ out.old.bytes.ghost_name }
+    ensures bytes { out.new.bytes.now ≡ with_text out.old.bytes.now out.old.at (ascii "\"" ++ text.now ++ ascii "\"") }
+    ensures at { out.new.at ≡ after_text out.old.bytes.now out.old.at (ascii "\"" ++ text.now ++ ascii "\"") }
 {
-    let start = put_text(out, at, b"\"");
-    let end = put_text(out, start, text);
-    put_text(out, end, b"\"")
+    out.text(b"\"");
+    out.text(text);
+    out.text(b"\"");
 }
 
-fn operand_str(
-    image: &[u8],
-    counts: Counts,
-    operand: RefineOperand,
-    out: &mut [u8],
-    at: usize,
-) -> usize
-    ensures by_index { (p : List ℕ) → result ≡ after_text out.old at (operand_str (map_operand (text_of (image_found image.now p counts)) (operand_of operand))) }
-    ensures by_index_2 { (p : List ℕ) → out.new ≡ with_text out.old at (operand_str (map_operand (text_of (image_found image.now p counts)) (operand_of operand))) }
+fn put_operand(image: ImageRef, operand: RefineOperand, out: &mut Out)
+    ensures same_reference { out.new.bytes.ghost_name ≡ out.old.bytes.ghost_name }
+    ensures bytes { (p : List ℕ) → out.new.bytes.now ≡ with_text out.old.bytes.now out.old.at (operand_str (map_operand (text_of (found_with image.entry p)) (operand_of operand))) }
+    ensures at { (p : List ℕ) → out.new.at ≡ after_text out.old.bytes.now out.old.at (operand_str (map_operand (text_of (found_with image.entry p)) (operand_of operand))) }
 {
     match operand {
-        RefineOperand::Integer(x) => put_integer(out, at, x),
-        RefineOperand::Str(t) => put_quoted(out, at, text_at(image, counts, t)),
-        RefineOperand::Bool(b) => put_bool(out, at, b),
-        RefineOperand::Param(t) => put_text(out, at, text_at(image, counts, t)),
+        RefineOperand::Integer(x) => put_integer(out, x),
+        RefineOperand::Str(t) => put_quoted(out, image.text(t)),
+        RefineOperand::Bool(b) => out.text(bool_text(b)),
+        RefineOperand::Param(t) => out.text(image.text(t)),
     }
 }
 
 // refinement failed: NAME OP OPERAND
-fn put_refinement(
-    image: &[u8],
-    counts: Counts,
-    name: u16,
-    op: RefineOp,
-    operand: RefineOperand,
-    out: &mut [u8],
-) -> usize
-    ensures by_index { (p : List ℕ) → result ≡ after_text out.old 0 (refinement_text (text_of (image_found image.now p counts) name) (map (map_refinement (text_of (image_found image.now p counts))) (refinement_of (ParamRefinement.Refined op operand)))) }
-    ensures by_index_2 { (p : List ℕ) → out.new ≡ with_text out.old 0 (refinement_text (text_of (image_found image.now p counts) name) (map (map_refinement (text_of (image_found image.now p counts))) (refinement_of (ParamRefinement.Refined op operand)))) }
+fn put_refinement(image: ImageRef, name: u16, refinement: Refinement, out: &mut Out)
+    ensures same_reference { out.new.bytes.ghost_name ≡ out.old.bytes.ghost_name }
+    ensures bytes { (p : List ℕ) → out.new.bytes.now ≡ with_text out.old.bytes.now out.old.at (refinement_text (text_of (found_with image.entry p) name) (map (map_refinement (text_of (found_with image.entry p))) (refinement_of (Some refinement)))) }
+    ensures at { (p : List ℕ) → out.new.at ≡ after_text out.old.bytes.now out.old.at (refinement_text (text_of (found_with image.entry p) name) (map (map_refinement (text_of (found_with image.entry p))) (refinement_of (Some refinement)))) }
 {
-    let mut at = put_text(out, 0, b"refinement failed: ");
-    at = put_text(out, at, text_at(image, counts, name));
-    at = put_text(out, at, b" ");
-    at = refine_op_str(out, at, op);
-    at = put_text(out, at, b" ");
-    operand_str(image, counts, operand, out, at)
+    out.text(b"refinement failed: ");
+    out.text(image.text(name));
+    out.text(b" ");
+    out.text(refine_op_str(refinement.op));
+    out.text(b" ");
+    put_operand(image, refinement.operand, out);
 }
 
 // The parameter of a function, by its number.
-fn param_of(image: &[u8], counts: Counts, function: u16, number: u16) -> Param
-    ensures { (p : List ℕ) → result ≡ param_at (image_found image.now p counts) ((function_at (image_found image.now p counts) function).params.first + number) }
+fn param_of(image: ImageRef, function: u16, number: u16) -> Param
+    ensures { (p : List ℕ) → result ≡ param_at (found_with image.entry p) ((function_at (found_with image.entry p) function).params.first + number) }
 {
-    let f = function_at(image, counts, function);
-    let params = f.params;
-    param_at(image, counts, (params.first as u32) + (number as u32))
+    let params = image.function(function).params;
+    image.param((params.first as u32) + (number as u32))
 }
 
-// The default text of a violation of the function's contracts, from the buffer's start on.
-pub fn default_text(
-    image: &[u8],
-    counts: Counts,
-    function: u16,
-    violation: Violation,
-    out: &mut [u8],
-) -> usize
-    ensures by_index { (p : List ℕ) → result ≡ after_text out.old 0 (default_text (image_found image.now p counts) function violation) }
-    ensures by_index_2 { (p : List ℕ) → out.new ≡ with_text out.old 0 (default_text (image_found image.now p counts) function violation) }
+// The default text of a violation of the function's contracts.
+fn put_default(image: ImageRef, function: u16, violation: Violation, out: &mut Out)
+    ensures same_reference { out.new.bytes.ghost_name ≡ out.old.bytes.ghost_name }
+    ensures bytes { (p : List ℕ) → out.new.bytes.now ≡ with_text out.old.bytes.now out.old.at (default_text (found_with image.entry p) function violation) }
+    ensures at { (p : List ℕ) → out.new.at ≡ after_text out.old.bytes.now out.old.at (default_text (found_with image.entry p) function violation) }
 {
     match violation {
         Violation::Refinement(number) => {
-            let param = param_of(image, counts, function, number);
-            let refinement = param.refinement;
-            match refinement {
-                ParamRefinement::Unrefined => 0,
-                ParamRefinement::Refined { op, operand } => {
-                    put_refinement(image, counts, param.name, op, operand, out)
-                }
+            let param = param_of(image, function, number);
+            if let Some(refinement) = param.refinement {
+                put_refinement(image, param.name, refinement, out);
             }
         }
-        Violation::Requires(_) => put_text(out, 0, b"requires violated"),
+        Violation::Requires(_) => out.text(b"requires violated"),
     }
+}
+
+// The same, from the buffer's start on; the place after it.
+pub fn default_text(image: ImageRef, function: u16, violation: Violation, out: &mut [u8]) -> usize
+    ensures by_index { (p : List ℕ) → result ≡ after_text out.old 0 (default_text (found_with image.entry p) function violation) }
+    ensures by_index_2 { (p : List ℕ) → out.new ≡ with_text out.old 0 (default_text (found_with image.entry p) function violation) }
+{
+    let mut out = Out { bytes: out, at: 0 };
+    put_default(image, function, violation, &mut out);
+    out.at
 }

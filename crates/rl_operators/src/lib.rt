@@ -7,32 +7,36 @@ ghost use Rattle.rl_spec.specs.Folded.{const_of, op_of, folded_of};
 ghost use Rattle.rl_spec.specs.Fold.{boolean, unary_value, binary_value};
 ghost use Rattle.rl_operators.specs.Texts.{TextIs};
 
-use rl_spec::{ArithOp, ConstVal, Folded, RefineOp, Verdict};
+use rl_spec::{ArithOp, ConstVal, RefineOp};
 use rl_values::{arith_values, bang, compare_values, negate};
 
-pub fn unary_value(operator: u8, v: ConstVal) -> Folded
+#[tactic(auto, unfolding(rl_spec::specs::Fold::unary_value))]
+pub fn unary_value(operator: u8, v: ConstVal) -> Option<ConstVal>
     ensures { folded_of result ≡ unary_value operator (const_of v) }
 {
     match operator {
         5 => bang(v),
         2 => negate(v),
-        _ => Folded::Nothing,
+        _ => None,
     }
 }
 
-fn comparison(op: RefineOp, a: ConstVal, b: ConstVal, left: &[u8], right: &[u8]) -> Folded
+#[tactic(auto, using(crate::proofs::Laws::compare_at))]
+fn comparison(op: RefineOp, a: ConstVal, b: ConstVal, left: &[u8], right: &[u8]) -> Option<ConstVal>
     ensures { (bytes : ℕ → List ℕ) → TextIs bytes a left.now → TextIs bytes b right.now → folded_of result ≡ boolean (compare_values bytes (op_of op) (const_of a) (const_of b)) }
 {
-    let verdict = compare_values(op, a, b, left, right);
-    match verdict {
-        Verdict::Yes => Folded::Value(ConstVal::Bool(true)),
-        Verdict::No => Folded::Value(ConstVal::Bool(false)),
-        Verdict::Unknown => Folded::Nothing,
-    }
+    compare_values(op, a, b, left, right).map(ConstVal::Bool)
 }
 
 // left and right are the bytes of a and of b where they are texts.
-pub fn binary_value(operator: u8, a: ConstVal, b: ConstVal, left: &[u8], right: &[u8]) -> Folded
+#[tactic(auto, unfolding(rl_spec::specs::Fold::binary_value))]
+pub fn binary_value(
+    operator: u8,
+    a: ConstVal,
+    b: ConstVal,
+    left: &[u8],
+    right: &[u8],
+) -> Option<ConstVal>
     ensures { (bytes : ℕ → List ℕ) → TextIs bytes a left.now → TextIs bytes b right.now → folded_of result ≡ binary_value bytes operator (const_of a) (const_of b) }
 {
     match operator {
@@ -46,6 +50,6 @@ pub fn binary_value(operator: u8, a: ConstVal, b: ConstVal, left: &[u8], right: 
         2 => arith_values(ArithOp::Minus, a, b),
         3 => arith_values(ArithOp::Star, a, b),
         4 => arith_values(ArithOp::Slash, a, b),
-        _ => Folded::Nothing,
+        _ => None,
     }
 }

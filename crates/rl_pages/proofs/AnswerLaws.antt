@@ -24,16 +24,6 @@ use Rattle.rl_prover.specs.Reports.{Shown, kept_at}
 use Rattle.rl_prover.proofs.ShownLaws.{none_shown, all_shown}
 use Rattle.rl_pages.specs.Added.{Adds, answer_at}
 
--- ---- the answer by the place after the bytes
-
-pub answered_short : (room at : ℕ) → room < at → refused PagesTooShort 0 ≡ answer_at room at
-unfolding answer_at
-answered_short room at h = rw (lt-ltb room at h) refl
-
-pub answered_all : (room at : ℕ) → at ≤ room → Ok at ≡ answer_at room at
-unfolding answer_at
-answered_all room at h = rw (le-ltb room at h) refl
-
 module _ (s : List ℕ) (k room : ℕ) (a : Answer) (e : a ≡ answer_of s k) where
   pages_by_lem : (x : Answer) → a ≡ x → pages_answer s k room ≡ pages_from s room x
   unfolding pages_answer
@@ -50,9 +40,6 @@ module _ (s : List ℕ) (k room : ℕ) (a : Answer) (e : a ≡ answer_of s k) wh
   -- ---- the image is refused
 
   module _ (q : Cause) (n : ℕ) (f : a ≡ refused q n) where
-    pub unread : refused q n ≡ pages_answer s k room
-    unread = sym (pages_by_lem (refused q n) f)
-
     pub unread_out : (o : List ℕ) → o ≡ replicate room 0 → o ≡ pages_out s k room
     unread_out o z = out_by _ (pages_by_lem _ f) o z
 

@@ -26,7 +26,7 @@ use Rattle.rl_columns.proofs.ColumnLaws.{left_is}
 use Rattle.rl_lines.specs.declared.lines.Lines.{Lines}
 use Rattle.rl_lines.specs.Opened.{Known}
 use Rattle.rl_lines.specs.Lines.{lines_for, entries_for, ReportAt}
-use Rattle.rl_lines.proofs.LineLaws.{there, found, found_is, callee, span_is}
+use Rattle.rl_lines.proofs.LineLaws.{there, found_is, callee, span_is}
 use Rattle.rl_text_out.specs.Put.{after_text, with_text}
 use Rattle.rl_text_out.proofs.Joined.{Puts, puts_as, room_begins, room_holds}
 use Rattle.rl_pages.specs.Added.{line_bytes}

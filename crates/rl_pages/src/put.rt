@@ -28,10 +28,8 @@ pub fn put_blanks(pages: &mut [u8], at: usize, count: u32) -> usize
     let mut line = [0u8; 292];
     let n = put_blank_line(&mut line);
     let mut place = at;
-    let mut i: u32 = 0;
-    while i < count {
+    for _ in 0..count {
         place = put_behind(pages, place, part(&line, 0, n));
-        i += 1;
     }
     place
 }

@@ -1,16 +1,17 @@
 -- Binding a name: the words stand for one binding more, and the memory stays right. One law for each way out.
 -- Assumes nothing.
-use Prim.Native.Nat.{ℕ, ◌+◌, ◌-◌, ◌*◌, ◌≤◌, ◌<◌}
+use Prim.Native.Nat.{ℕ, ◌+◌, ◌*◌, ◌≤◌, ◌<◌}
 use mathlib.Core.Path.{◌≡◌, refl, sym, ap, subst, ◌∙◌}
+use mathlib.Core.Bool.{Bool, false}
 use mathlib.Core.List.{List, [], ◌∷◌}
 use native.Mathlib.Omega.{arith}
-use lib.ListN.{length, get_or, set, replicate, length-set}
+use lib.Dec.{T}
+use lib.ListN.{length, get_or, set, length-set}
 use lib.Seq.{get_or-set_same, get_or-set_other}
 use Rattle.rl_spec.specs.declared.ConstVal.{ConstVal}
 use Rattle.rl_spec.specs.Answers.{Folded}
-use Rattle.std.specs.Prelude.{None, Some}
+use Rattle.std.specs.Prelude.{None, Some, is_none}
 use Rattle.rl_spec.specs.Image.{Image, text_of}
-use Rattle.rl_spec.specs.Values as value
 use Rattle.rl_spec.specs.Folded.{as_folded, const_of, folded_of}
 use Rattle.rl_spec.specs.Words.{sort_word_of, payload_word_of, words_value}
 use Rattle.rl_spec.specs.Tree.{expr_tree}
@@ -24,14 +25,6 @@ use Rattle.rl_fold.specs.Folding.{folded_at, Names}
 use Rattle.rl_fold.proofs.FoldLaws.{const_back, from_forth, from_back}
 use Rattle.rl_prover.specs.Passes.{forget_for, Passing, Binds}
 use Rattle.rl_prover.proofs.Monotone.{value_stays}
-
--- ---- forgetting
-
-pub forget_value : (m : List ℕ) (old : Folded) (v : ConstVal) (out : List ℕ) → old ≡ Some v → out ≡ replicate (length m) 0 → out ≡ forget_for m old
-forget_value m old v out e f = rw e f
-
-pub forget_none : (m : List ℕ) (old : Folded) → old ≡ None → m ≡ forget_for m old
-forget_none m old e = rw e refl
 
 -- ---- the words of the bindings
 
@@ -123,12 +116,13 @@ module _ (im : Image) (env : List (Binding ℕ)) (cs w : List ℕ) (count : ℕ)
 -- ---- the ways out
 
 module _ (cs w : List ℕ) (count : ℕ) (m : List ℕ) (t : ℕ) (v : Folded) where
-  pub bind_nothing : v ≡ None → Binds cs w count m t v w count m
-  bind_nothing e im env cl h p = subst (λ (x : Folded). Passing im (bound t (folded_of x) env) cs w count m) (sym e) p
-
-  pub bind_some : (x : ConstVal) → v ≡ Some x → (old : Folded) (rest out : List ℕ) → old ≡ lookup_in cs w t count → rest ≡ forget_for m old → out ≡ bind_in w count t (Some x) → words_value (sort_word_of (Some x)) (payload_word_of (Some x)) ≡ Some x → Binds cs w count m t v out (count + 1) rest
-  bind_some x q old rest out e f g back im env cl h p =
-      subst (λ (y : List ℕ). Passing im (bound t (folded_of v) env) cs out (count + 1) y) (sym f)
-      (subst (λ (y : List ℕ). Passing im (bound t (folded_of v) env) cs y (count + 1) (forget_for m old)) (sym g)
-      (subst (λ (y : Folded). Passing im (bound t (folded_of y) env) cs (bind_in w count t (Some x)) (count + 1) (forget_for m old)) (sym q)
-      (passing_more im env cs w count m t x cl h p back old e)))
+  pub bind_some : is_none v ≡ false → (old : Folded) (rest out : List ℕ) → old ≡ lookup_in cs w t count → rest ≡ forget_for m old → out ≡ bind_in w count t v → words_value (sort_word_of v) (payload_word_of v) ≡ v → Binds cs w count m t v out (count + 1) rest
+  bind_some n old rest out e f g back im env cl h p = go v refl
+    where
+      go : (y : Folded) → v ≡ y → Passing im (bound t (folded_of v) env) cs out (count + 1) rest
+      go None q = absurd (subst (λ (b : Bool). T b) (sym (ap is_none q) ∙ n) tt)
+      go (Some x) q =
+          subst (λ (y : List ℕ). Passing im (bound t (folded_of v) env) cs out (count + 1) y) (sym f)
+          (subst (λ (y : List ℕ). Passing im (bound t (folded_of v) env) cs y (count + 1) (forget_for m old)) (sym (g ∙ ap (bind_in w count t) q))
+          (subst (λ (y : Folded). Passing im (bound t (folded_of y) env) cs (bind_in w count t (Some x)) (count + 1) (forget_for m old)) (sym q)
+          (passing_more im env cs w count m t x cl h p (subst (λ (y : Folded). words_value (sort_word_of y) (payload_word_of y) ≡ y) q back) old e)))

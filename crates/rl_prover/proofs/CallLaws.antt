@@ -1,6 +1,6 @@
 -- One law for each way out of the functions that prove a call.
 -- Assumes nothing.
-use Prim.Native.Nat.{ℕ, ◌+◌, ◌*◌, ◌≤◌, ◌<◌}
+use Prim.Native.Nat.{ℕ, ◌*◌, ◌≤◌}
 use mathlib.Core.Path.{◌≡◌, refl, sym, ap, subst, ◌∙◌}
 use mathlib.Core.List.{List, [], ◌∷◌, ◌++◌, append-nil, append_assoc}
 use native.Mathlib.Omega.{arith}
@@ -22,7 +22,7 @@ use Rattle.rl_memory.specs.Memory.{Right}
 use Rattle.rl_memory.proofs.Names.{cleared_right}
 use Rattle.rl_names.specs.Names.{Classes}
 use Rattle.rl_fold.specs.Folding.{folded_at}
-use Rattle.rl_prover.specs.declared.callee.Callee.{Callee}
+use Rattle.rl_spec.specs.Answers.{Optional}
 use Rattle.std.specs.Prelude.{None, Some}
 use Rattle.rl_prover.specs.Callees.{callee_in}
 use Rattle.rl_prover.specs.Passes.{BindsAll, params_in, args_in, clauses_in}
@@ -36,12 +36,6 @@ both call span [] us = refl
 both call span (v ∷ vs) us = ap (λ (l : List ℕ). entries_by call span v ++ l) (both call span vs us) ∙ sym (append_assoc (entries_by call span v) (report_entries call span vs) (report_entries call span us))
 
 -- ---- by its callee
-
-pub still_near : (start at : ℕ) → start < 1125899906842624 → at ≤ start + 262140 → at < 1125899907104764
-still_near start at h k = omega arith
-
-pub near_end : (start at r : ℕ) → at ≤ start + 262140 → r ≤ at + 262140 → r ≤ start + 524280
-near_end start at r h k = omega arith
 
 module _ (s p : List ℕ) (c : Counts) (cs : List ℕ) (f : ℕ) (g : Function) (h : (o : List ℕ) → g ≡ function_at (image_found s o c) f) (args : Interval) (call span : ℕ) where
   abbrev im : Image
@@ -68,7 +62,7 @@ module _ (s p : List ℕ) (c : Counts) (cs : List ℕ) (call : ℕ) (w l : List 
   pub call_far : 1125899906842624 ≤ start → ProvesCall (image_found s p c) cs call w l start l start
   call_far h near = absurd (omega arith)
 
-  module _ (k : Call) (q : (o : List ℕ) → k ≡ call_at (image_found s o c) call) (y : Callee) (a : (o : List ℕ) → Classes (text_of (image_found s o c)) cs → callee_in y ≡ callee_among (image_found s o c) (text_of (image_found s o c) k.callee) c.functions) where
+  module _ (k : Call) (q : (o : List ℕ) → k ≡ call_at (image_found s o c) call) (y : Optional) (a : (o : List ℕ) → Classes (text_of (image_found s o c)) cs → callee_in y ≡ callee_among (image_found s o c) (text_of (image_found s o c) k.callee) c.functions) where
     found : Classes (text_of (image_found s p c)) cs → callee_of (image_found s p c) call ≡ callee_in y
     unfolding callee_of
     found cl =

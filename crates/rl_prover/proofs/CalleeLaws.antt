@@ -12,22 +12,21 @@ use borrow.Author.Tests.{eq-eqb, ne_eqb}
 use Rattle.rl_spec.specs.declared.Counts.{Counts}
 use Rattle.rl_spec.specs.declared.Function.{Function}
 use Rattle.rl_spec.specs.declared.Param.{Param}
-use Rattle.rl_spec.specs.Answers.{ParamRefinement}
-use Rattle.std.specs.Prelude.{None, Some}
+use Rattle.rl_spec.specs.Answers.{ParamRefinement, Optional}
+use Rattle.std.specs.Prelude.{None, Some, is_some as there}
 use Rattle.rl_spec.specs.Image.{Image, text_of}
 use Rattle.rl_spec.specs.Values.{same_text}
 use Rattle.rl_spec.specs.Found.{image_found}
 use Rattle.rl_spec.specs.Records.{param_at, function_at}
-use Rattle.rl_spec.specs.Ranges.{up_from, numbers_in}
+use Rattle.rl_spec.specs.Ranges.{up_from}
 use Rattle.rl_spec.specs.FnContracts.{param_of, clause_of, refinement_of, is_some, any_refined, contracts_of, record_fn_contracts, is_callee, callee_among}
 use Rattle.rl_names.specs.Names.{Classes}
-use Rattle.rl_prover.specs.declared.callee.Callee.{Callee}
-use Rattle.rl_prover.specs.Callees.{is_refined, recorded, callee_in}
+use Rattle.rl_prover.specs.Callees.{recorded, callee_in}
 use Rattle.rl_prover.proofs.ListLaws.{from_start, from_end, from_next, empty_is}
 
 -- ---- a refinement among parameters
 
-some_is : (r : ParamRefinement) → is_some (refinement_of r) ≡ is_refined r
+some_is : (r : ParamRefinement) → is_some (refinement_of r) ≡ there r
 some_is None = refl
 some_is (Some r) = refl
 
@@ -47,7 +46,7 @@ module _ (s : List ℕ) (c : Counts) (first count : ℕ) where
     unfolding any_refined
     looks_end h p = sym (l p ∙ rw (from_end first count i h) refl)
 
-    module _ (h : i < count) (q : Param) (e : (p : List ℕ) → q ≡ param_at (image_found s p c) (first + i)) (r : Bool) (g : r ≡ is_refined q.refinement) where
+    module _ (h : i < count) (q : Param) (e : (p : List ℕ) → q ≡ param_at (image_found s p c) (first + i)) (r : Bool) (g : r ≡ there q.refinement) where
       step : (p : List ℕ) → any_refined (map (param_of (image_found s p c)) (up_from first count)) ≡ r || any_refined (map (param_of (image_found s p c)) (up_from (first + (i + 1)) (count - (i + 1))))
       unfolding any_refined param_of
       step p = l p ∙ rw (from_next first count i h, ← e p, some_is q.refinement, ← g) refl
@@ -59,15 +58,6 @@ module _ (s : List ℕ) (c : Counts) (first count : ℕ) where
       looks_on t p = step p ∙ rw t refl
 
 -- ---- contracts
-
-module _ (s : List ℕ) (c : Counts) (f : Function) where
-  pub recorded_requires : (f.required.count ≡ 0 → ⊥) → (p : List ℕ) → true ≡ recorded (image_found s p c) f
-  unfolding recorded
-  recorded_requires d p = rw (ne_eqb f.required.count 0 d) refl
-
-  pub recorded_refined : f.required.count ≡ 0 → (r : Bool) → ((p : List ℕ) → r ≡ any_refined (map (param_of (image_found s p c)) (numbers_in f.params))) → (p : List ℕ) → r ≡ recorded (image_found s p c) f
-  unfolding recorded
-  recorded_refined e r g p = rw e (g p)
 
 recorded_is : (im : Image) (f : ℕ) → recorded im (function_at im f) ≡ record_fn_contracts (contracts_of im f)
 unfolding recorded contracts_of
@@ -96,7 +86,7 @@ module _ (s : List ℕ) (c : Counts) (cs : List ℕ) (name most : ℕ) where
   abbrev pub Seeks : ℕ → Type 0
   Seeks n = (p : List ℕ) → Classes (text_of (image_found s p c)) cs → callee_among (image_found s p c) (text_of (image_found s p c) name) most ≡ callee_among (image_found s p c) (text_of (image_found s p c) name) n
 
-  abbrev Among : Callee → Type 0
+  abbrev Among : Optional → Type 0
   Among r = (p : List ℕ) → Classes (text_of (image_found s p c)) cs → callee_in r ≡ callee_among (image_found s p c) (text_of (image_found s p c) name) most
 
   pub seeks_start : Seeks most

@@ -1,6 +1,6 @@
 -- Entries written behind those that are shown.
 -- Assumes nothing.
-use Prim.Native.Nat.{ℕ, zero, suc, ◌+◌, ◌-◌, ◌≤◌}
+use Prim.Native.Nat.{ℕ, zero, suc, ◌+◌, ◌≤◌}
 use mathlib.Core.Path.{◌≡◌, refl, ap, subst, ◌∙◌}
 use mathlib.Core.Bool.{Bool, true, false}
 use mathlib.Core.List.{List, [], ◌∷◌, ◌++◌, append-nil}
@@ -81,13 +81,3 @@ module _ (call span : ℕ) where
   report_first true (Refinement n) vs = refl
   report_first true (Requires n) vs = refl
   report_first false v vs = refl
-
-pub put_four_lem : (l a b c out : List ℕ) (at w x y z : ℕ) → a ≡ set l at w → b ≡ set a (at + 1) x → c ≡ set b (at + 2) y → out ≡ set c (at + 3) z → out ≡ put_four l at w x y z
-put_four_lem l a b c out at w x y z p q r t = rw (t, r, q, p) refl
-
-module _ (l out : List ℕ) (at call span : ℕ) (v : Violation) (n : ℕ) where
-  pub put_refinement : v ≡ Refinement n → out ≡ put_four l at call span 0 n → out ≡ put_violation l at call span v
-  put_refinement e f = rw e f
-
-  pub put_requires : v ≡ Requires n → out ≡ put_four l at call span 1 n → out ≡ put_violation l at call span v
-  put_requires e f = rw e f

@@ -5,7 +5,7 @@ use mathlib.Core.Path.{◌≡◌, refl, sym, ap, ◌∙◌}
 use mathlib.Core.List.{List, [], ◌∷◌, ◌++◌}
 use native.Mathlib.Omega.{arith}
 use borrow.Author.Tests.{lt-ltb, le-ltb}
-use lib.ListN.{length, take, replicate, length-replicate, length-take}
+use lib.ListN.{length, take, replicate, length-replicate}
 use Rattle.rl_prover.specs.Reports.{Shown, kept_at}
 
 take_zeros : (n : ℕ) → take n (replicate {A = ℕ} n 0) ≡ replicate n 0
@@ -38,7 +38,3 @@ kept_none room at l out h e = rw (lt-ltb room at h) e
 pub kept_all : (room at : ℕ) (l : List ℕ) → at ≤ room → l ≡ kept_at room at l
 unfolding kept_at
 kept_all room at l h = rw (le-ltb room at h) refl
-
--- the first n words of a memory of zeros
-pub part_size : (n k : ℕ) → n ≤ k → n ≡ length (take n (replicate {A = ℕ} k 0))
-part_size n k h = let e : length (replicate {A = ℕ} k 0) ≡ k = length-replicate k 0 in sym (length-take n (replicate {A = ℕ} k 0) ∙ omega arith)

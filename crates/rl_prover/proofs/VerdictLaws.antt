@@ -2,29 +2,24 @@
 -- Assumes nothing.
 use Prim.Native.Nat.{ℕ}
 use mathlib.Core.Path.{◌≡◌, refl, sym, ap, ◌∙◌}
-use mathlib.Core.Bool.{Bool, true, false, not}
+use mathlib.Core.Bool.{Bool, false}
 use mathlib.Core.List.{List}
-use mathlib.Core.Option.{Option, some}
-use lib.IntN.{ℤ}
-use Rattle.rl_spec.specs.declared.ConstVal.{ConstVal}
-use Rattle.rl_spec.specs.declared.ConstVal.TheVariants as kind
+use mathlib.Core.Option.{Option}
 use Rattle.rl_spec.specs.declared.Counts.{Counts}
-use Rattle.rl_spec.specs.Answers.{Folded, refined, ParamRefinement, Verdict}
-use Rattle.std.specs.Prelude.{None, Some}
+use Rattle.rl_spec.specs.Answers.{Folded, refined, ParamRefinement}
+use Rattle.std.specs.Prelude.{None}
 use Rattle.rl_spec.specs.declared.RefineOp.{RefineOp}
 use Rattle.rl_spec.specs.declared.RefineOperand.{RefineOperand}
-use Rattle.rl_spec.specs.declared.RefineOperand.TheVariants.{Integer, Str, Bool as Truth, Param as Named}
+use Rattle.rl_spec.specs.declared.RefineOperand.TheVariants.{Param as Named}
 use Rattle.rl_spec.specs.Image.{Image, text_of}
 use Rattle.rl_spec.specs.Values as value
 use Rattle.rl_spec.specs.Values.{compare_values}
-use Rattle.rl_spec.specs.Folded.{const_of, folded_of, op_of, verdict_of, with_text}
+use Rattle.rl_spec.specs.Folded.{folded_of, op_of}
 use Rattle.rl_spec.specs.Tree.{expr_tree}
 use Rattle.rl_spec.specs.Fold.{Binding, lookup, const_eval}
 use Rattle.rl_spec.specs.Found.{image_found}
 use Rattle.rl_spec.specs.FnContracts.{operand_of}
-use Rattle.rl_spec.specs.Prove.{is_no, is_false, refine_bound, refutes, fails_at}
-use Rattle.rl_operators.specs.Texts.{TextIs}
-use Rattle.rl_operators.proofs.Laws.{compare_at}
+use Rattle.rl_spec.specs.Prove.{is_false, refine_bound, refutes, fails_at}
 use Rattle.rl_names.specs.Names.{lookup_in}
 use Rattle.rl_names.proofs.Laws.{walk_is}
 use Rattle.rl_fold.specs.Folding.{Names, Folds}
@@ -33,56 +28,15 @@ use Rattle.rl_prover.specs.Violations.{FailsRefinement, FailsClause}
 
 -- ---- a comparison that says no
 
-module _ (s : List ℕ) (c : Counts) (op : RefineOp) where
-  module _ (a b : ConstVal) (l r : List ℕ) (x : (p : List ℕ) → TextIs (text_of (image_found s p c)) a l) (y : (p : List ℕ) → TextIs (text_of (image_found s p c)) b r) (v : Verdict) (e : verdict_of v ≡ compare_values (λ t. t) (op_of op) (with_text a l) (with_text b r)) where
-    abbrev By : Bool → Type 0
-    By o = (p : List ℕ) → o ≡ is_no (compare_values (text_of (image_found s p c)) (op_of op) (const_of a) (const_of b))
-
-    said : (p : List ℕ) → verdict_of v ≡ compare_values (text_of (image_found s p c)) (op_of op) (const_of a) (const_of b)
-    said p = e ∙ compare_at (text_of (image_found s p c)) (op_of op) a b l r (x p) (y p)
-
-    pub by_yes : v ≡ (Some true) → By false
-    by_yes q p = rw (← said p, q) refl
-
-    pub by_no : v ≡ (Some false) → By true
-    by_no q p = rw (← said p, q) refl
-
-    pub by_unknown : v ≡ None → By false
-    by_unknown q p = rw (← said p, q) refl
-
-  module _ (a b : Folded) where
-    abbrev Refuted : Bool → Type 0
-    Refuted o = (p : List ℕ) → o ≡ refutes (text_of (image_found s p c)) (op_of op) (folded_of a) (folded_of b)
-
-    pub refuted_both : (x y : ConstVal) (o : Bool) → a ≡ Some x → b ≡ Some y → ((p : List ℕ) → o ≡ is_no (compare_values (text_of (image_found s p c)) (op_of op) (const_of x) (const_of y))) → Refuted o
-    unfolding refutes
-    refuted_both x y o e f g p = rw (e, f) (g p)
-
-    pub refuted_right : (x : ConstVal) → a ≡ Some x → b ≡ None → Refuted false
-    unfolding refutes
-    refuted_right x e f p = rw (e, f) refl
-
-    pub refuted_left : a ≡ None → Refuted false
-    unfolding refutes
-    refuted_left e p = rw e refl
+module _ (s : List ℕ) (c : Counts) (op : RefineOp) (a b : Folded) where
+  abbrev Refuted : Bool → Type 0
+  Refuted o = (p : List ℕ) → o ≡ refutes (text_of (image_found s p c)) (op_of op) (folded_of a) (folded_of b)
 
 -- ---- what the value is compared with
 
 module _ (cs w : List ℕ) (count : ℕ) (o : RefineOperand) where
   abbrev Bound : Option (value.ConstVal ℕ) → Type 0
   Bound v = (im : Image) (env : List (Binding ℕ)) → Names im env cs w count → v ≡ refine_bound (text_of im) env (operand_of o)
-
-  pub bound_integer : (x : ℤ) → o ≡ Integer x → Bound (some (value.int x))
-  unfolding refine_bound
-  bound_integer x e im env n = rw e refl
-
-  pub bound_str : (t : ℕ) → o ≡ Str t → Bound (some (value.str t))
-  unfolding refine_bound
-  bound_str t e im env n = rw e refl
-
-  pub bound_bool : (b : Bool) → o ≡ Truth b → Bound (some (value.bool b))
-  unfolding refine_bound
-  bound_bool b e im env n = rw e refl
 
   pub bound_param : (t : ℕ) (v : Folded) → o ≡ Named t → v ≡ lookup_in cs w t count → Bound (folded_of v)
   unfolding refine_bound
@@ -111,9 +65,3 @@ module _ (im : Image) (cs w : List ℕ) (count : ℕ) (m : List ℕ) where
 module _ (s p : List ℕ) (c : Counts) (cs w : List ℕ) (count : ℕ) (m : List ℕ) where
   pub fails_refined : (q : ParamRefinement) (arg : ℕ) (op : RefineOp) (x : RefineOperand) (v u : Folded) (r : Bool) (out : List ℕ) → q ≡ refined op x → Folds (image_found s p c) cs w count arg m v out → Bound cs w count x (folded_of u) → Refuted s c op v u r → FailsRefinement (image_found s p c) cs w count m q arg r out
   fails_refined q arg op x v u r out e f g h = fails_refined_at (image_found s p c) cs w count m q arg op x v u r out e f g (h p)
-
--- ---- a value that is false
-
-pub false_bool : (v : Folded) (w : ConstVal) (b : Bool) → v ≡ Some w → w ≡ kind.Bool b → not b ≡ is_false (folded_of v)
-false_bool v w true e f = rw (e, f) refl
-false_bool v w false e f = rw (e, f) refl

@@ -7,5 +7,5 @@ mod calls;
 mod reports;
 mod violations;
 
-pub use callee::{Callee, any_refined, find_callee};
+pub use callee::{any_refined, find_callee};
 pub use calls::{memory_size, prove_call};

@@ -58,8 +58,8 @@ module _ (n sort x : ℕ) where
   pub unrefined : n ≡ 0 → None ≡ refinement_by n sort x
   unrefined e = rw e refl
 
-  pub refined : (n ≡ 0 → ⊥) → (op : RefineOp) (operand : RefineOperand) → op ≡ refine_op n → operand ≡ refine_operand sort x → refined op operand ≡ refinement_by n sort x
-  refined h op operand e f = rw (ne_eqb n 0 h, e, f) refl
+  pub with_refinement : (n ≡ 0 → ⊥) → (op : RefineOp) (operand : RefineOperand) → op ≡ refine_op n → operand ≡ refine_operand sort x → refined op operand ≡ refinement_by n sort x
+  with_refinement h op operand e f = rw (ne_eqb n 0 h, e, f) refl
 
 -- ---- the records
 

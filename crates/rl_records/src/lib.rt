@@ -1,5 +1,5 @@
-// The records of an image by what they mean: texts, list entries, the forms of expressions and statements, contracts and calls. Every function
-// answers for every argument, by the image that bytes, starts and counts give (`imageFound`); a record that is not there is all 0.
+// The records of an image by what they mean: texts, list entries, the forms of expressions and statements, contracts and calls. Every method
+// answers for every argument, by the image that bytes, starts and counts give (`found`); a record that is not there is all 0.
 #![tactic(auto)]
 
 mod contracts;
@@ -7,9 +7,14 @@ mod forms;
 mod statements;
 mod texts;
 
-pub use contracts::{
-    before, call_at, clause_at, function_at, functions_at, param_at, parameters_at,
-};
-pub use forms::form_at;
-pub use statements::statement_at;
-pub use texts::{entry_at, optional_at, text_at, text_part};
+pub use contracts::{functions_at, parameters_at};
+use rl_spec::Counts;
+pub use texts::optional_at;
+
+// An image that is borrowed: its bytes, where its expressions and then its statements start, and its counts.
+#[derive(Clone, Copy)]
+pub struct ImageRef<'a> {
+    pub bytes: &'a [u8],
+    pub starts: &'a [u16],
+    pub counts: Counts,
+}

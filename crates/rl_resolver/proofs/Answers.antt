@@ -13,7 +13,8 @@ use mir.Syntax.{w8}
 use mir.Val.{Fits}
 use borrow.Author.Tests.{ltb-true, ltb-false}
 use Rattle.rl_spec.specs.Answers.{Answer, accepted, refused, LowerAnswer}
-use Rattle.std.specs.Prelude.{None, Some, Ok}
+use Rattle.std.specs.Prelude.{None, Some, Result, Ok, Err}
+use Rattle.rl_spec.specs.declared.Refusal.{Refusal}
 use Rattle.rl_spec.specs.declared.ArenaNo.{ArenaNo}
 use Rattle.rl_spec.specs.declared.Cause.{Cause}
 use Rattle.rl_spec.specs.declared.Cause.TheVariants.{NoSuchFunction, HeightOverLimit, OutputTooShort, LimitPassed}
@@ -37,21 +38,21 @@ use Rattle.rl_images.specs.Reading.Starts.{sizes_are_counts}
 use Rattle.rl_assemble.specs.Pieces.{Source}
 use Rattle.rl_assemble.proofs.Accepted.{accepted_source}
 use Rattle.rl_assemble.proofs.Laws.{IsPast, length_in}
-use Rattle.rl_admission.specs.declared.Admission.{Admission}
-use Rattle.rl_admission.specs.declared.Admission.TheVariants.{Admitted, Refused}
 use Rattle.rl_admission.specs.Lowering.{tall_in, lowering_admission, lowering_or}
-use Rattle.rl_assemble.specs.declared.Assembled.{Assembled}
-use Rattle.rl_assemble.specs.Written.{Written}
+use Rattle.rl_assemble.specs.Written.{Assembled, Written}
+use Rattle.rl_resolver.specs.Lowered.{lowering_in, put_over, Lowered}
 
 -- ---- what an admission says
 
+abbrev Admission : Type 0
+Admission = Result Unit Cause
+
 abbrev IsRefused : Admission → Type 0
-IsRefused Admitted = ⊥
-IsRefused (Refused q) = Unit {0}
+IsRefused (Ok x) = ⊥
+IsRefused (Err q) = Unit {0}
 
 abbrev Checked : Bool → Bool → Bool → Admission
-Checked b c d =
-    cond b (Refused NoSuchFunction) (cond c (Refused HeightOverLimit) (cond d (Refused OutputTooShort) Admitted))
+Checked b c d = cond b (Err NoSuchFunction) (cond c (Err HeightOverLimit) (cond d (Err OutputTooShort) (Ok tt)))
 
 as_checked : (b c d : Bool) (r : Lowering) →
     lowering_or (Checked b c d) r
@@ -61,11 +62,59 @@ as_checked false true d r = refl
 as_checked false false true r = refl
 as_checked false false false r = refl
 
-all_held : (b c d : Bool) → Checked (not b) c d ≡ Admitted → (b ≡ true) × (d ≡ false)
+all_held : (b c d : Bool) → Checked (not b) c d ≡ Ok tt → (b ≡ true) × (d ≡ false)
 all_held false c d h = absurd (subst IsRefused h tt)
 all_held true true d h = absurd (subst IsRefused h tt)
 all_held true false true h = absurd (subst IsRefused h tt)
 all_held true false false h = (refl, refl)
+
+-- ---- the checks and the lowered image
+
+module _ (work : List ℕ) (c : Counts) (f : ℕ) (out : List ℕ) (im : Image) (x : Admission) (g : x ≡ lowering_admission work c f (length out)) where
+  abbrev Answers : LowerAnswer → List ℕ → Type 0
+  Answers r o = Lowered (lowering_in work c f (length out) im) out r o
+
+  by_check : (y : Admission) → x ≡ y → (r : LowerAnswer) (o : List ℕ) → Lowered (lowering_or y (or_limit (lowered im f))) out r o → Answers r o
+  by_check y d r o l = subst (λ z. Lowered (lowering_or z (or_limit (lowered im f))) out r o) (sym d ∙ g) l
+
+  pub check_refused : (q : Cause) → x ≡ Err q → Answers (refused q 0) out
+  check_refused q d = by_check (Err q) d (refused q 0) out (record { answer = refl; bytes = refl })
+
+  module _ (d : x ≡ Ok tt) where
+    held : (ltb f c.functions ≡ true) × (ltb (length out) 65535 ≡ false)
+    unfolding lowering_admission
+    held = all_held (ltb f c.functions) (tall_in work c) (ltb (length out) 65535) (sym g ∙ d)
+
+    pub function_there : f < c.functions
+    function_there = ltb-true f c.functions held.0
+
+    pub room_there : 65535 ≤ length out
+    room_there = ltb-false (length out) 65535 held.1
+
+    module _ (r : Assembled) (o : List ℕ) (written : Written (lowered im f) out r o) where
+      none_put : (y : Option Image) → Written y out r o → r ≡ None → Lowered (or_limit y) out (refused LimitPassed 0) o
+      none_put none t b = record { answer = refl; bytes = t.bytes }
+      none_put (some i) t b = absurd (subst IsPast (sym b ∙ t.number) tt)
+
+      one_put : (y : Option Image) → Written y out r o → (n : ℕ) → r ≡ Some n → Lowered (or_limit y) out (Ok n) o
+      one_put none t n b = absurd (subst IsPast (sym t.number ∙ b) tt)
+      one_put (some i) t n b = record { answer = ap Ok (ap length_in (sym b ∙ t.number)); bytes = t.bytes }
+
+      pub limit_passed : r ≡ None → Answers (refused LimitPassed 0) o
+      limit_passed b = by_check (Ok tt) d (refused LimitPassed 0) o (none_put (lowered im f) written b)
+
+      pub image_put : (n : ℕ) → r ≡ Some n → Answers (Ok n) o
+      image_put n b = by_check (Ok tt) d (Ok n) o (one_put (lowered im f) written n b)
+
+-- ---- the answer, the output and the work slice
+
+abbrev IsErr : LowerAnswer → Type 0
+IsErr (Ok n) = ⊥
+IsErr (Err q) = Unit {0}
+
+abbrev IsOk : LowerAnswer → Type 0
+IsOk (Ok n) = Unit {0}
+IsOk (Err q) = ⊥
 
 module _ (s : List ℕ) (k f room : ℕ) (out : List ℕ) (cleared : out ≡ replicate room 0) (a : Answer) (e : a ≡ answer_of s k) where
   abbrev lowering : Lowering
@@ -75,30 +124,26 @@ module _ (s : List ℕ) (k f room : ℕ) (out : List ℕ) (cleared : out ≡ rep
   Ends r o w =
       (r ≡ lower_answer lowering) × ((o ≡ lower_out room lowering) × (w ≡ work_unless (lower_number lowering) s k))
 
-  ends : (x : Lowering) → lowering ≡ x → (o w : List ℕ) → o ≡ lower_out room x → w ≡ work_unless (lower_number x) s k → Ends (lower_answer x) o w
-  ends x d o w p q =
-      (ap lower_answer (sym d), (p ∙ ap (lower_out room) (sym d), q ∙ ap (λ y. work_unless (lower_number y) s k) (sym d)))
-
-  ends_refused : (q : Cause) (n : ℕ) → lowering ≡ refused q n → (o w : List ℕ) → o ≡ replicate room 0 → w ≡ replicate k 0 → Ends (refused q n) o w
-  ends_refused q n d o w p v = ends (refused q n) d o w p (v ∙ zeros_unless q s k)
+  ends : (x : Lowering) → lowering ≡ x → (r : LowerAnswer) (o w : List ℕ) → r ≡ lower_answer x → o ≡ lower_out room x → w ≡ work_unless (lower_number x) s k →
+      Ends r o w
+  ends x d r o w n p q =
+      (n ∙ ap lower_answer (sym d), (p ∙ ap (lower_out room) (sym d), q ∙ ap (λ y. work_unless (lower_number y) s k) (sym d)))
 
   cleared_work : (m : ℕ) (w : List ℕ) → m ≡ k → w ≡ replicate m 0 → w ≡ replicate k 0
   cleared_work m w n v = v ∙ ap (λ (i : ℕ). replicate i 0) n
 
   -- ---- reading refuses
 
-  unread_is : (q : Cause) (n : ℕ) → a ≡ refused q n → lowering ≡ refused q n
+  pub unread : (q : Refusal) → a ≡ Err q → (w : List ℕ) → w ≡ work_of s k → Ends (Err q) out w
   unfolding lower_of
-  unread_is q n h = ap (lower_by s f room) (sym e ∙ h)
-
-  pub unread : (q : Cause) (n : ℕ) → a ≡ refused q n → (w : List ℕ) → w ≡ work_of s k → Ends (refused q n) out w
-  unread q n h w v = ends_refused q n (unread_is q n h) out w cleared (v ∙ refused_work s k q n (sym e ∙ h))
+  unread q h w v =
+      ends (Err q) (ap (lower_by s f room) (sym e ∙ h)) (Err q) out w refl cleared (v ∙ refused_work s k q.cause q.place (sym e ∙ h) ∙ zeros_unless q.cause s k)
 
   -- ---- reading accepts
 
   module _ (no : ArenaNo) (c : Counts) (h : a ≡ accepted no c) (bytes : (i : ℕ) → Fits w8 (get_or s i 0)) where
-    accepted : answer_of s k ≡ accepted no c
-    accepted = sym e ∙ h
+    accepted_lem : answer_of s k ≡ accepted no c
+    accepted_lem = sym e ∙ h
 
     own : AllBytes s
     own = all_bytes s (λ j. omega (arith, (bytes j).fits))
@@ -108,12 +153,12 @@ module _ (s : List ℕ) (k f room : ℕ) (out : List ℕ) (cleared : out ≡ rep
 
     size_is : (o : Section) → length (heights (image_of s) o) ≡ count_of c o
     unfolding heights
-    size_is o = length_heights (image_of s) o (records_of (image_of s) o) [] ∙ omega (arith, sizes_are_counts s k no c accepted o)
+    size_is o = length_heights (image_of s) o (records_of (image_of s) o) [] ∙ omega (arith, sizes_are_counts s k no c accepted_lem o)
 
-    module _ (work : List ℕ) (left : work ≡ work_of s k) (x : Admission) (g : x ≡ lowering_admission work c f (length out)) where
+    module _ (work : List ℕ) (left : work ≡ work_of s k) where
       work_is : work ≡ heights (image_of s) Expressions ++ (heights (image_of s) Statements ++ rest)
       work_is =
-          left ∙ accepted_work s k no c own accepted ∙ append_assoc (heights (image_of s) Expressions) (heights (image_of s) Statements) rest
+          left ∙ accepted_work s k no c own accepted_lem ∙ append_assoc (heights (image_of s) Expressions) (heights (image_of s) Statements) rest
 
       expressions_are : take c.expressions (drop 0 work) ≡ heights (image_of s) Expressions
       expressions_are =
@@ -134,63 +179,45 @@ module _ (s : List ℕ) (k f room : ℕ) (out : List ℕ) (cleared : out ≡ rep
       room_is : length out ≡ room
       room_is = ap length cleared ∙ length-replicate {A = ℕ} room 0
 
-      abbrev result : Lowering
-      result = or_limit (lowered (image_of s) f)
-
-      by_admission : lowering ≡ lowering_or x result
+      by_checks : lowering ≡ lowering_in work c f (length out) (image_of s)
       unfolding lower_of lowering_admission
-      by_admission =
-          ap (lower_by s f room) accepted
-          ∙ sym (as_checked (not (ltb f c.functions)) (too_tall (image_of s)) (ltb room 65535) result)
-          ∙ sym (λ i. lowering_or (Checked (not (ltb f c.functions)) (tall_is i) (ltb (room_is i) 65535)) result)
-          ∙ ap (λ y. lowering_or y result) (sym g)
+      by_checks =
+          ap (lower_by s f room) accepted_lem
+          ∙ sym (as_checked (not (ltb f c.functions)) (too_tall (image_of s)) (ltb room 65535) (or_limit (lowered (image_of s) f)))
+          ∙ sym (λ i. lowering_or (Checked (not (ltb f c.functions)) (tall_is i) (ltb (room_is i) 65535)) (or_limit (lowered (image_of s) f)))
 
-      pub refused_by : (q : Cause) → x ≡ Refused q → (m : ℕ) (w : List ℕ) → m ≡ k → w ≡ replicate m 0 → Ends (refused q 0) out w
-      refused_by q d m w n v = ends_refused q 0 (by_admission ∙ ap (λ y. lowering_or y result) d) out w cleared (cleared_work m w n v)
+      module _ (p : List ℕ) (z : p ≡ starts_of s k) where
+        pub source_there : Source (image_found s p c) s p c
+        source_there = subst (λ (y : List ℕ). Source (image_found s y c) s y c) (sym z) (accepted_source s k no c own accepted_lem)
 
-      module _ (d : x ≡ Admitted) where
-        held : (ltb f c.functions ≡ true) × (ltb (length out) 65535 ≡ false)
-        unfolding lowering_admission
-        held = all_held (ltb f c.functions) (tall_in work c) (ltb (length out) 65535) (sym g ∙ d)
+        same_image : image_found s p c ≡ image_of s
+        same_image = ap (λ (y : List ℕ). image_found s y c) z ∙ found_is_image s k no c accepted_lem
 
-        function_there : f < c.functions
-        function_there = ltb-true f c.functions held.0
+        abbrev found_lowering : Lowering
+        found_lowering = lowering_in work c f (length out) (image_found s p c)
 
-        room_there : 65535 ≤ length out
-        room_there = ltb-false (length out) 65535 held.1
+        lowering_is : lowering ≡ found_lowering
+        lowering_is = by_checks ∙ ap (lowering_in work c f (length out)) (sym same_image)
 
-        module _ (p : List ℕ) (z : p ≡ starts_of s k) where
-          source_there : Source (image_found s p c) s p c
-          source_there = subst (λ (y : List ℕ). Source (image_found s y c) s y c) (sym z) (accepted_source s k no c own accepted)
+        -- what is put over zeros
+        put_is : (x : Lowering) → put_over x out ≡ lower_out room x
+        put_is (Ok im) =
+            ap (λ (l : List ℕ). encode im ++ drop (length (encode im)) l) cleared
+            ∙ ap (λ (l : List ℕ). encode im ++ l) (drop_replicate (length (encode im)) room 0)
+        put_is (Err q) = cleared
 
-          pub admitted_there : Source (image_found s p c) s p c × ((f < c.functions) × (65535 ≤ length out))
-          admitted_there = (source_there, (function_there, room_there))
+        refused_by : (x : Lowering) → lowering ≡ x → (q : Refusal) (o w : List ℕ) → Lowered x out (Err q) o → w ≡ replicate k 0 → Ends (Err q) o w
+        refused_by (Ok im) d q o w l v = absurd (subst IsErr l.answer tt)
+        refused_by (Err u) d q o w l v = ends (Err u) d (Err q) o w l.answer (l.bytes ∙ put_is (Err u)) (v ∙ zeros_unless u.cause s k)
 
-          same_image : image_found s p c ≡ image_of s
-          same_image = ap (λ (y : List ℕ). image_found s y c) z ∙ found_is_image s k no c accepted
+        made_by : (x : Lowering) → lowering ≡ x → (n : ℕ) (o w : List ℕ) → Lowered x out (Ok n) o → w ≡ work_of s k → Ends (Ok n) o w
+        made_by (Ok im) d n o w l v = ends (Ok im) d (Ok n) o w l.answer (l.bytes ∙ put_is (Ok im)) v
+        made_by (Err u) d n o w l v = absurd (subst IsOk l.answer tt)
 
-          result_is : (y : Option Image) → lowered (image_of s) f ≡ y → lowering ≡ or_limit y
-          result_is y q = by_admission ∙ ap (λ v. lowering_or v result) d ∙ ap or_limit q
+        module _ (r : LowerAnswer) (o : List ℕ) (l : Lowered found_lowering out r o) where
+          pub lowering_refused : (q : Refusal) → r ≡ Err q → (m : ℕ) (w : List ℕ) → m ≡ k → w ≡ replicate m 0 → Ends (Err q) o w
+          lowering_refused q b m w n v =
+              refused_by found_lowering lowering_is q o w (subst (λ y. Lowered found_lowering out y o) b l) (cleared_work m w n v)
 
-          module _ (r : Assembled) (o : List ℕ) (written : Written (lowered (image_found s p c) f) out r o) where
-            there : Written (lowered (image_of s) f) (replicate room 0) r o
-            there = subst (λ l. Written (lowered (image_of s) f) l r o) cleared (subst (λ (im : Image). Written (lowered im f) out r o) same_image written)
-
-            none_made : (y : Option Image) → lowered (image_of s) f ≡ y → Written y (replicate room 0) r o → r ≡ None → (w : List ℕ) → w ≡ replicate k 0 →
-                Ends (refused LimitPassed 0) o w
-            none_made none q t b w v = ends_refused LimitPassed 0 (result_is none q) o w t.bytes v
-            none_made (some im) q t b w v = absurd (subst IsPast (sym b ∙ t.number) tt)
-
-            one_made : (y : Option Image) → lowered (image_of s) f ≡ y → Written y (replicate room 0) r o → (n : ℕ) → r ≡ Some n → (w : List ℕ) → w ≡ work_of s k →
-                Ends (Ok n) o w
-            one_made none q t n b w v = absurd (subst IsPast (sym t.number ∙ b) tt)
-            one_made (some im) q t n b w v =
-                subst (λ (m : ℕ). Ends (Ok m) o w) (ap length_in (sym t.number ∙ b))
-                (ends (Ok im) (result_is (some im) q) o w
-                (t.bytes ∙ ap (λ (l : List ℕ). encode im ++ l) (drop_replicate (length (encode im)) room 0)) v)
-
-            pub limit_passed : r ≡ None → (m : ℕ) (w : List ℕ) → m ≡ k → w ≡ replicate m 0 → Ends (refused LimitPassed 0) o w
-            limit_passed b m w i v = none_made (lowered (image_of s) f) refl there b w (cleared_work m w i v)
-
-            pub image_made : (n : ℕ) → r ≡ Some n → (w : List ℕ) → w ≡ work_of s k → Ends (Ok n) o w
-            image_made n b w v = one_made (lowered (image_of s) f) refl there n b w v
+          pub lowering_made : (n : ℕ) → r ≡ Ok n → (w : List ℕ) → w ≡ work_of s k → Ends (Ok n) o w
+          lowering_made n b w v = made_by found_lowering lowering_is n o w (subst (λ y. Lowered found_lowering out y o) b l) v

@@ -25,10 +25,9 @@ use Rattle.rl_context.specs.Does.{at, nothing, Over, Ends, Does}
 use Rattle.rl_context.proofs.Composed.{ends_live}
 use Rattle.rl_images.specs.Lowering.Adds.{adds_later}
 use Rattle.rl_images.specs.Lowering.AddsLower.{adds_desugar}
-use Rattle.rl_assemble.specs.declared.Assembled.{Assembled}
 use Rattle.std.specs.Prelude.{None, Some}
 use Rattle.rl_assemble.specs.Pieces.{Source}
-use Rattle.rl_assemble.specs.Written.{Written}
+use Rattle.rl_assemble.specs.Written.{Assembled, Written}
 use Rattle.rl_assemble.proofs.Laws.{after_front, with_front, written_none, written_all}
 use Rattle.rl_resolver.specs.Begun.{begun}
 use Rattle.rl_resolver.proofs.Beginning.{live_begun}

@@ -1,10 +1,11 @@
 -- The parameters are bound in order. Assumes nothing.
-use Prim.Native.Nat.{ℕ, zero, suc, ◌+◌, ◌-◌, ◌<◌, ◌≤◌}
+use Prim.Native.Nat.{ℕ, zero, suc, ◌+◌, ◌-◌, ◌<◌, ◌≤◌, min}
 use mathlib.Core.Path.{◌≡◌, refl, ap, ◌∙◌, sym}
+use mathlib.Core.Bool.{Bool, cond}
 use mathlib.Core.List.{List, [], ◌∷◌, map}
 use native.Mathlib.Omega.{arith}
 use lib.Dec.{ltb}
-use lib.ListN.{length, get_or, take, drop, set, replicate, length-set, length-replicate}
+use lib.ListN.{length, get_or, take, drop}
 use borrow.Author.Tests.{lt-ltb}
 use Rattle.rl_spec.specs.declared.Argument.{Argument}
 use Rattle.rl_spec.specs.declared.Arguments.{Arguments}
@@ -12,19 +13,15 @@ use Rattle.rl_spec.specs.declared.Counts.{Counts}
 use Rattle.rl_spec.specs.declared.Interval.{Interval}
 use Rattle.rl_spec.specs.declared.Param.{Param}
 use Rattle.rl_spec.specs.declared.Plain.TheVariants.{Null}
-use Rattle.rl_spec.specs.declared.Value.{Value}
 use Rattle.rl_spec.specs.declared.Value.TheVariants.{Plain as Bare}
 use Rattle.rl_spec.specs.Image.{Image}
 use Rattle.rl_spec.specs.Found.{image_found}
 use Rattle.rl_spec.specs.Records.{param_at}
 use Rattle.rl_spec.specs.Ranges.{up_from}
 use Rattle.rl_spec.specs.Run as run
+use Rattle.rl_spec.specs.Run.{Env}
 use Rattle.rl_spec.specs.Reading.{bind_all}
 use Rattle.rl_spec.specs.Runner.{value_of, given, values_of}
-use Rattle.rl_statements.specs.declared.types.Binding.{Binding}
-use Rattle.rl_statements.specs.declared.types.Env.{Env}
-use Rattle.rl_statements.specs.Bindings.{bound_of, bounds_in, Held, bounds}
-use Rattle.rl_statements.proofs.BindingLaws.{bounds_length, bounds_pushed}
 use Rattle.rl_runner.specs.Bound.{param_names, BindsAll}
 
 -- ---- lists
@@ -70,64 +67,45 @@ abbrev values_left : Arguments → ℕ → List (run.Value ℕ)
 values_left args i = values_of (drop i (given args))
 
 -- the first i parameters are bound
-pub record Bound (image : List ℕ) (counts : Counts) (params : Interval) (args : Arguments) (e : Env) (i : ℕ) : Type 0 where
-  pub at : e.len ≡ i
-  pub held : Held e
-  pub within : i ≤ 16
+pub record Bound (image : List ℕ) (counts : Counts) (params : Interval) (args : Arguments) (e : Env ℕ) (i : ℕ) : Type 0 where
+  pub at : length e ≡ i
   pub left : args.count ≤ 16 → params.count ≤ args.count → (p : List ℕ) (n : ℕ)
-      → bind_all (names_left (image_found image p counts) params i) (values_left args i) (bounds e) n
+      → bind_all (names_left (image_found image p counts) params i) (values_left args i) e n
       ≡ bind_all (param_names (image_found image p counts) params) (values_of (given args)) [] n
 
 module _ (image : List ℕ) (counts : Counts) (params : Interval) (args : Arguments) where
   start : (im : Image) → names_left im params 0 ≡ param_names im params
   start im = same_names im (params.first + 0) params.first (params.count - 0) params.count (omega arith) (omega arith)
 
-  pub bound_none : (b : Binding) → Bound image counts params args (record { slots = replicate 128 b; len = 0 }) 0
-  unfolding bounds_in
-  bound_none b =
-      record {
-        at = refl;
-        held = record { fits = omega arith; slots = length-replicate 128 b };
-        within = omega arith;
-        left = λ l h p n. ap (λ xs. bind_all xs (values_of (given args)) [] n) (start (image_found image p counts));
-      }
+  pub bound_none : Bound image counts params args [] 0
+  bound_none =
+      record { at = refl; left = λ l h p n. ap (λ xs. bind_all xs (values_of (given args)) [] n) (start (image_found image p counts)) }
 
-  pub bound_all : (e : Env) (i : ℕ) → Bound image counts params args e i → params.count ≤ i
+  pub bound_all : (e : Env ℕ) (i : ℕ) → Bound image counts params args e i → i ≡ min params.count 16
       → (p : List ℕ) → args.count ≤ 16 → params.count ≤ args.count → BindsAll (image_found image p counts) params args e
   bound_all e i h k p l m n =
       sym (h.left l m p n)
-      ∙ ap (λ xs. bind_all xs (values_left args i) (bounds e) n)
-      (same_names (image_found image p counts) (params.first + i) (params.first + i) (params.count - i) 0 refl (omega (arith, k))
+      ∙ ap (λ xs. bind_all xs (values_left args i) e n)
+      (same_names (image_found image p counts) (params.first + i) (params.first + i) (params.count - i) 0 refl (omega (arith, k, l, m))
       ∙ names_zero (image_found image p counts) (params.first + i))
-
-  pub bound_most : (e : Env) (i : ℕ) → Bound image counts params args e i → 16 ≤ i
-      → (p : List ℕ) → args.count ≤ 16 → params.count ≤ args.count → BindsAll (image_found image p counts) params args e
-  bound_most e i h k p l m = bound_all e i h (omega (arith, k, l, m)) p l m
 
   plus_one : (n : ℕ) → suc n ≡ n + 1
   plus_one n = omega arith
 
   -- one more
-  bind_one : (x : ℕ) (v : run.Value ℕ) (xs : List ℕ) (vs : List (run.Value ℕ)) (e : Env) (n : ℕ) → e.len < 128
-      → bind_all (x ∷ xs) (v ∷ vs) (bounds e) n ≡ bind_all xs vs (run.named x v ∷ bounds e) n
-  bind_one x v xs vs e n h = rw (ap (λ k. ltb k 128) (bounds_length e.slots e.len) ∙ lt-ltb e.len 128 h) refl
+  bind_one : (x : ℕ) (v : run.Value ℕ) (xs : List ℕ) (vs : List (run.Value ℕ)) (e : Env ℕ) (n : ℕ) → length e < 128
+      → bind_all (x ∷ xs) (v ∷ vs) e n ≡ bind_all xs vs (run.named x v ∷ e) n
+  bind_one x v xs vs e n h = rw (lt-ltb (length e) 128 h) refl
 
-  bound_step : (im : Image) (e : Env) (i : ℕ) (x : Param) (b : Binding) → e.len ≡ i → Held e → i < 16 → i < params.count → args.count ≤ 16
-      → params.count ≤ args.count → length args.values ≡ 16 → x ≡ param_at im (params.first + i)
-      → bound_of b ≡ run.named x.name (value_of (get_or args.values i no_argument).value) → (n : ℕ)
-      → bind_all (names_left im params i) (values_left args i) (bounds e) n
-      ≡ bind_all (names_left im params (i + 1)) (values_left args (i + 1)) (bounds_in (set e.slots i b) (i + 1)) n
-  bound_step im e i x b a d h k l m z y w n =
-      ap (λ xs. bind_all xs (values_left args i) (bounds e) n) (next_name im params.first params.count i k)
-      ∙ ap (λ vs. bind_all (nm ∷ names_left im params (i + 1)) vs (bounds e) n)
+  bound_step : (im : Image) (e : Env ℕ) (i : ℕ) → length e < 128 → i < params.count → args.count ≤ 16 → params.count ≤ args.count → length args.values ≡ 16 → (n : ℕ)
+      → bind_all (names_left im params i) (values_left args i) e n
+      ≡ bind_all (names_left im params (i + 1)) (values_left args (i + 1)) (run.named (param_at im (params.first + i)).name (value_of (get_or args.values i no_argument).value) ∷ e) n
+  bound_step im e i h k l m z n =
+      ap (λ xs. bind_all xs (values_left args i) e n) (next_name im params.first params.count i k)
+      ∙ ap (λ vs. bind_all (nm ∷ names_left im params (i + 1)) vs e n)
       (ap values_of (next_given args.values args.count i (omega (arith, k, m)) (omega (arith, l, z)))
       ∙ ap (λ j. v ∷ values_left args j) (plus_one i))
-      ∙ bind_one nm v (names_left im params (i + 1)) (values_left args (i + 1)) e n (omega (arith, a, h))
-      ∙ ap (λ env. bind_all (names_left im params (i + 1)) (values_left args (i + 1)) env n)
-      (ap (λ j. run.named nm v ∷ bounds_in e.slots j) a
-      ∙ ap (λ z. z ∷ bounds_in e.slots i) (sym (w ∙ ap (λ q. run.named q.name v) y))
-      ∙ sym (bounds_pushed e.slots i b (omega (arith, h, d.slots)))
-      ∙ ap (bounds_in (set e.slots i b)) (plus_one i))
+      ∙ bind_one nm v (names_left im params (i + 1)) (values_left args (i + 1)) e n h
     where
       nm : ℕ
       nm = (param_at im (params.first + i)).name
@@ -135,14 +113,13 @@ module _ (image : List ℕ) (counts : Counts) (params : Interval) (args : Argume
       v : run.Value ℕ
       v = value_of (get_or args.values i no_argument).value
 
-  pub bound_one : (e : Env) (i : ℕ) (x : Param) (b : Binding) → Bound image counts params args e i → i < 16 → i < params.count
-      → length args.values ≡ 16 → ((p : List ℕ) → x ≡ param_at (image_found image p counts) (params.first + i))
-      → bound_of b ≡ run.named x.name (value_of (get_or args.values i no_argument).value)
-      → Bound image counts params args (record { slots = set e.slots i b; len = i + 1 }) (i + 1)
-  bound_one e i x b h k c z y w =
+  pub bound_one : (e e' : Env ℕ) (i : ℕ) (x : Param) (b : Bool) → Bound image counts params args e i → i < min params.count 16 → length args.values ≡ 16
+      → ((p : List ℕ) → x ≡ param_at (image_found image p counts) (params.first + i)) → b ≡ ltb (length e) 128
+      → e' ≡ cond b (run.named x.name (value_of (get_or args.values i no_argument).value) ∷ e) e → Bound image counts params args e' (i + 1)
+  bound_one e e' i x b h k z y d g =
+      rw (g, d, lt-ltb (length e) 128 (omega (arith, h.at, k)))
       record {
-        at = refl;
-        held = record { fits = omega (arith, k); slots = length-set e.slots i b ∙ h.held.slots };
-        within = omega (arith, k);
-        left = λ l m p n. sym (bound_step (image_found image p counts) e i x b h.at h.held k c l m z (y p) w n) ∙ h.left l m p n;
+        at = omega (arith, h.at);
+        left = λ l m p n. ap (λ q. bind_all (names_left (image_found image p counts) params (i + 1)) (values_left args (i + 1)) (run.named q.name (value_of (get_or args.values i no_argument).value) ∷ e) n) (y p)
+            ∙ sym (bound_step (image_found image p counts) e i (omega (arith, h.at, k)) (omega (arith, k)) l m z n) ∙ h.left l m p n;
       }

@@ -42,9 +42,7 @@ use Rattle.rl_laws.specs.Descend.{under_earlier}
 use Rattle.rl_machine.specs.declared.types.Flow.{Flow}
 use Rattle.rl_machine.specs.declared.types.Flow.TheVariants.{Onward, Breaks, Continues, Skipped, Over}
 use Rattle.rl_machine.specs.Machine.{outcome_of, result_of, flows, item_under, as_return, body_run}
-use Rattle.rl_statements.specs.declared.types.Env.{Env as Held}
 use Rattle.rl_statements.specs.declared.types.Ran.{Ran}
-use Rattle.rl_statements.specs.Bindings.{bounds}
 use Rattle.rl_statements.specs.Lists.{last_returned, body_left, list_run, Runs}
 use Rattle.rl_runner.specs.Bound.{param_names, BindsAll}
 use Rattle.rl_runner.specs.Ends.{outcome_after}
@@ -157,7 +155,7 @@ small : (s : List ℕ) → ((i : ℕ) → Fits w8 (get_or s i 0)) → (at : ℕ)
 unfolding u16_at
 small s h at = omega (arith, (h at).fits, (h (at + 1)).fits)
 
-entry_small : (s p : List ℕ) (c : Counts) → ((i : ℕ) → Fits w8 (get_or s i 0)) → (k : ℕ) → entry_of (image_found s p c) k < 65536
+pub entry_small : (s p : List ℕ) (c : Counts) → ((i : ℕ) → Fits w8 (get_or s i 0)) → (k : ℕ) → entry_of (image_found s p c) k < 65536
 entry_small s p c h k =
     by_ltb k c.lists
     (λ l. subst (λ (x : ℕ). x < 65536) (sym (entry_found s p c k l)) (small s h _))
@@ -184,21 +182,21 @@ whole_body im h list =
 
 -- ---- the function
 
-module _ (s p : List ℕ) (c : Counts) (bytes : (i : ℕ) → Fits w8 (get_or s i 0)) where
+module _ (s p : List ℕ) (c : Counts) (narrow : (k : ℕ) → entry_of (image_found s p c) k < 65536) where
   abbrev im : Image
   im = image_found s p c
 
-  body_ran : (list : Interval) (e : Held) (budget : ℕ) (r : Ran) → Runs (list_run im 65536 true false None list) e budget r
-      → finish budget (top (text_of im) plainly (body_tree im list) (bounds e) budget)
+  body_ran : (list : Interval) (e : Env ℕ) (budget : ℕ) (r : Ran) → Runs (list_run im 65536 true false None list) e budget r
+      → finish budget (top (text_of im) plainly (body_tree im list) e budget)
       ≡ (outcome_of (outcome_after r.flow), budget - r.left)
   body_ran list e budget r h =
-      top_ends budget (text_of im) (body_tree im list) (bounds e) budget
-      ∙ ap (λ b. end_of budget (body_run im (last_returned b) (bounds e) budget)) (sym (whole_body im (entry_small s p c bytes) list))
-      ∙ sym (end_left budget (length (bounds e)) (body_run im (last_returned (body_left im 65536 list 0)) (bounds e) budget))
+      top_ends budget (text_of im) (body_tree im list) e budget
+      ∙ ap (λ b. end_of budget (body_run im (last_returned b) e budget)) (sym (whole_body im narrow list))
+      ∙ sym (end_left budget (length e) (body_run im (last_returned (body_left im 65536 list 0)) e budget))
       ∙ ap (end_of budget) (sym h.does)
-      ∙ end_result budget r.flow (bounds r.env) r.left
+      ∙ end_result budget r.flow r.env r.left
 
-  pub function_ran : (f : ℕ) (x : Function) (args : Arguments) (budget : ℕ) (e : Held) (r : Ran) (o : Outcome)
+  pub function_ran : (f : ℕ) (x : Function) (args : Arguments) (budget : ℕ) (e : Env ℕ) (r : Ran) (o : Outcome)
       → ((q : List ℕ) → x ≡ function_at (image_found s q c) f) → args.count ≤ 16 → args.count ≡ (function_at im f).params.count
       → ((q : List ℕ) → args.count ≤ 16 → x.params.count ≤ args.count → BindsAll (image_found s q c) x.params args e)
       → Runs (list_run im 65536 true false None x.body) e budget r → o ≡ outcome_after r.flow
@@ -210,6 +208,3 @@ module _ (s p : List ℕ) (c : Counts) (bytes : (i : ℕ) → Fits w8 (get_or s 
       (ap (λ z. ran_of (finish budget (and_then (bind_all (param_names im z.params) (values_of (given args)) [] budget) (λ _. top (text_of im) plainly (body_tree im z.body))))) (sym (k p))
       ∙ ap (λ z. ran_of (finish budget (and_then z (λ _. top (text_of im) plainly (body_tree im x.body))))) (b p l (omega (arith, m, ap (λ z. z.params.count) (k p))) budget)
       ∙ ap ran_of (body_ran x.body e budget r h))
-
-pub after_onward : (f : Flow) → f ≡ Onward → Returned (Bare Null) ≡ outcome_after f
-after_onward f e = sym (ap outcome_after e)

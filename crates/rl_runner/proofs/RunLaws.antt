@@ -9,6 +9,7 @@ use lib.ListN.{get_or, replicate}
 use mir.Syntax.{w8}
 use mir.Val.{Fits}
 use borrow.Author.Tests.{ltb-true, ltb-false, eqb-true}
+use Rattle.std.specs.Prelude.{Result, Ok, Err}
 use Rattle.rl_spec.specs.Answers.{Answer, accepted, refused, RunAnswer}
 use Rattle.rl_spec.specs.declared.ArenaNo.{ArenaNo}
 use Rattle.rl_spec.specs.declared.Arguments.{Arguments}
@@ -29,22 +30,22 @@ use Rattle.rl_images.specs.Images.Limits.{texts_within, all_bytes}
 use Rattle.rl_images.specs.Reading.Refusals.{zeros_unless, refused_work}
 use Rattle.rl_images.specs.Reading.Starts.{sizes_are_counts}
 use Rattle.rl_machine.specs.Machine.{Low}
-use Rattle.rl_admission.specs.declared.Admission.{Admission}
-use Rattle.rl_admission.specs.declared.Admission.TheVariants.{Admitted, Refused}
 use Rattle.rl_admission.specs.Running.{run_admission, run_or}
 
 -- ---- what an admission says
 
-abbrev IsRefused : Admission → Type 0
-IsRefused Admitted = ⊥
-IsRefused (Refused q) = Unit {0}
+abbrev Checked : Type 0
+Checked = Result Unit Cause
 
-abbrev Checked : Bool → Bool → Bool → Bool → Admission
-Checked b c d e =
-    cond b (Refused NoSuchFunction) (cond c (Refused WrongValues) (cond d (Refused NoSuchText) (cond e (Refused BudgetOverLimit) Admitted)))
+abbrev IsRefused : Checked → Type 0
+IsRefused (Ok x) = ⊥
+IsRefused (Err q) = Unit {0}
+
+abbrev check : Bool → Bool → Bool → Bool → Checked
+check b c d e = cond b (Err NoSuchFunction) (cond c (Err WrongValues) (cond d (Err NoSuchText) (cond e (Err BudgetOverLimit) (Ok tt))))
 
 as_checked : (b c d e : Bool) (r : RunAnswer) →
-    run_or (Checked b c d e) r
+    run_or (check b c d e) r
     ≡ cond b (refused NoSuchFunction 0) (cond c (refused WrongValues 0) (cond d (refused NoSuchText 0) (cond e (refused BudgetOverLimit 0) r)))
 as_checked true c d e r = refl
 as_checked false true d e r = refl
@@ -52,11 +53,11 @@ as_checked false false true e r = refl
 as_checked false false false true r = refl
 as_checked false false false false r = refl
 
-first_held : (b c d e : Bool) → Checked b c d e ≡ Admitted → b ≡ false
+first_held : (b c d e : Bool) → check b c d e ≡ Ok tt → b ≡ false
 first_held true c d e h = absurd (subst IsRefused h tt)
 first_held false c d e h = refl
 
-second_held : (b c d e : Bool) → Checked b c d e ≡ Admitted → c ≡ false
+second_held : (b c d e : Bool) → check b c d e ≡ Ok tt → c ≡ false
 second_held true c d e h = absurd (subst IsRefused h tt)
 second_held false true d e h = absurd (subst IsRefused h tt)
 second_held false false d e h = refl
@@ -73,7 +74,7 @@ both : (b c : Bool) → (b && c) ≡ true → (b ≡ true) × (c ≡ true)
 both true c h = (refl, h)
 both false c h = absurd (subst IsFalse h tt)
 
-module _ (im : Image) (c : Counts) (f : ℕ) (args : Arguments) (budget : ℕ) (h : run_admission im c f args budget ≡ Admitted) where
+module _ (im : Image) (c : Counts) (f : ℕ) (args : Arguments) (budget : ℕ) (h : run_admission im c f args budget ≡ Ok tt) where
   abbrev none : Bool
   none = not (ltb f c.functions)
 
@@ -122,7 +123,7 @@ module _ (s : List ℕ) (k f : ℕ) (args : Arguments) (budget : ℕ) (a : Answe
     pub run_unread_work : (w : List ℕ) → w ≡ work_of s k → Work w
     run_unread_work w g = work_of_lem (refused q n) w run_unread (g ∙ refused_work s k q n (sym e ∙ h) ∙ zeros_unless q s k)
 
-  module _ (no : ArenaNo) (c : Counts) (h : a ≡ accepted no c) (p : List ℕ) (z : p ≡ starts_of s k) (x : Admission)
+  module _ (no : ArenaNo) (c : Counts) (h : a ≡ accepted no c) (p : List ℕ) (z : p ≡ starts_of s k) (x : Checked)
       (g : (q : List ℕ) → x ≡ run_admission (image_found s q c) c f args budget) where
     same_image : image_found s p c ≡ image_of s
     same_image = ap (λ (y : List ℕ). image_found s y c) z ∙ found_is_image s k no c (sym e ∙ h)
@@ -137,13 +138,13 @@ module _ (s : List ℕ) (k f : ℕ) (args : Arguments) (budget : ℕ) (a : Answe
         (sym (as_checked (not (ltb f c.functions)) (not (is_for args.count (function_at (image_of s) f).params.count)) (not (all_have c (given args))) (ltb 1000000 budget) (ran_in (image_of s) f (given args) budget)))
         ∙ ap (λ y. run_or y (ran_in (image_of s) f (given args) budget)) (sym own)
 
-    pub run_refused : (q : Cause) → x ≡ Refused q → Is (refused q 0)
+    pub run_refused : (q : Cause) → x ≡ Err q → Is (refused q 0)
     run_refused q d = sym (by_admission ∙ ap (λ y. run_or y (ran_in (image_of s) f (given args) budget)) d)
 
-    pub run_refused_work : (q : Cause) → x ≡ Refused q → (m : ℕ) (w : List ℕ) → m ≡ k → w ≡ replicate m 0 → Work w
+    pub run_refused_work : (q : Cause) → x ≡ Err q → (m : ℕ) (w : List ℕ) → m ≡ k → w ≡ replicate m 0 → Work w
     run_refused_work q d m w n y = work_of_lem (refused q 0) w (run_refused q d) (y ∙ ap (λ (i : ℕ). replicate i 0) n ∙ zeros_unless q s k)
 
-    module _ (d : x ≡ Admitted) where
+    module _ (d : x ≡ Ok tt) where
       pub run_admitted : (r : RunAnswer) → r ≡ ran_in (image_found s p c) f (given args) budget → Is r
       run_admitted r y =
           y ∙ ap (λ (im : Image). ran_in im f (given args) budget) same_image

@@ -1,5 +1,5 @@
 -- The declared types of values and operators, as those of the definitions.
-use Rattle.std.specs.Prelude.{ℕ, Bool, true, false, List, None, Some}
+use Rattle.std.specs.Prelude.{ℕ, Bool, List, None, Some}
 use Rattle.std.proofs.Math.Option.{Option, none, some}
 use Rattle.rl_spec.specs.Values as defined
 use Rattle.rl_spec.specs.declared.ConstVal.{ConstVal}

@@ -1,7 +1,7 @@
 -- What the printer writes: a line per report, in the order of the calls, or the one line of a refusal.
 use Rattle.std.specs.Prelude.{ℕ, zero, suc, ◌+◌, List, [], ◌∷◌, ◌++◌, map, slice_index_or, Ok, Err}
 use Rattle.std.proofs.Math.Option.{Option, none, some}
-use Rattle.rl_spec.specs.Answers.{Answer, refused}
+use Rattle.rl_spec.specs.Answers.{Answer}
 use Rattle.rl_spec.specs.declared.Cause.{Cause}
 use Rattle.rl_spec.specs.declared.Violation.{Violation}
 use Rattle.rl_spec.specs.Read.{number_of, answer_of}

@@ -1,7 +1,7 @@
-pub mod BindingLaws
+pub mod LatestLaws
+pub mod SlotLaws
 pub mod Rests
-pub mod Falls
+pub mod StepLaws
 pub mod ListLaws
 pub mod TurnLaws
 pub mod ViewLaws
-pub mod CycleLaws

@@ -1,12 +1,11 @@
 -- A list's end: another turn of its loop, or the end of the run of the list. Assumes nothing.
-use Prim.Native.Nat.{ℕ, suc, ◌-◌, min}
+use Prim.Native.Nat.{ℕ, suc, ◌-◌}
 use mathlib.Core.Path.{◌≡◌, refl, ap, ◌∙◌, sym, subst}
 use mathlib.Core.Bool.{Bool, true, false}
-use mathlib.Core.List.{List}
+use mathlib.Core.List.{List, []}
 use mathlib.Core.Option.{Option, none, some}
 use native.Mathlib.Omega.{arith}
-use lib.ListN.{length}
-use Rattle.rl_spec.specs.declared.Interval.{Interval}
+use lib.ListN.{length, drop}
 use Rattle.rl_spec.specs.Answers.{Optional}
 use Rattle.rl_spec.specs.declared.Outcome.TheVariants.{Spent}
 use Rattle.rl_spec.specs.Image.{Image, text_of}
@@ -22,13 +21,12 @@ use Rattle.rl_machine.specs.declared.types.Flow.TheVariants.{Onward, Breaks, Con
 use Rattle.rl_machine.specs.declared.types.State.{State}
 use Rattle.rl_machine.specs.declared.types.State.TheVariants.{Ends}
 use Rattle.rl_machine.specs.Machine.{result_of, flows, guarded, tested, Room, Low, Means}
-use Rattle.rl_statements.specs.declared.types.Env.{Env}
-use Rattle.rl_statements.specs.declared.types.Waiting.{Waiting}
-use Rattle.rl_statements.specs.declared.types.Turn.{Turn}
+use Rattle.std.specs.Prelude as std
 use Rattle.std.specs.Prelude.{None, Some}
-use Rattle.rl_statements.specs.Bindings.{Held, bounds_in, bounds}
-use Rattle.rl_statements.specs.Lists.{list_left, turn_of, by_turn, loop_rest, turned, list_run, turn_after, BeginsList, Runs, resume, FramesRoom, Stands}
-use Rattle.rl_statements.proofs.BindingLaws.{bounds_left}
+use Rattle.rl_machine.specs.declared.types.Frame.{Frame}
+use Rattle.rl_statements.specs.declared.types.Block.{Block}
+use Rattle.rl_statements.specs.Lists.{block_left, block_run, turn_of, by_turn, loop_rest, turned, turn_after, BeginsList, Runs}
+use Rattle.rl_statements.specs.Steps.{resume, Stands}
 
 -- ---- a turn
 
@@ -61,36 +59,17 @@ loop_spent : (im : Image) (c : Option (Expr ℕ)) (b : Body ℕ) (env : run.Env 
 unfolding turns
 loop_spent im c b env = refl
 
--- ---- the end of a list
-
--- the scope is closed
-closed : (e : Env) (base left : ℕ) (f : Flow) → result_of f (bounds_in e.slots (min base e.len)) left ≡ leaving base (result_of f (bounds e) left)
-closed e base left Onward = ap (λ env. got Onward env left) (sym (bounds_left e.slots base e.len))
-closed e base left Breaks = ap (λ env. got Breaks env left) (sym (bounds_left e.slots base e.len))
-closed e base left Continues = ap (λ env. got Continues env left) (sym (bounds_left e.slots base e.len))
-closed e base left Skipped = ap (λ env. got Skipped env left) (sym (bounds_left e.slots base e.len))
-closed e base left (Over o) = refl
-
-abbrev closing : Env → ℕ → Env
-closing e len = record { slots = e.slots; len = len }
-
-closing_held : (e : Env) (base len : ℕ) → len ≡ min base e.len → Held e → Held (closing e len)
-closing_held e base len k h = record { fits = omega (arith, k, h.fits); slots = h.slots }
-
-one_more : (n : ℕ) → (n ≡ 0 → ⊥) → suc (n - 1) ≡ n
-one_more n h = omega (arith, h)
-
 -- ---- what a turn's end says
 
-abbrev IsAgain : Turn → Type 0
+abbrev IsAgain : std.Option Flow → Type 0
 IsAgain None = Unit {0}
 IsAgain (Some g) = ⊥
 
-abbrev IsFinish : Turn → Type 0
+abbrev IsFinish : std.Option Flow → Type 0
 IsFinish None = ⊥
 IsFinish (Some g) = Unit {0}
 
-abbrev finish_of : Turn → Flow
+abbrev finish_of : std.Option Flow → Flow
 finish_of None = Onward
 finish_of (Some g) = g
 
@@ -117,99 +96,86 @@ module _ (im : Image) (c : Option (Expr ℕ)) (b : Body ℕ) (env : run.Env ℕ)
 
 -- ---- what a list begins with
 
-all_of : (n : ℕ) → min n n ≡ n
-all_of n = omega arith
+all_less : (n : ℕ) → n - n ≡ 0
+all_less n = omega arith
 
 -- nothing was bound since
-unchanged : (e : Env) (n : ℕ) → leaving e.len (got Onward (bounds e) n) ≡ got Onward (bounds e) n
-unchanged e n = ap (λ env. got Onward env n) (bounds_left e.slots e.len e.len ∙ ap (bounds_in e.slots) (all_of e.len))
-
 pub loop_first : (condition : Optional) → BeginsList true condition (Ends Onward)
-loop_first condition im rest k e n = ap (turned im true (optional_tree im condition) rest) (unchanged e n)
+loop_first condition im rest k env n = ap (λ m. turned im true (optional_tree im condition) rest (got Onward (drop m env) n)) (all_less (length env))
 
-pub list_first : (condition : Optional) (st : State)
-    → ((im : Image) → Means im st (λ base rest k. guarded im (optional_tree im condition) rest)) → BeginsList false condition st
-list_first condition st m im rest k e n = m im e.len rest k (bounds e) n
+-- ---- the end of a list
 
-module _ (im : Image) (whole : Result ℕ Flow) (bound : ℕ) (outermost : Bool) (list : Interval) (budget : ℕ) (looping : Bool) (condition : Optional) where
+one_more : (n : ℕ) → (n ≡ 0 → ⊥) → suc (n - 1) ≡ n
+one_more n h = omega (arith, h)
+
+-- the scope is closed
+closed : (env : run.Env ℕ) (base left : ℕ) (f : Flow) → result_of f (drop (length env - base) env) left ≡ leaving base (result_of f env left)
+closed env base left Onward = refl
+closed env base left Breaks = refl
+closed env base left Continues = refl
+closed env base left Skipped = refl
+closed env base left (Over o) = refl
+
+-- where a list of an image stands that began with the bindings env
+abbrev pub Listing : Image → Block → ℕ → run.Env ℕ → run.Env ℕ → ℕ → ℕ → ℕ → List Frame → State → Type 0
+Listing im block budget env₀ env left base done fs st =
+    Stands im (turned im block.looping (optional_tree im block.condition) (block_left im block 0)) (block_run im block env₀ budget) block budget env left base done fs st
+
+module _ (im : Image) (block : Block) (budget : ℕ) (env₀ : run.Env ℕ) where
   abbrev c : Option (Expr ℕ)
-  c = optional_tree im condition
+  c = optional_tree im block.condition
 
   abbrev b : Body ℕ
-  b = list_left im bound outermost list 0
+  b = block_left im block 0
 
-  abbrev At : Env → ℕ → ℕ → ℕ → List Waiting → ℕ → State → Type 0
-  At e left base done fs top st = Stands im (turned im looping c b) whole bound outermost list budget e left base done fs top st
+  abbrev At : run.Env ℕ → ℕ → ℕ → ℕ → List Frame → State → Type 0
+  At env left base done fs st = Listing im block budget env₀ env left base done fs st
 
-  pub list_begins : (e : Env) (fs : List Waiting) (st : State) → whole ≡ list_run im bound outermost looping condition list (bounds e) budget
-      → BeginsList looping condition st → ((im : Image) (bound : ℕ) → Low im → Room im bound 0 st) → Low im → Held e → length fs ≡ 69 → At e budget e.len 0 fs 0 st
-  unfolding FramesRoom
-  list_begins e fs st w m r l f z =
+  pub list_begins : (fs : List Frame) (base : ℕ) (st : State) → fs ≡ [] → base ≡ length env₀ → BeginsList block.looping block.condition st
+      → ((im : Image) (bound : ℕ) → Low im → Room im bound 0 st) → Low im → At env₀ budget base 0 fs st
+  list_begins fs base st d z m r l =
+      rw (d, z)
       record {
-        means = m im b (resume im e.len b fs 0) e budget ∙ sym w;
-        room = r im bound l;
+        means = m im b (resume im (length env₀) b []) env₀ budget;
+        room = r im block.bound l;
         frames = tt;
-        most = omega arith;
-        held = f;
-        size = z;
         less = omega arith;
-        within = omega arith;
       }
 
-  module _ (e : Env) (left base done : ℕ) (fs : List Waiting) (top : ℕ) (f : Flow) (len : ℕ) (k : len ≡ min base e.len) where
+  module _ (env : run.Env ℕ) (left base done : ℕ) (fs : List Frame) (st₀ : State) (h₀ : At env left base done fs st₀) (f : Flow) (e₀ : st₀ ≡ Ends f)
+      (env' : run.Env ℕ) (k : env' ≡ drop (length env - base) env) where
+    h : At env left base done fs (Ends f)
+    h = subst (λ x. At env left base done fs x) e₀ h₀
+
     -- what is closed comes to the whole
-    whole_closed : At e left base done fs top (Ends f) → turned im looping c b (result_of f (bounds (closing e len)) left) ≡ whole
-    whole_closed h = ap (λ l. turned im looping c b (result_of f (bounds_in e.slots l) left)) k ∙ ap (turned im looping c b) (closed e base left f) ∙ h.means
+    whole_closed : turned im block.looping c b (result_of f env' left) ≡ block_run im block env₀ budget
+    whole_closed = ap (λ e. turned im block.looping c b (result_of f e left)) k ∙ ap (turned im block.looping c b) (closed env base left f) ∙ h.means
 
-    pub list_finished : (g : Flow) → (st₀ : State) → At e left base done fs top st₀ → st₀ ≡ (Ends f) → turn_after looping f ≡ Some g → (m : Run ℕ Flow) (env : Env)
-        → whole ≡ m (bounds env) budget → Runs m env budget (record { flow = g; env = closing e len; left = left })
-    list_finished g st₀ h₀ e₀ t m env w =
-        record {
-          does = finished im c b (bounds (closing e len)) left looping f g t ∙ whole_closed h ∙ w;
-          less = h.less;
-          held = closing_held e base len k h.held;
-        }
-      where
-        h : At e left base done fs top (Ends f)
-        h = subst (λ x. At e left base done fs top x) e₀ h₀
+    module _ (t : turn_after block.looping f ≡ None) where
+      pub turns_spent : left ≡ 0 → Runs (block_run im block) env₀ budget (record { flow = Over Spent; env = env'; left = left })
+      turns_spent z =
+          record {
+            does =
+                ap (ended run.spent) z
+                ∙ sym (ap (λ n. flows (loop_rest im c b env' n)) z ∙ loop_spent im c b env')
+                ∙ goes_on im c b env' left block.looping f t
+                ∙ whole_closed;
+            less = h.less;
+          }
 
-    pub turns_spent : (st₀ : State) → At e left base done fs top st₀ → st₀ ≡ (Ends f) → turn_after looping f ≡ None → left ≡ 0 → (m : Run ℕ Flow) (env : Env)
-        → whole ≡ m (bounds env) budget → Runs m env budget (record { flow = Over Spent; env = closing e len; left = left })
-    turns_spent st₀ h₀ e₀ t z m env w =
-        record {
-          does =
-              ap (ended run.spent) z
-              ∙ sym (ap (λ n. flows (loop_rest im c b (bounds (closing e len)) n)) z ∙ loop_spent im c b (bounds (closing e len)))
-              ∙ goes_on im c b (bounds (closing e len)) left looping f t
-              ∙ whole_closed h
-              ∙ w;
-          less = h.less;
-          held = closing_held e base len k h.held;
-        }
-      where
-        h : At e left base done fs top (Ends f)
-        h = subst (λ x. At e left base done fs top x) e₀ h₀
-
-    pub turns_again : (st : State) → (st₀ : State) → At e left base done fs top st₀ → st₀ ≡ (Ends f) → turn_after looping f ≡ None → (left ≡ 0 → ⊥)
-        → ((im : Image) → Means im st (λ base rest k. guarded im (optional_tree im condition) rest)) → ((im : Image) (bound : ℕ) → Low im → Room im bound 0 st) → Low im → At (closing e len) (left - 1) base 0 fs 0 st
-    unfolding FramesRoom
-    turns_again st st₀ h₀ e₀ t p m r l =
-        record {
-          means =
-              ap (turned im looping c b) (m im base b (resume im base b fs 0) (bounds (closing e len)) (left - 1))
-              ∙ ap (λ x. turned im x c b (guarded im c b (bounds (closing e len)) (left - 1))) (is_loop im c b (bounds e) left looping f t)
-              ∙ loop_turn_lem im c b (bounds (closing e len)) (left - 1)
-              ∙ ap (λ n. flows (loop_rest im c b (bounds (closing e len)) n)) (one_more left p)
-              ∙ goes_on im c b (bounds (closing e len)) left looping f t
-              ∙ whole_closed h;
-          room = r im bound l;
-          frames = tt;
-          most = omega arith;
-          held = closing_held e base len k h.held;
-          size = h.size;
-          less = omega (arith, h.less);
-          within = omega arith;
-        }
-      where
-        h : At e left base done fs top (Ends f)
-        h = subst (λ x. At e left base done fs top x) e₀ h₀
+      pub turns_again : (fs' : List Frame) (st : State) → (left ≡ 0 → ⊥) → fs' ≡ [] → ((im : Image) → Means im st (λ base rest k. guarded im (optional_tree im block.condition) rest))
+          → ((im : Image) (bound : ℕ) → Low im → Room im bound 0 st) → Low im → At env' (left - 1) base 0 fs' st
+      turns_again fs' st p d m r l =
+          rw d
+          record {
+            means =
+                ap (turned im block.looping c b) (m im base b (resume im base b []) env' (left - 1))
+                ∙ ap (λ x. turned im x c b (guarded im c b env' (left - 1))) (is_loop im c b env left block.looping f t)
+                ∙ loop_turn_lem im c b env' (left - 1)
+                ∙ ap (λ n. flows (loop_rest im c b env' n)) (one_more left p)
+                ∙ goes_on im c b env' left block.looping f t
+                ∙ whole_closed;
+            room = r im block.bound l;
+            frames = tt;
+            less = omega (arith, h.less);
+          }

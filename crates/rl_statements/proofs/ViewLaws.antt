@@ -1,21 +1,17 @@
--- Statements that hold statements: what their parts come to; and how a turn ends. Assumes nothing.
+-- Statements that hold statements: what their parts come to. Assumes nothing.
 use Prim.Native.Nat.{ℕ, ◌+◌, ◌-◌, ◌<◌, ◌≤◌}
 use mathlib.Core.Path.{◌≡◌, refl, ap, ◌∙◌, sym, subst}
 use mathlib.Core.Bool.{Bool, true, false}
-use mathlib.Core.List.{List, [], ◌∷◌}
+use mathlib.Core.List.{List}
 use mathlib.Core.Option.{none, some}
 use native.Mathlib.Omega.{arith}
 use lib.ListN.{length, drop}
-use types.Run.{OneOf, miss}
-use denote.Enum.Declared.{tag_of}
 use Rattle.rl_spec.specs.declared.Counts.{Counts}
 use Rattle.rl_spec.specs.declared.Interval.{Interval}
 use Rattle.rl_spec.specs.Answers.{Optional}
-use Rattle.std.specs.Prelude.{None, Some}
-use Rattle.rl_spec.specs.declared.Outcome.{Outcome}
+use Rattle.std.specs.Prelude.{Option as Maybe, None, Some}
 use Rattle.rl_spec.specs.declared.StatementForm.{StatementForm}
 use Rattle.rl_spec.specs.declared.StatementForm.TheVariants as form
-use Rattle.rl_spec.specs.contracts.StatementForm as forms
 use Rattle.rl_spec.specs.Image.{Image, text_of}
 use Rattle.rl_spec.specs.Found.{image_found}
 use Rattle.rl_spec.specs.Tree.{expr_tree, optional_tree}
@@ -26,16 +22,12 @@ use Rattle.rl_spec.specs.Reading.{plainly, taken, when, stmt, body, branch_or}
 use Rattle.rl_laws.specs.Descend.{item_is, under_earlier, under_later}
 use Rattle.rl_machine.specs.declared.types.Flow.{Flow}
 use Rattle.rl_machine.specs.declared.types.Flow.TheVariants.{Onward, Breaks, Continues, Skipped, Over}
-use Rattle.rl_machine.specs.contracts.types.Flow as flow
 use Rattle.rl_machine.specs.Machine.{result_of, flows, body_run, tested, guarded, compound, item_under}
-use Rattle.rl_statements.specs.declared.types.BranchForm.{BranchForm}
-use Rattle.rl_statements.specs.declared.types.BranchForm.TheVariants as branches
+use Rattle.rl_statements.specs.declared.types.Block.{Block}
 use Rattle.rl_statements.specs.declared.types.ElseForm.{ElseForm}
-use Rattle.rl_statements.specs.declared.types.ElseForm.TheVariants as elses
 use Rattle.rl_statements.specs.declared.types.CompoundForm.{CompoundForm}
-use Rattle.rl_statements.specs.declared.types.CompoundForm.TheVariants as compounds
 use Rattle.rl_statements.specs.Lists as lists
-use Rattle.rl_statements.specs.Lists.{body_left, run_of, statement_run, unskipped, turn_after}
+use Rattle.rl_statements.specs.Lists.{body_left, run_of, statement_run, unskipped}
 use Rattle.rl_statements.specs.Views.{branch_of, else_of, compound_of, or_else, BranchIs, ElseIs, CompoundIs}
 
 -- ---- the parts of a form
@@ -75,10 +67,10 @@ branch_in im i = lists.branch_of im (as_branch i)
 
 module _ (im : Image) (limit b : ℕ) where
   -- no branch stands there
-  no_branch : (i : Item ℕ) → item_under im limit b ≡ i → as_branch i ≡ branch none nil → BranchIs im limit b branches.Missing
+  no_branch : (i : Item ℕ) → item_under im limit b ≡ i → as_branch i ≡ branch none nil → BranchIs im limit b None
   no_branch i e f env n = ap (λ j. branch_in im j env n) e ∙ ap (λ p. lists.branch_of im p env n) f ∙ nothing_done im env n
 
-  branch_is : (x : StatementForm) → b < limit → statement_of im b ≡ x → BranchIs im limit b (branch_of x)
+  branch_is : (x : StatementForm) → b < limit → statement_of im b ≡ x → BranchIs im limit b (branch_of x b)
   branch_is (form.Declaration y n) h e = no_branch _ (item_at im limit b _ h e) refl
   branch_is (form.Expression n) h e = no_branch _ (item_at im limit b _ h e) refl
   branch_is (form.Return n) h e = no_branch _ (item_at im limit b _ h e) refl
@@ -133,7 +125,7 @@ module _ (im : Image) (limit : ℕ) (other : Optional) where
   abbrev else_in : Else ℕ → Run ℕ Flow
   else_in x env n = flows (reading.or_else (text_of im) plainly x env n)
 
-  no_else_lem : else_by (item_under im limit) other ≡ no_else → ElseIs im limit other elses.Missing
+  no_else_lem : else_by (item_under im limit) other ≡ no_else → ElseIs im limit other None
   unfolding reading.or_else
   no_else_lem e env n = ap (λ x. else_in x env n) e
 
@@ -169,7 +161,7 @@ module _ (im : Image) (s : ℕ) where
       → statement_run im s env n ≡ compound im (as_statement (item_by im x (item_under im s))) env n
   made x e env n = ap (λ y. compound im y env n) (statement_at im s x e)
 
-  compound_is : (x : StatementForm) → statement_of im s ≡ x → CompoundIs im s (compound_of x)
+  compound_is : (x : StatementForm) → statement_of im s ≡ x → CompoundIs im s (compound_of x s)
   unfolding stmt
   compound_is (form.Declaration y n) e = made _ e
   compound_is (form.Expression n) e = made _ e
@@ -179,11 +171,12 @@ module _ (im : Image) (s : ℕ) where
       λ env n. made _ e env n
       ∙ branch_or_lem im (reading.or_else (text_of im) plainly (else_by (item_under im s) other)) (as_branch (item_under im s b)) env n
   compound_is (form.Branch n list) e = made _ e
-  compound_is (form.While n list) e =
-      λ env m. made _ e env m
-      ∙ ap (λ b. run_of im true (some (expr_tree im n)) b env m) (sym (whole_list im s list))
-  compound_is (form.Loop list) e =
-      λ env m. made _ e env m ∙ ap (λ b. run_of im true none b env m) (sym (whole_list im s list))
+  compound_is (form.While n list) e = (
+    omega arith,
+    λ env m. made _ e env m
+        ∙ ap (λ b. run_of im true (some (expr_tree im n)) b env m) (sym (whole_list im s list)),
+  )
+  compound_is (form.Loop list) e = (omega arith, λ env m. made _ e env m ∙ ap (λ b. run_of im true none b env m) (sym (whole_list im s list)))
   compound_is form.Break e = made _ e
   compound_is form.Continue e = made _ e
   compound_is form.Other e = made _ e
@@ -194,106 +187,21 @@ module _ (b p : List ℕ) (c : Counts) where
   abbrev here : Image
   here = image_found b p c
 
-  pub branch_late : (limit i : ℕ) → limit ≤ i → BranchIs here limit i branches.Missing
+  pub branch_late : (limit i : ℕ) → limit ≤ i → BranchIs here limit i None
   branch_late limit i h = no_branch here limit i none_item (under_later (λ _. none_item) (item_tree here) limit i h) refl
 
-  pub branch_view : (limit i : ℕ) (x : StatementForm) (r : BranchForm) → i < limit → x ≡ statement_of here i → r ≡ branch_of x → BranchIs here limit i r
+  pub branch_view : (limit i : ℕ) (x : StatementForm) (r : Maybe Block) → i < limit → x ≡ statement_of here i → r ≡ branch_of x i → BranchIs here limit i r
   branch_view limit i x r h e f = subst (BranchIs here limit i) (sym f) (branch_is here limit i x h (sym e))
 
   module _ (limit : ℕ) (other : Optional) where
-    pub no_other : other ≡ None → ElseIs here limit other elses.Missing
+    pub no_other : other ≡ None → ElseIs here limit other None
     no_other e = no_else_lem here limit other (ap (else_by (item_under here limit)) e)
 
-    pub other_late : (s : ℕ) → other ≡ Some s → limit ≤ s → ElseIs here limit other elses.Missing
+    pub other_late : (s : ℕ) → other ≡ Some s → limit ≤ s → ElseIs here limit other None
     other_late s g h = no_else_lem here limit other (else_some here limit other s none_item g (under_later (λ _. none_item) (item_tree here) limit s h))
 
-    pub else_view : (s : ℕ) (x : StatementForm) (r : ElseForm) → other ≡ Some s → s < limit → x ≡ statement_of here s → r ≡ else_of x s → ElseIs here limit other r
+    pub else_view : (s : ℕ) (x : StatementForm) (r : Maybe ElseForm) → other ≡ Some s → s < limit → x ≡ statement_of here s → r ≡ else_of x s → ElseIs here limit other r
     else_view s x r g h e f = subst (ElseIs here limit other) (sym f) (else_is here limit other x s g h (sym e))
 
-  pub compound_view : (s : ℕ) (x : StatementForm) (r : CompoundForm) → x ≡ statement_of here s → r ≡ compound_of x → CompoundIs here s r
+  pub compound_view : (s : ℕ) (x : StatementForm) (r : Maybe CompoundForm) → x ≡ statement_of here s → r ≡ compound_of x s → CompoundIs here s r
   compound_view s x r e f = subst (CompoundIs here s) (sym f) (compound_is here s x (sym e))
-
--- ---- the forms of a view
-
-module _ (x : StatementForm) where
-  pub branch_form : (n : Optional) (list : Interval) → x ≡ form.Branch n list → branches.Branch n list ≡ branch_of x
-  branch_form n list e = ap branch_of (sym e)
-
-  pub compound_conditional : (b : ℕ) (o : Optional) → x ≡ form.Conditional b o → compounds.Conditional b o ≡ compound_of x
-  compound_conditional b o e = ap compound_of (sym e)
-
-  pub else_branch_form : (s : ℕ) (n : Optional) (list : Interval) → x ≡ form.Branch n list → elses.Branch s ≡ else_of x s
-  else_branch_form s n list e = ap (λ y. else_of y s) (sym e)
-
-  pub else_conditional_form : (s b : ℕ) (o : Optional) → x ≡ form.Conditional b o → elses.Conditional s ≡ else_of x s
-  else_conditional_form s b o e = ap (λ y. else_of y s) (sym e)
-
-  pub compound_while : (n : ℕ) (list : Interval) → x ≡ form.While n list → compounds.Loop (Some n) list ≡ compound_of x
-  compound_while n list e = ap compound_of (sym e)
-
-  pub compound_loop : (list : Interval) → x ≡ form.Loop list → compounds.Loop None list ≡ compound_of x
-  compound_loop list e = ap compound_of (sym e)
-
--- every form but a branch
-pub not_branch : (x : StatementForm) → OneOf (0 ∷ 1 ∷ 2 ∷ 3 ∷ 4 ∷ 6 ∷ 7 ∷ 8 ∷ 9 ∷ 10 ∷ []) (tag_of forms.the_type x) → branches.Missing ≡ branch_of x
-not_branch (form.Declaration y n) h = refl
-not_branch (form.Expression n) h = refl
-not_branch (form.Return n) h = refl
-not_branch form.ReturnAlone h = refl
-not_branch (form.Conditional b o) h = refl
-not_branch (form.Branch n list) h = absurd (miss (0 ∷ 1 ∷ 2 ∷ 3 ∷ 4 ∷ 6 ∷ 7 ∷ 8 ∷ 9 ∷ 10 ∷ []) 5 tt h)
-not_branch (form.While n list) h = refl
-not_branch (form.Loop list) h = refl
-not_branch form.Break h = refl
-not_branch form.Continue h = refl
-not_branch form.Other h = refl
-
--- every form but a branch and a conditional
-pub not_else : (x : StatementForm) (s : ℕ) → OneOf (0 ∷ 1 ∷ 2 ∷ 3 ∷ 6 ∷ 7 ∷ 8 ∷ 9 ∷ 10 ∷ []) (tag_of forms.the_type x) → elses.Missing ≡ else_of x s
-not_else (form.Declaration y n) s h = refl
-not_else (form.Expression n) s h = refl
-not_else (form.Return n) s h = refl
-not_else form.ReturnAlone s h = refl
-not_else (form.Conditional b o) s h = absurd (miss (0 ∷ 1 ∷ 2 ∷ 3 ∷ 6 ∷ 7 ∷ 8 ∷ 9 ∷ 10 ∷ []) 4 tt h)
-not_else (form.Branch n list) s h = absurd (miss (0 ∷ 1 ∷ 2 ∷ 3 ∷ 6 ∷ 7 ∷ 8 ∷ 9 ∷ 10 ∷ []) 5 tt h)
-not_else (form.While n list) s h = refl
-not_else (form.Loop list) s h = refl
-not_else form.Break s h = refl
-not_else form.Continue s h = refl
-not_else form.Other s h = refl
-
--- every form but a conditional and a loop
-pub not_compound : (x : StatementForm) → OneOf (0 ∷ 1 ∷ 2 ∷ 3 ∷ 5 ∷ 8 ∷ 9 ∷ 10 ∷ []) (tag_of forms.the_type x) → compounds.Missing ≡ compound_of x
-not_compound (form.Declaration y n) h = refl
-not_compound (form.Expression n) h = refl
-not_compound (form.Return n) h = refl
-not_compound form.ReturnAlone h = refl
-not_compound (form.Conditional b o) h = absurd (miss (0 ∷ 1 ∷ 2 ∷ 3 ∷ 5 ∷ 8 ∷ 9 ∷ 10 ∷ []) 4 tt h)
-not_compound (form.Branch n list) h = refl
-not_compound (form.While n list) h = absurd (miss (0 ∷ 1 ∷ 2 ∷ 3 ∷ 5 ∷ 8 ∷ 9 ∷ 10 ∷ []) 6 tt h)
-not_compound (form.Loop list) h = absurd (miss (0 ∷ 1 ∷ 2 ∷ 3 ∷ 5 ∷ 8 ∷ 9 ∷ 10 ∷ []) 7 tt h)
-not_compound form.Break h = refl
-not_compound form.Continue h = refl
-not_compound form.Other h = refl
-
--- ---- a turn's end
-
-module _ (l : Bool) (f : Flow) where
-  pub turn_breaks : l ≡ true → f ≡ Breaks → Some Onward ≡ turn_after l f
-  turn_breaks d e = rw (d, e) refl
-
-  pub turn_skipped : l ≡ true → f ≡ Skipped → Some Onward ≡ turn_after l f
-  turn_skipped d e = rw (d, e) refl
-
-  pub turn_over : (o : Outcome) → l ≡ true → f ≡ Over o → Some (Over o) ≡ turn_after l f
-  turn_over o d e = rw (d, e) refl
-
-  pub turn_list : l ≡ false → Some f ≡ turn_after l f
-  turn_list d = rw d refl
-
-pub not_skipped : (f : Flow) → OneOf (0 ∷ 1 ∷ 2 ∷ 4 ∷ []) (tag_of flow.the_type f) → f ≡ unskipped f
-not_skipped Onward h = refl
-not_skipped Breaks h = refl
-not_skipped Continues h = refl
-not_skipped Skipped h = absurd (miss (0 ∷ 1 ∷ 2 ∷ 4 ∷ []) 3 tt h)
-not_skipped (Over o) h = refl

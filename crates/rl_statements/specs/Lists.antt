@@ -1,5 +1,6 @@
 -- What the functions of a run promise: each comes to the run of what its index stands for. Assumes nothing.
-use Rattle.std.specs.Prelude.{ℕ, zero, suc, ◌+◌, ◌-◌, ◌*◌, ◌≤◌, ◌≡◌, Bool, true, false, List, map, length, get_or, None, Some}
+use Rattle.std.specs.Prelude as std
+use Rattle.std.specs.Prelude.{ℕ, ◌+◌, ◌-◌, ◌≤◌, ◌≡◌, Bool, true, false, List, map, length, None, Some}
 use Rattle.std.proofs.Math.Option.{Option, none, some}
 use Rattle.rl_spec.specs.declared.Interval.{Interval}
 use Rattle.rl_spec.specs.Answers.{Optional}
@@ -8,20 +9,16 @@ use Rattle.rl_spec.specs.Tree.{Expr, optional_tree}
 use Rattle.rl_spec.specs.Statement.{Body, nil, ◌▸◌, Branch, branch, as_statement, as_branch, body_from, else_by, item_tree}
 use Rattle.rl_spec.specs.Ranges.{up_from}
 use Rattle.rl_spec.specs.Run as run
-use Rattle.rl_spec.specs.Run.{Result, Run, and_then, give, halt, fail}
+use Rattle.rl_spec.specs.Run.{Env, Result, Run, and_then, give, halt}
 use Rattle.rl_spec.specs.Reading as reading
 use Rattle.rl_spec.specs.Reading.{plainly, repeat, while_turn, loop_turn, body, or_else}
 use Rattle.rl_names.specs.Names.{Classes}
 use Rattle.rl_machine.specs.declared.types.Flow.{Flow}
 use Rattle.rl_machine.specs.declared.types.Flow.TheVariants.{Onward, Breaks, Continues, Skipped, Over}
-use Rattle.rl_machine.specs.declared.types.Frame.TheVariants.{Test}
 use Rattle.rl_machine.specs.declared.types.State.{State}
-use Rattle.rl_machine.specs.Machine.{outcome_of, result_of, flows, item_under, last_as, compound, guarded, by_frame, meaning, FrameRoom, Room, Low, weight}
-use Rattle.rl_statements.specs.declared.types.Env.{Env}
+use Rattle.rl_machine.specs.Machine.{outcome_of, result_of, flows, item_under, last_as, compound, guarded, meaning, Low}
+use Rattle.rl_statements.specs.declared.types.Block.{Block}
 use Rattle.rl_statements.specs.declared.types.Ran.{Ran}
-use Rattle.rl_statements.specs.declared.types.Waiting.{Waiting}
-use Rattle.rl_statements.specs.declared.types.Turn.{Turn}
-use Rattle.rl_statements.specs.Bindings.{Held, bounds}
 
 -- ---- the statements of a list
 
@@ -75,6 +72,12 @@ abbrev pub list_run : Image → ℕ → Bool → Bool → Optional → Interval 
 list_run im bound outermost looping condition list =
     run_of im looping (optional_tree im condition) (list_left im bound outermost list 0)
 
+abbrev pub block_left : Image → Block → ℕ → Body ℕ
+block_left im block done = list_left im block.bound block.outermost block.body done
+
+abbrev pub block_run : Image → Block → Run ℕ Flow
+block_run im block = list_run im block.bound block.outermost block.looping block.condition block.body
+
 abbrev pub statement_run : Image → ℕ → Run ℕ Flow
 statement_run im s = compound im (as_statement (item_tree im s))
 
@@ -96,7 +99,7 @@ unskipped Skipped = Onward
 unskipped (Over o) = Over o
 
 -- after a turn: another one, or the end
-abbrev pub turn_after : Bool → Flow → Turn
+abbrev pub turn_after : Bool → Flow → std.Option Flow
 turn_after false f = Some f
 turn_after true Onward = None
 turn_after true Breaks = Some Onward
@@ -109,9 +112,9 @@ turn_after true (Over o) = Some (Over o)
 -- what a list begins with comes to its run
 abbrev pub BeginsList : Bool → Optional → State → Type 0
 BeginsList looping condition st =
-    (im : Image) (rest : Body ℕ) (k : run.Value ℕ → Run ℕ Flow) (e : Env) (n : ℕ)
-    → turned im looping (optional_tree im condition) rest (meaning im e.len rest st k (bounds e) n)
-    ≡ run_of im looping (optional_tree im condition) rest (bounds e) n
+    (im : Image) (rest : Body ℕ) (k : run.Value ℕ → Run ℕ Flow) (env : Env ℕ) (n : ℕ)
+    → turned im looping (optional_tree im condition) rest (meaning im (length env) rest st k env n)
+    ≡ run_of im looping (optional_tree im condition) rest env n
 
 -- what a run leans on: no tree is too high for the frames, and names are compared by classes
 pub record Sound (im : Image) (classes : List ℕ) : Type 0 where
@@ -119,43 +122,6 @@ pub record Sound (im : Image) (classes : List ℕ) : Type 0 where
   pub same : Classes (text_of im) classes
 
 -- r is what the run m comes to
-pub record Runs (m : Run ℕ Flow) (env : Env) (n : ℕ) (r : Ran) : Type 0 where
-  pub does : result_of r.flow (bounds r.env) r.left ≡ m (bounds env) n
+pub record Runs (m : Run ℕ Flow) (env : Env ℕ) (n : ℕ) (r : Ran) : Type 0 where
+  pub does : result_of r.flow r.env r.left ≡ m env n
   pub less : r.left ≤ n
-  pub held : Held r.env
-
--- ---- the machine of a list
-
-abbrev pub blank_frame : Waiting
-blank_frame = record { frame = Test }
-
--- what the first t frames do with a value, the newest first
-unfoldable pub resume : Image → ℕ → Body ℕ → List Waiting → ℕ → run.Value ℕ → Run ℕ Flow
-resume im base rest fs zero = λ v. fail 1
-resume im base rest fs (suc t) = λ v. by_frame im base rest (get_or fs t blank_frame).frame v (resume im base rest fs t)
-
-unfoldable pub FramesRoom : Image → List Waiting → ℕ → Type 0
-FramesRoom im fs zero = Unit {0}
-FramesRoom im fs (suc t) = FrameRoom im t (get_or fs t blank_frame).frame × FramesRoom im fs t
-
--- where a list stands: with what follows, its state comes to the whole
-pub record Stands (im : Image) (follow : Result ℕ Flow → Result ℕ Flow) (whole : Result ℕ Flow) (bound : ℕ) (outermost : Bool) (list : Interval) (budget : ℕ) (e : Env) (left base done : ℕ) (fs : List Waiting) (top : ℕ) (st : State) : Type 0 where
-  pub means : follow (meaning im base (list_left im bound outermost list done) st (resume im base (list_left im bound outermost list done) fs top) (bounds e) left) ≡ whole
-  pub room : Room im bound top st
-  pub frames : FramesRoom im fs top
-  pub most : top ≤ 69
-  pub held : Held e
-  pub size : length fs ≡ 69
-  pub less : left ≤ budget
-  pub within : done ≤ list.count
-
--- where a list of an image stands that began with the bindings env
-abbrev pub Listing : Image → ℕ → Bool → Bool → Optional → Interval → ℕ → Env → Env → ℕ → ℕ → ℕ → List Waiting → ℕ → State → Type 0
-Listing im bound outermost looping condition list budget env e left base done fs top st =
-    Stands im (turned im looping (optional_tree im condition) (list_left im bound outermost list 0))
-    (list_run im bound outermost looping condition list (bounds env) budget)
-    bound outermost list budget e left base done fs top st
-
--- falls with each step of the machine
-abbrev pub fuel : ℕ → ℕ → State → ℕ
-fuel left top st = left * 8 + top * 4 + weight st

@@ -2,8 +2,12 @@
 #![tactic(auto)]
 
 mod cycle;
+mod env;
+mod stack;
+mod steps;
 mod types;
 mod views;
 
-pub use cycle::{binding, list};
-pub use types::{Binding, Env, Ran};
+pub use cycle::list;
+pub use env::Env;
+pub use types::{Block, Ran, Source};

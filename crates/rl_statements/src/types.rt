@@ -1,20 +1,25 @@
-// Bindings, and what the functions of a run hand one another.
-use rl_machine::{Flow, Frame};
-use rl_spec::{Interval, Optional};
+// What the functions of a run hand one another.
+use crate::env::Env;
+use rl_machine::Flow;
+use rl_records::ImageRef;
+use rl_spec::Interval;
 
-// A name, and its value in two words.
+// An image, and the classes of its texts: equal ones have the same bytes.
 #[derive(Clone, Copy)]
-pub struct Binding {
-    pub name: u16,
-    pub sort: u16,
-    pub payload: u64,
+pub struct Source<'a> {
+    pub image: ImageRef<'a>,
+    pub classes: &'a [u16],
 }
 
-// The first `len` are bound, the latest last.
-#[derive(Drop)]
-pub struct Env {
-    pub slots: [Binding; 128],
-    pub len: usize,
+// A list of statements, each below a bound, that run where the condition holds; of a loop over and over. The last bare expression of the
+// outermost one, a function's body, gives the value.
+#[derive(Clone, Copy)]
+pub struct Block {
+    pub bound: u32,
+    pub outermost: bool,
+    pub looping: bool,
+    pub condition: Option<u16>,
+    pub body: Interval,
 }
 
 // How a list or a statement ended, the bindings and the budget that is left.
@@ -25,37 +30,16 @@ pub struct Ran {
     pub left: u32,
 }
 
-#[derive(Clone, Copy)]
-pub struct Waiting {
-    pub frame: Frame,
-}
-
-// A branch, as the list that it guards.
-#[derive(Drop)]
-pub enum BranchForm {
-    Branch { condition: Optional, body: Interval },
-    Missing,
-}
-
 // What stands behind a branch that is skipped, by its index.
-#[derive(Drop)]
+#[derive(Clone, Copy)]
 pub enum ElseForm {
     Branch(u16),
     Conditional(u16),
-    Missing,
 }
 
 // A statement that holds statements.
-#[derive(Drop)]
+#[derive(Clone, Copy)]
 pub enum CompoundForm {
-    Conditional { branch: u16, other: Optional },
-    Loop { condition: Optional, body: Interval },
-    Missing,
-}
-
-// What follows a list: another turn of its loop, or its end.
-#[derive(Drop)]
-pub enum Turn {
-    Again,
-    Finish(Flow),
+    Conditional { branch: u16, other: Option<u16> },
+    Loop(Block),
 }

@@ -1,79 +1,81 @@
 // Statements that hold statements, by their parts.
 ghost use Rattle.std.specs.Prelude.{◌≡◌};
-ghost use Rattle.rl_spec.specs.Found.{image_found};
+ghost use Rattle.rl_records.specs.Found.{found};
 ghost use Rattle.rl_statements.specs.Views.{branch_of, else_of, compound_of, BranchIs, ElseIs, CompoundIs};
 
-use crate::types::{BranchForm, CompoundForm, ElseForm};
-use rl_records::statement_at;
-use rl_spec::{Counts, Optional, StatementForm};
+use crate::types::{Block, CompoundForm, ElseForm};
+use rl_records::ImageRef;
+use rl_spec::StatementForm;
 
-fn branch_of(form: StatementForm) -> BranchForm
-    ensures { result ≡ branch_of form }
+// The list of a branch or a loop at an index: its statements are below it.
+fn branch_of(form: StatementForm, b: u16) -> Option<Block>
+    ensures { result ≡ branch_of form b }
 {
     match form {
-        StatementForm::Branch { condition, body } => BranchForm::Branch { condition, body },
-        _ => BranchForm::Missing,
+        StatementForm::Branch { condition, body } => Some(Block {
+            bound: u32::from(b),
+            outermost: false,
+            looping: false,
+            condition,
+            body,
+        }),
+        _ => None,
     }
 }
 
-fn else_of(form: StatementForm, s: u16) -> ElseForm
+fn else_of(form: StatementForm, s: u16) -> Option<ElseForm>
     ensures { result ≡ else_of form s }
 {
     match form {
-        StatementForm::Branch { condition, body } => ElseForm::Branch(s),
-        StatementForm::Conditional { branch, other } => ElseForm::Conditional(s),
-        _ => ElseForm::Missing,
+        StatementForm::Branch { .. } => Some(ElseForm::Branch(s)),
+        StatementForm::Conditional { .. } => Some(ElseForm::Conditional(s)),
+        _ => None,
     }
 }
 
-fn compound_of(form: StatementForm) -> CompoundForm
-    ensures { result ≡ compound_of form }
+fn compound_of(form: StatementForm, s: u16) -> Option<CompoundForm>
+    ensures { result ≡ compound_of form s }
 {
-    match form {
-        StatementForm::Conditional { branch, other } => CompoundForm::Conditional { branch, other },
-        StatementForm::While { condition, body } => CompoundForm::Loop {
-            condition: Optional::Some(condition),
-            body,
-        },
-        StatementForm::Loop(body) => CompoundForm::Loop {
-            condition: Optional::None,
-            body,
-        },
-        _ => CompoundForm::Missing,
-    }
+    let (condition, body) = match form {
+        StatementForm::Conditional { branch, other } => {
+            return Some(CompoundForm::Conditional { branch, other });
+        }
+        StatementForm::While { condition, body } => (Some(condition), body),
+        StatementForm::Loop(body) => (None, body),
+        _ => return None,
+    };
+    Some(CompoundForm::Loop(Block {
+        bound: u32::from(s),
+        outermost: false,
+        looping: true,
+        condition,
+        body,
+    }))
 }
 
 // The branch at an index below a limit.
-pub fn branch_at(image: &[u8], starts: &[u16], counts: Counts, b: u16, limit: u16) -> BranchForm
-    ensures { BranchIs (image_found image.now starts.now counts) limit b result }
+pub fn branch_at(image: ImageRef, b: u16, limit: u16) -> Option<Block>
+    ensures { BranchIs (found image.entry) limit b result }
 {
     if limit <= b {
-        return BranchForm::Missing;
+        return None;
     }
-    branch_of(statement_at(image, starts, counts, b))
+    branch_of(image.statement(b), b)
 }
 
 // What stands, below a limit, behind a branch that is skipped.
-pub fn else_at(
-    image: &[u8],
-    starts: &[u16],
-    counts: Counts,
-    other: Optional,
-    limit: u16,
-) -> ElseForm
-    ensures { ElseIs (image_found image.now starts.now counts) limit other result }
+pub fn else_at(image: ImageRef, other: Option<u16>, limit: u16) -> Option<ElseForm>
+    ensures { ElseIs (found image.entry) limit other result }
 {
-    let Optional::Some(s) = other else {
-        return ElseForm::Missing;
-    };
+    let s = other?;
     if limit <= s {
-        return ElseForm::Missing;
+        return None;
     }
-    else_of(statement_at(image, starts, counts, s), s)
+    else_of(image.statement(s), s)
 }
 
-pub fn compound_at(image: &[u8], starts: &[u16], counts: Counts, s: u16) -> CompoundForm
-    ensures { CompoundIs (image_found image.now starts.now counts) s result }
+pub fn compound_at(image: ImageRef, s: u16) -> Option<CompoundForm>
+    ensures { CompoundIs (found image.entry) s result }
 {
-    compound_of(statement_at(image, starts, counts, s))
+    compound_of(image.statement(s), s)
 }

@@ -1,6 +1,6 @@
 -- The laws that the functions' proofs cite: one for each way out.
 -- Assumes nothing.
-use Prim.Native.Nat.{ℕ, zero, suc, ◌+◌, ◌-◌, ◌^◌, ◌≤◌, ◌<◌, max}
+use Prim.Native.Nat.{ℕ, zero, suc, ◌+◌, ◌-◌, ◌^◌, ◌≤◌, ◌<◌}
 use mathlib.Core.Path.{◌≡◌, refl, sym, ap, ◌∙◌}
 use mathlib.Core.Bool.{Bool, true, false, cond, ◌&&◌, false≢true}
 use mathlib.Core.List.{List, [], ◌∷◌, ◌++◌}
@@ -15,7 +15,7 @@ use mir.Syntax.{w64}
 use Rattle.rl_laws.specs.Tests.{by_ltb}
 use Rattle.rl_laws.specs.Within.{within_yes, within_low, within_high}
 use Rattle.rl_text.specs.Highest.{highest_of}
-use Rattle.rl_spec.specs.Utf8.{Range, ◌to◌, within, utf8_tail, utf8_char, begins, width_by, char_width, octets, utf8, is_scalar}
+use Rattle.rl_spec.specs.Utf8.{Range, ◌to◌, within, utf8_tail, utf8_char, begins, width_by, char_width, octets, utf8}
 
 -- ---- tests
 and_true : (a : Bool) → a && true ≡ a
@@ -56,13 +56,6 @@ begins_next r rs s m n e = rw (← e, ← drop-drop 1 m s) (begins_split r rs (d
 -- n where octets of these ranges follow, else 0
 abbrev after : ℕ → List Range → List ℕ → ℕ
 after n rs t = cond (begins rs t) n 0
-
-module _ (s : List ℕ) (at : ℕ) {a : Bool} (x : a ≡ begins (utf8_tail ∷ []) (drop (at + 1) s)) where
-  pub two_yes : a ≡ true → 2 ≡ after 2 (utf8_tail ∷ []) (drop (at + 1) s)
-  two_yes p = rw (← x, p) refl
-
-  pub two_no : a ≡ false → 0 ≡ after 2 (utf8_tail ∷ []) (drop (at + 1) s)
-  two_no p = rw (← x, p) refl
 
 abbrev three : Range → List Range
 three r = r ∷ utf8_tail ∷ []
@@ -234,10 +227,6 @@ octets_skip zero t p = refl
 octets_skip (suc n) [] p = absurd (omega arith)
 octets_skip (suc n) (b ∷ t) p = octets_skip n t (omega arith)
 
-pub utf8_nil : utf8 [] ≡ true
-unfolding utf8 octets
-utf8_nil = refl
-
 -- a text goes on after its first character
 pub utf8_next : (t : List ℕ) (n : ℕ) → n ≡ width_by utf8_char t → (n ≡ 0 → ⊥) → utf8 t ≡ utf8 (drop n t)
 unfolding octets utf8 char_width
@@ -281,17 +270,6 @@ module _ (s : List ℕ) where
   text_all_ascii m e h =
       text_end s (length s) (utf8 s) (ascii (length s) (omega arith) (omega arith)) (omega arith)
 
-  pub highest_start : 0 ≡ highest_of s 0
-  unfolding highest_of
-  highest_start = refl
-
-  pub highest_more : (m i r : ℕ) → m ≡ highest_of s i → r ≡ max m (get_or s i 0) → r ≡ highest_of s (i + 1)
-  unfolding highest_of
-  highest_more m i r e f = f ∙ rw (add-one i, e) refl
-
-  pub highest_end : (m i : ℕ) → i ≤ length s → length s ≤ i → m ≡ highest_of s i → m ≡ highest_of s (length s)
-  highest_end m i p q e = e ∙ ap (highest_of s) (omega arith)
-
 pub text_within : (s : List ℕ) (i n : ℕ) → i ≤ length s → n ≡ char_width s i → i + n ≤ length s
 unfolding char_width
 text_within s i n p e = omega (arith, width_length utf8_char (drop i s), length-drop i s)
@@ -299,17 +277,13 @@ text_within s i n p e = omega (arith, width_length utf8_char (drop i s), length-
 pub text_fits : (s : List ℕ) (i n : ℕ) → i < length s → length s < 2 ^ 64 → n ≡ char_width s i → Fits w64 (i + n)
 text_fits s i n p q e = omega (arith, text_within s i n (omega arith) e)
 
--- ---- scalars
-module _ (c : ℕ) where
-  pub scalar_low : c ≤ 0xD7FF → true ≡ is_scalar c
-  unfolding is_scalar
-  scalar_low p = rw (within_yes 0 0xD7FF c (omega arith) p) refl
+-- ---- by function
+pub ruleset octet_laws = (octet_past, octet_low, octet_high)
 
-  module _ (p : 0xD7FF < c) where
-    pub scalar_gap : c < 0xE000 → false ≡ is_scalar c
-    unfolding is_scalar
-    scalar_gap q = rw (within_high 0 0xD7FF c p, within_low 0xE000 0x10FFFF c q) refl
+pub ruleset three_laws = (three_second, three_third, three_yes)
 
-    pub scalar_high : 0xE000 ≤ c → leb c 0x10FFFF ≡ is_scalar c
-    unfolding is_scalar within
-    scalar_high q = rw (within_high 0 0xD7FF c p, le-leb 0xE000 c q) refl
+pub ruleset four_laws = (four_second, four_third, four_fourth, four_yes)
+
+pub ruleset width_laws = (width_past, width_one, width_gap, width_two, width_e0, width_ed, width_three, width_f0, width_four, width_f4, width_far)
+
+pub ruleset text_laws = (text_all_ascii, text_end, text_bad, text_more, text_ascii, text_within, text_fits)

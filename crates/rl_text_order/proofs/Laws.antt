@@ -1,79 +1,40 @@
 -- The laws that the functions' proofs cite: byte by byte, and by words.
 -- Assumes nothing.
-use Prim.Native.Nat.{ℕ, suc, ◌+◌, ◌-◌, ◌*◌, ◌≤◌, ◌<◌}
+use Prim.Native.Nat.{ℕ, suc, ◌+◌, ◌-◌, ◌*◌, ◌≤◌, ◌<◌, min}
 use mathlib.Core.Path.{◌≡◌, refl, sym, ap, ap₂, ◌∙◌}
 use mathlib.Core.Bool.{Bool, true, false, cond}
 use mathlib.Core.List.{List, [], ◌∷◌}
 use native.Mathlib.Omega.{arith}
 use native.Mathlib.Nat.{add-zero, add-suc}
-use native.Mathlib.Numerals.{add-one}
-use lib.ListN.{length, get_or, take, drop, drop_of_length-le, length-drop, length-take, get_or-eq_default}
+use lib.ListN.{length, get_or, take, drop, length-drop, length-take, get_or-eq_default}
 use lib.Seq.{drop-cons, take_all, get_or-take, get_or-drop}
-use lib.Dec.{ltb, leb, eqb}
-use borrow.Author.Tests.{lt-ltb, le-ltb, le-leb, lt-leb, eq-eqb, ne_eqb}
+use Rattle.std.proofs.Common.{◌⊎◌, inl, inr}
+use Rattle.std.proofs.lemmas.List.{drop_all}
+use lib.Dec.{ltb, eqb}
+use borrow.Author.Tests.{lt-ltb, le-ltb, eq-eqb, ne_eqb}
 use Rattle.rl_laws.specs.Tests.{by_ltb}
 use Rattle.rl_laws.specs.Words.{number_after, Octets, eight_at, Word, same_word, less_word}
 use Rattle.rl_spec.specs.Values.{same_text, less_text}
 
-above_zero : (n : ℕ) → (n ≡ 0 → ⊥) → 0 < n
-above_zero n h = by_ltb 0 n (λ l. l) (λ l. absurd (h (omega arith)))
+-- ---- byte by byte
 
--- ---- byte by byte. whole is what the loop has to answer, and v its invariant
-
-module _ (a b : List ℕ) (i : ℕ) (whole : Bool) where
-  module _ (v : whole ≡ same_text (drop i a) (drop i b)) where
-    pub same_short : i < length a → length b ≤ i → false ≡ whole
-    unfolding same_text
-    same_short p q = rw (v, drop-cons a i 0 p, drop_of_length-le b q) refl
-
-    pub same_end : length a ≤ i → leb (length b) i ≡ whole
-    unfolding same_text
-    same_end p =
-        by_ltb i (length b)
-        (λ q. rw (lt-leb (length b) i q, v, drop_of_length-le a p, drop-cons b i 0 q) refl)
-        (λ q. rw (le-leb (length b) i q, v, drop_of_length-le a p, drop_of_length-le b q) refl)
-
-    module _ (p : i < length a) (q : i < length b) where
-      pub same_apart : (get_or a i 0 ≡ get_or b i 0 → ⊥) → false ≡ whole
-      unfolding same_text
-      same_apart h = rw (v, drop-cons a i 0 p, drop-cons b i 0 q, ne_eqb (get_or a i 0) (get_or b i 0) h) refl
-
-      pub same_more : get_or a i 0 ≡ get_or b i 0 → whole ≡ same_text (drop (i + 1) a) (drop (i + 1) b)
-      unfolding same_text
-      same_more h = rw (v, drop-cons a i 0 p, drop-cons b i 0 q, eq-eqb (get_or a i 0) (get_or b i 0) h, add-one i) refl
-
-  module _ (v : whole ≡ less_text (drop i a) (drop i b)) where
-    pub less_short : i < length a → length b ≤ i → false ≡ whole
-    unfolding less_text
-    less_short p q = rw (v, drop_of_length-le b q) refl
-
-    pub less_end : length a ≤ i → ltb i (length b) ≡ whole
-    unfolding less_text
-    less_end p =
-        by_ltb i (length b)
-        (λ q. rw (lt-ltb i (length b) q, v, drop_of_length-le a p, drop-cons b i 0 q) refl)
-        (λ q. rw (le-ltb i (length b) q, v, drop_of_length-le b q) refl)
-
-    module _ (p : i < length a) (q : i < length b) where
-      pub less_apart : (get_or a i 0 ≡ get_or b i 0 → ⊥) → ltb (get_or a i 0) (get_or b i 0) ≡ whole
-      unfolding less_text
-      less_apart h = rw (v, drop-cons a i 0 p, drop-cons b i 0 q, ne_eqb (get_or a i 0) (get_or b i 0) h) refl
-
-      pub less_more : get_or a i 0 ≡ get_or b i 0 → whole ≡ less_text (drop (i + 1) a) (drop (i + 1) b)
-      unfolding less_text
-      less_more h = rw (v, drop-cons a i 0 p, drop-cons b i 0 q, eq-eqb (get_or a i 0) (get_or b i 0) h, add-one i) refl
-
--- the first byte
 module _ (a b : List ℕ) where
-  pub less_first_end : length a ≡ 0 → ltb 0 (length b) ≡ less_text a b
-  less_first_end p = less_end a b 0 (less_text a b) refl (omega arith)
+  -- where one text has ended, the shorter one is less
+  pub less_ended : (i : ℕ) → less_text a b ≡ less_text (drop i a) (drop i b) → i ≡ min (length a) (length b) → ltb (length a) (length b) ≡ less_text a b
+  unfolding less_text
+  less_ended i v e =
+      by_ltb (length a) (length b)
+      (λ q. rw (lt-ltb (length a) (length b) q, v, drop_all i a (omega arith), drop-cons b i 0 (omega arith)) refl)
+      (λ q. rw (le-ltb (length a) (length b) q, v, drop_all i b (omega arith)) refl)
 
-  module _ (p : length a ≡ 0 → ⊥) where
-    pub less_first_short : length b ≡ 0 → false ≡ less_text a b
-    less_first_short q = less_short a b 0 (less_text a b) refl (above_zero (length a) p) (omega arith)
+  pub less_empty : (length a ≡ 0) ⊎ (length b ≡ 0) → ltb (length a) (length b) ≡ less_text a b
+  less_empty (inl p) = less_ended 0 refl (omega arith)
+  less_empty (inr p) = less_ended 0 refl (omega arith)
 
-    pub less_first_apart : (length b ≡ 0 → ⊥) → (get_or a 0 0 ≡ get_or b 0 0 → ⊥) → ltb (get_or a 0 0) (get_or b 0 0) ≡ less_text a b
-    less_first_apart q h = less_apart a b 0 (less_text a b) refl (above_zero (length a) p) (above_zero (length b) q) h
+  -- the first byte
+  pub less_first : 0 < length a → 0 < length b → (get_or a 0 0 ≡ get_or b 0 0 → ⊥) → ltb (get_or a 0 0) (get_or b 0 0) ≡ less_text a b
+  unfolding less_text
+  less_first p q h = rw (drop-cons a 0 0 p, drop-cons b 0 0 q, ne_eqb (get_or a 0 0) (get_or b 0 0) h) refl
 
 -- ---- eight bytes as a number
 
@@ -90,33 +51,30 @@ module _ (s : List ℕ) (i r : ℕ) (h : i + 8 ≤ length s) where
       (λ l. rw (get_or-take 8 (drop i s) k 0 l, get_or-drop i s k 0) (o (i + k)))
       (λ l. let e : get_or (eight_at s i) k 0 ≡ 0 = get_or-eq_default (eight_at s i) 0 (omega (arith, length-take 8 (drop i s))) in omega arith)
 
-  pub word_is : (high low : ℕ) → r ≡ high * 4294967296 + low → high ≡ get_or s i 0 * 16777216 + get_or s (i + 1) 0 * 65536 + get_or s (i + 2) 0 * 256 + get_or s (i + 3) 0 → low ≡ get_or s (i + 4) 0 * 16777216 + get_or s (i + 5) 0 * 65536 + get_or s (i + 6) 0 * 256 + get_or s (i + 7) 0 → Octets s → Word s i r
+  pub word_is : r ≡ get_or s i 0 * 72057594037927936 + get_or s (i + 1) 0 * 281474976710656 + get_or s (i + 2) 0 * 1099511627776 + get_or s (i + 3) 0 * 4294967296 + get_or s (i + 4) 0 * 16777216 + get_or s (i + 5) 0 * 65536 + get_or s (i + 6) 0 * 256 + get_or s (i + 7) 0 → Octets s → Word s i r
   unfolding number_after
-  word_is high low e f g o =
+  word_is e o =
       record {
         is = rw eight_is (omega arith);
         octets = octets_at o;
       }
 
-pub within : (n i : ℕ) → 8 ≤ n - i → i + 8 ≤ n
-within n i l = omega arith
+-- ---- by words: x and y are the words at i. whole is what the loop has to answer, and v its invariant
 
--- ---- by words: x and y are the words at i, where both texts have n bytes. whole is what the loop has to answer, and v its invariant
-
-module _ (a b : List ℕ) (n i x y : ℕ) (whole : Bool) (l : 8 ≤ n - i) (wa : Word a i x) (wb : Word b i y) where
-  module _ (p : n ≡ length a) (q : length b ≡ n) (v : whole ≡ same_text (drop i a) (drop i b)) where
+module _ (a b : List ℕ) (i x y : ℕ) (whole : Bool) (p : i + 8 ≤ length a) (q : i + 8 ≤ length b) (wa : Word a i x) (wb : Word b i y) where
+  module _ (v : whole ≡ same_text (drop i a) (drop i b)) where
     pub same_word_apart : (x ≡ y → ⊥) → false ≡ whole
-    same_word_apart h = rw (v, same_word wa wb (omega arith) (omega arith), ne_eqb x y h) refl
+    same_word_apart h = rw (v, same_word wa wb p q, ne_eqb x y h) refl
 
     pub same_word_more : x ≡ y → whole ≡ same_text (drop (i + 8) a) (drop (i + 8) b)
-    same_word_more h = rw (v, same_word wa wb (omega arith) (omega arith), eq-eqb x y h) refl
+    same_word_more h = rw (v, same_word wa wb p q, eq-eqb x y h) refl
 
-  module _ (p : n ≤ length a) (q : n ≤ length b) (v : whole ≡ less_text (drop i a) (drop i b)) where
+  module _ (v : whole ≡ less_text (drop i a) (drop i b)) where
     pub less_word_apart : (x ≡ y → ⊥) → ltb x y ≡ whole
-    less_word_apart h = rw (v, less_word wa wb (omega arith) (omega arith), ne_eqb x y h) refl
+    less_word_apart h = rw (v, less_word wa wb p q, ne_eqb x y h) refl
 
     pub less_word_more : x ≡ y → whole ≡ less_text (drop (i + 8) a) (drop (i + 8) b)
-    less_word_more h = rw (v, less_word wa wb (omega arith) (omega arith), eq-eqb x y h) refl
+    less_word_more h = rw (v, less_word wa wb p q, eq-eqb x y h) refl
 
 -- texts of two lengths
 pub same_lengths : (s t : List ℕ) → (length t ≡ length s → ⊥) → false ≡ same_text s t
@@ -140,3 +98,8 @@ module _ (a b : List ℕ) (i : ℕ) (r whole : Bool) where
 
   pub less_rest : whole ≡ less_text (drop i a) (drop i b) → r ≡ less_text (take (length a - i) (drop i a)) (take (length b - i) (drop i b)) → r ≡ whole
   less_rest g h = h ∙ ap₂ less_text (all_left a (length a) i refl) (all_left b (length b) i refl) ∙ sym g
+
+-- ---- by function
+pub ruleset same_laws = (same_lengths, same_rest)
+
+pub ruleset less_laws = (less_empty, less_first, less_rest)

@@ -4,29 +4,15 @@ use Prim.Native.Nat.{ℕ, zero, suc, ◌+◌, ◌-◌, ◌*◌, ◌/◌, ◌%◌
 use mathlib.Core.Path.{◌≡◌, refl, sym, ap, ◌∙◌}
 use mathlib.Core.List.{List}
 use native.Mathlib.Nat.{mod-eq_of_lt, pow-suc, pow-le-pow_right}
-use native.Mathlib.Numerals.{add-one}
 use native.Mathlib.Omega.{arith}
-use lib.ListN.{length, get_or, set, take}
-use lib.Seq.{paste, paste-suc}
+use lib.ListN.{length, take}
+use lib.Seq.{paste}
 use borrow.Author.Tests.{lt-ltb, le-ltb}
 use Rattle.io.specs.Digits.{last_digits, IsDigitCount}
 use Rattle.rl_spec.specs.Message.{decimal_by, decimal}
 use Rattle.rl_laws.specs.Tests.{by_ltb}
 use Rattle.rl_text_out.specs.Put.{fitting, with_text, after_text}
 use Rattle.rl_text_out.proofs.Joined.{after_past, with_past}
-
--- a turn of the copy
-pub copied_more : (d t w : List ℕ) (at i n : ℕ) → w ≡ paste d at t i → at + n ≤ length d → n ≤ length t → i < n
-    → set w (at + i) (get_or t i 0) ≡ paste d at t (i + 1)
-copied_more d t w at i n e h k l =
-    let p : at + i < length d = omega arith in
-    let q : i < length t = omega arith in
-    rw (e, add-one) (paste-suc d at t i 0 p q)
-
-pub copied_all : (d t w : List ℕ) (at i n : ℕ) → w ≡ paste d at t i → i ≤ n → n ≤ i → w ≡ paste d at t n
-copied_all d t w at i n e h k =
-    let p : i ≡ n = omega arith in
-    rw p at e
 
 -- where there is no room
 module _ (out text : List ℕ) (at : ℕ) (h : length out ≤ at) where

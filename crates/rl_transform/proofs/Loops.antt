@@ -81,9 +81,6 @@ abbrev pub Flat : Image → (ℕ → Make (List ℕ)) → ℕ → ℕ → State 
 Flat im f a n start here i = Gathering im (entry_of im) f a n start here i
 
 module _ (im : Image) (f : ℕ → Make (List ℕ)) (more : (j : ℕ) → Adds (f j)) (a n : ℕ) (start : State) where
-  pub flat_none : Flat im f a n start start 0
-  flat_none = gather_none im (entry_of im) f more a n start
-
   pub flat_more : (here next : State) (i : ℕ) → Flat im f a n start here i → i < n → (e : ℕ) → e ≡ entry_of im (a + i) → Gathers im 0 (f e) here next → Flat im f a n start next (i + 1)
   flat_more = gather_more im (entry_of im) f more a n start
 

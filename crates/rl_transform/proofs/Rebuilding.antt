@@ -8,14 +8,11 @@ use lib.ListN.{length, get_or, set, length-set}
 use lib.Seq.{get_or-set_same, get_or-set_other}
 use mir.Syntax.{w64}
 use mir.Val.{Fits}
-use borrow.Author.Tests.{ne_eqb}
 use Rattle.rl_spec.specs.declared.Counts.{Counts}
 use Rattle.rl_spec.specs.declared.Section.TheVariants.{Statements}
 use Rattle.rl_spec.specs.declared.Sort.{Sort}
 use Rattle.rl_spec.specs.Schema.{sort_of, width_of, fields_of}
-use Rattle.rl_spec.specs.Answers.{Optional}
-use Rattle.rl_spec.specs.Ranges.{optional_field}
-use Rattle.rl_spec.specs.Image.{Field, num, record_of, first, field_in, fields_at}
+use Rattle.rl_spec.specs.Image.{Field, record_of, field_in, fields_at}
 use Rattle.rl_spec.specs.Found.{record_as, record_found, image_found}
 use Rattle.rl_spec.specs.Make.{append, made}
 use Rattle.rl_laws.specs.Found.{record_found_lem}
@@ -25,7 +22,7 @@ use Rattle.rl_arena.proofs.Laws.{width_small}
 use Rattle.rl_encode.specs.Words.{word_field, word_fields, word_record}
 use Rattle.rl_context.specs.Does.{State}
 use Rattle.rl_context.proofs.Copying.{codes_few, few_left}
-use Rattle.rl_transform.specs.Transforms.{field_of_word, list_field, list_place, flag_field, rebuilt}
+use Rattle.rl_transform.specs.Transforms.{field_of_word, rebuilt}
 use Rattle.rl_context.specs.Guards.{Makes}
 
 -- ---- the fields of a record as words, one by one
@@ -152,23 +149,3 @@ module _ (s p : List ℕ) (c : Counts) (id start kind : ℕ) (h : id < c.stateme
     pub makes_rebuilt : (t : State) (index : ℕ) (u : State) → Makes (image_found s p c) (append Statements (word_record kind vs ∷ [])) t index u →
         Makes (image_found s p c) (append Statements (rebuilt (record_of (image_found s p c) Statements id) j w k v ∷ [])) t index u
     makes_rebuilt t index u d = subst (λ x. Makes (image_found s p c) (append Statements (x ∷ [])) t index u) record_rebuilt d
-
--- a conditional's other branch, by its word
-pub same_other : (s p : List ℕ) (c : Counts) (id m : ℕ) (o : Optional) (word : ℕ) (t : State) (index : ℕ) (u : State) → num word ≡ optional_field o →
-    Makes (image_found s p c) (append Statements (rebuilt (record_of (image_found s p c) Statements id) 1 m 2 word ∷ [])) t index u →
-    Makes (image_found s p c) (append Statements (rebuilt (record_of (image_found s p c) Statements id) 1 m 2 (first (optional_field o)) ∷ [])) t index u
-same_other s p c id m o word t index u e d =
-    subst (λ n. Makes (image_found s p c) (append Statements (rebuilt (record_of (image_found s p c) Statements id) 1 m 2 n ∷ [])) t index u) (ap first e) d
-
--- ---- a kind that holds no list of statements, and one that is no branch
-
-module _ (kind : ℕ) (a : kind ≡ 69 → ⊥) where
-  pub flag_none : 7 ≡ flag_field kind
-  flag_none = rw (ne_eqb kind 69 a) refl
-
-  module _ (b : kind ≡ 70 → ⊥) (c : kind ≡ 71 → ⊥) (d : kind ≡ 72 → ⊥) (e : kind ≡ 73 → ⊥) (f : kind ≡ 74 → ⊥) (g : kind ≡ 76 → ⊥) where
-    pub list_none : 0 ≡ list_field kind
-    list_none = rw (ne_eqb kind 69 a, ne_eqb kind 70 b, ne_eqb kind 71 c, ne_eqb kind 72 d, ne_eqb kind 73 e, ne_eqb kind 74 f, ne_eqb kind 76 g) refl
-
-    pub place_none : 0 ≡ list_place kind
-    place_none = rw (ne_eqb kind 69 a, ne_eqb kind 70 b, ne_eqb kind 71 c, ne_eqb kind 72 d, ne_eqb kind 73 e, ne_eqb kind 74 f, ne_eqb kind 76 g) refl

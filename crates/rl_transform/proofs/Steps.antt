@@ -9,7 +9,7 @@ use mathlib.Core.Option.{Option, none, some}
 use native.Mathlib.Omega.{arith}
 use lib.Dec.{eqb, ltb}
 use lib.ListN.{get_or, set, get_or-append}
-use borrow.Author.Tests.{ne_eqb, lt-ltb, le-ltb, eqb-true}
+use borrow.Author.Tests.{ne_eqb, le-ltb, eqb-true}
 use Rattle.rl_spec.specs.declared.Counts.{Counts}
 use Rattle.rl_spec.specs.declared.Clause.{Clause}
 use Rattle.rl_spec.specs.declared.Target.TheVariants.{ElseBranch, Arm}
@@ -25,8 +25,6 @@ use Rattle.rl_spec.specs.Tree.{number}
 use Rattle.rl_spec.specs.Ranges.{up_from, optional, optional_field}
 use Rattle.rl_spec.specs.Make.{Context, Make, and_then, ◌>>=◌, give, image_so_far, append, made, new_list, stmt, each, flat_map, entries_of}
 use Rattle.rl_spec.specs.Lower.{expr, wrap_return, transform_list, transform_branch_by, transform_branch, transform_else, transform_arm_by, transform_arm, conditional, match, only, transform_statement_by, transform_statement}
-use mir.Val.{Fits}
-use mir.Syntax.{w16, w64}
 use Rattle.rl_laws.specs.Descend.{descend_is}
 use Rattle.rl_laws.specs.Found.{size_found}
 use Rattle.rl_laws.specs.Tests.{by_eqb}
@@ -76,9 +74,6 @@ module _ (s p : List ℕ) (c : Counts) (ensured : Interval) where
   below_untouched limit x t u h d =
       subst (λ m. Gathers im 0 m t u) (sym (ap (λ b. cond b (transform_statement es x) (give (x ∷ []))) (le-ltb x limit h)))
       (one_waits (give x) t t u x (does_give im 0 x t) d)
-
-  pub below_done : (limit x : ℕ) (t u : State) → x < limit → OneStatement s p c ensured x t u → Below s p c ensured limit x t u
-  below_done limit x t u h d = (d.0, subst (λ m. Does im 0 0 all m t d.0 u) (sym (ap (λ b. cond b (transform_statement es x) (give (x ∷ []))) (lt-ltb x limit h))) d.1)
 
   -- ---- the record at hand
 
@@ -463,19 +458,3 @@ flag_low kind k e = rw e (low (eqb kind 69))
     low : (a : Bool) → cond a 3 7 < 8
     low true = omega arith
     low false = omega arith
-
-pub place_fits : (start kind place : ℕ) → start < 65536 → place ≡ list_place kind → Fits w64 (start + place)
-place_fits start kind place h e = omega (arith, subst (λ z. z ≤ 11) (sym e) (low (eqb kind 69) (eqb kind 70) (eqb kind 71) (eqb kind 72) (eqb kind 73) (eqb kind 74) (eqb kind 76)))
-  where
-    low : (a b d f g h i : Bool) → cond a 7 (cond b 7 (cond d 5 (cond f 11 (cond g 9 (cond h 9 (cond i 7 0)))))) ≤ 11
-    low true b d f g h i = omega arith
-    low false true d f g h i = omega arith
-    low false false true f g h i = omega arith
-    low false false false true g h i = omega arith
-    low false false false false true h i = omega arith
-    low false false false false false true i = omega arith
-    low false false false false false false true = omega arith
-    low false false false false false false false = omega arith
-
-pub next_fits : (i count : ℕ) → i < count → count < 65536 → Fits w16 (i + 1)
-next_fits i count h k = omega arith

@@ -14,6 +14,7 @@ use Rattle.rl_encode.specs.Words.{word_field}
 use Rattle.rl_spec.specs.Found.{image_found}
 use Rattle.rl_schema.specs.Codes.{table}
 use Rattle.rl_context.specs.Does.{State}
+use Rattle.rl_transform.specs.declared.Walk.{Walk}
 use Rattle.rl_context.specs.Guards.{Makes, Gathers, clauses_in, ConditionsIn}
 
 -- the transform of a statement before the one at hand
@@ -91,3 +92,14 @@ module _ (s p : List ℕ) (c : Counts) (ensured : Interval) where
 
   abbrev pub Body : ℕ → ℕ → State → ℕ → State → Type 0
   Body limit x t n u = Makes of (body_of (walk limit) (record_of of Statements x)) t n u
+
+-- ---- by what a transform reads
+
+abbrev pub by : {A : Type 1} → Walk → (List ℕ → List ℕ → Counts → Interval → A) → A
+by walk what = what walk.image.bytes.now walk.image.starts.now walk.image.counts walk.ensured
+
+abbrev pub ready : Walk → Type 0
+ready walk = Ready walk.image.bytes.now walk.image.starts.now walk.image.counts walk.rows.now walk.ensured
+
+abbrev pub arms_in : Walk → Interval → Type 0
+arms_in walk list = ArmsIn walk.image.bytes.now walk.image.starts.now walk.image.counts list.first list.count

@@ -19,7 +19,9 @@ use mir.Syntax.{w64}
 use mir.Val.{to_z, of_z, SFits}
 use mir.Facts.{to_z-of_z, to_z_pos}
 use borrow.Author.Tests.{lt-ltb, le-ltb}
-use Rattle.rl_values.proofs.Sums.{read}
+
+abbrev read : ℤ → ℤ
+read z = to_z w64 (of_z w64 z)
 
 -- ---- a scaling by a power of two, and the sum of two whole numbers: each is rounded once, from the exact result
 

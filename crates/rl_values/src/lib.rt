@@ -1,19 +1,34 @@
 // The operators on folded values.
 #![tactic(auto)]
 
-ghost use Rattle.std.specs.Prelude.{◌≡◌, cond, ◌*◌, leb, pos, nat_abs, neg_ℤ, ◌+ℤ◌, ◌-ℤ◌, ◌*ℤ◌};
-ghost use Rattle.std.specs.Bool.{beq};
-ghost use Rattle.std.proofs.Math.Option.{some};
+ghost use Rattle.std.specs.Prelude.{◌≡◌};
 ghost use Rattle.std.specs.Int.Signed.{lt_z};
 ghost use Rattle.std.specs.Float.Ieee as F;
 ghost use Rattle.std.specs.Float.{binary64};
-ghost use Rattle.rl_spec.specs.Values.{compare_by, same_int, same_text, less_text, compare_floats, compare_bools, as_f64, compare_values, bang, negate, checked, arith_floats, arith_ints, arith_values, slash};
+ghost use Rattle.std.specs.Ordering.{partial_lt};
+ghost use Rattle.rl_spec.specs.Values.{compare_by, same_int, same_text, less_text, compare_floats, compare_bools, as_f64, compare_values, bang, negate, arith_floats, arith_ints, arith_values};
 ghost use Rattle.rl_spec.specs.Folded.{const_of, op_of, folded_of, verdict_of, with_text, arith_of};
 
-use rl_spec::{ArithOp, ConstVal, Folded, RefineOp, Verdict};
+use rl_spec::{ArithOp, ConstVal, RefineOp};
 use rl_text_order::{less_text, same_text};
 
-// One pass for each: at most is not above.
+// By the order and the equality of the type; beside a NaN only Ne holds.
+fn compare<T: PartialOrd + Copy>(op: RefineOp, x: T, y: T) -> bool
+    ensures { result ≡ compare_by (partial_lt T.partial_cmp) T.eq (op_of op) x y }
+{
+    match op {
+        RefineOp::Gt => y < x,
+        RefineOp::Ge => y <= x,
+        RefineOp::Lt => x < y,
+        RefineOp::Le => x <= y,
+        RefineOp::Eq => x == y,
+        RefineOp::Ne => x != y,
+    }
+}
+
+// Not by `compare`, for speed: std's order of slices takes a byte at a step, as the form that the bar for long texts is measured by
+// (docs/BENCHMARKS.md). One pass for each: at most is not above.
+#[tactic(auto, using(crate::proofs::Laws::at_most))]
 fn compare_texts(op: RefineOp, a: &[u8], b: &[u8]) -> bool
     ensures { result ≡ compare_by less_text same_text (op_of op) a.now b.now }
 {
@@ -30,58 +45,27 @@ fn compare_texts(op: RefineOp, a: &[u8], b: &[u8]) -> bool
 pub fn cmp_i64(op: RefineOp, x: i64, y: i64) -> bool
     ensures { result ≡ compare_by lt_z same_int (op_of op) x y }
 {
-    match op {
-        RefineOp::Gt => y < x,
-        RefineOp::Ge => y <= x,
-        RefineOp::Lt => x < y,
-        RefineOp::Le => x <= y,
-        RefineOp::Eq => x == y,
-        RefineOp::Ne => x != y,
-    }
+    compare(op, x, y)
 }
 
-// Beside a NaN only Ne holds.
-fn test_floats(op: RefineOp, x: f64, y: f64) -> bool
-    ensures { result ≡ compare_by F.lt F.eq (op_of op) x y }
-{
-    match op {
-        RefineOp::Gt => y < x,
-        RefineOp::Ge => y <= x,
-        RefineOp::Lt => x < y,
-        RefineOp::Le => x <= y,
-        RefineOp::Eq => x == y,
-        RefineOp::Ne => x != y,
-    }
-}
-
-fn verdict(b: bool) -> Verdict
-    ensures { verdict_of result ≡ some b }
-{
-    if b { Verdict::Yes } else { Verdict::No }
-}
-
-pub fn compare_floats(op: RefineOp, x: f64, y: f64) -> Verdict
+#[tactic(auto, unfolding(rl_spec::specs::Values::compare_floats))]
+pub fn compare_floats(op: RefineOp, x: f64, y: f64) -> Option<bool>
     ensures { verdict_of result ≡ compare_floats (op_of op) x y }
 {
-    if x != x {
-        return Verdict::Unknown;
+    if x.is_nan() || y.is_nan() {
+        return None;
     }
-    if y != y {
-        return Verdict::Unknown;
-    }
-    verdict(test_floats(op, x, y))
+    Some(compare(op, x, y))
 }
 
-pub fn compare_bools(op: RefineOp, x: bool, y: bool) -> Verdict
+#[tactic(auto, unfolding(rl_spec::specs::Values::compare_bools))]
+pub fn compare_bools(op: RefineOp, x: bool, y: bool) -> Option<bool>
     ensures { verdict_of result ≡ compare_bools (op_of op) x y }
 {
     match op {
-        RefineOp::Gt => Verdict::Unknown,
-        RefineOp::Ge => Verdict::Unknown,
-        RefineOp::Lt => Verdict::Unknown,
-        RefineOp::Le => Verdict::Unknown,
-        RefineOp::Eq => verdict(x == y),
-        RefineOp::Ne => verdict(x != y),
+        RefineOp::Eq => Some(x == y),
+        RefineOp::Ne => Some(x != y),
+        _ => None,
     }
 }
 
@@ -94,198 +78,95 @@ pub fn nearest_f64(x: i64) -> f64
     upper + lower
 }
 
+#[tactic(auto, using(crate::proofs::Laws::nan_is))]
 pub fn as_f64(v: ConstVal) -> f64
     ensures { result ≡ as_f64 (const_of v) }
 {
     match v {
         ConstVal::Int(x) => nearest_f64(x),
         ConstVal::Float(x) => x,
-        ConstVal::Str(_) => 0.0 / 0.0,
-        ConstVal::Bool(_) => 0.0 / 0.0,
+        _ => f64::NAN,
     }
 }
 
 // left and right are the bytes of a and of b where they are texts.
-pub fn compare_values(op: RefineOp, a: ConstVal, b: ConstVal, left: &[u8], right: &[u8]) -> Verdict
+#[tactic(auto, using(crate::proofs::Laws::as_beside), unfolding(rl_spec::specs::Values::compare_values))]
+pub fn compare_values(
+    op: RefineOp,
+    a: ConstVal,
+    b: ConstVal,
+    left: &[u8],
+    right: &[u8],
+) -> Option<bool>
     ensures { verdict_of result ≡ compare_values (λ t. t) (op_of op) (with_text a left.now) (with_text b right.now) }
 {
-    match a {
-        ConstVal::Int(x) => match b {
-            ConstVal::Int(y) => verdict(cmp_i64(op, x, y)),
-            ConstVal::Float(y) => compare_floats(op, nearest_f64(x), y),
-            ConstVal::Str(_) => Verdict::Unknown,
-            ConstVal::Bool(_) => Verdict::Unknown,
-        },
-        ConstVal::Float(x) => compare_floats(op, x, as_f64(b)),
-        ConstVal::Str(_) => match b {
-            ConstVal::Int(_) => Verdict::Unknown,
-            ConstVal::Float(_) => Verdict::Unknown,
-            ConstVal::Str(_) => verdict(compare_texts(op, left, right)),
-            ConstVal::Bool(_) => Verdict::Unknown,
-        },
-        ConstVal::Bool(x) => match b {
-            ConstVal::Int(_) => Verdict::Unknown,
-            ConstVal::Float(_) => Verdict::Unknown,
-            ConstVal::Str(_) => Verdict::Unknown,
-            ConstVal::Bool(y) => compare_bools(op, x, y),
-        },
+    match (a, b) {
+        (ConstVal::Int(x), ConstVal::Int(y)) => Some(cmp_i64(op, x, y)),
+        (ConstVal::Int(x), ConstVal::Float(y)) => compare_floats(op, nearest_f64(x), y),
+        (ConstVal::Float(x), _) => compare_floats(op, x, as_f64(b)),
+        (ConstVal::Str(_), ConstVal::Str(_)) => Some(compare_texts(op, left, right)),
+        (ConstVal::Bool(x), ConstVal::Bool(y)) => compare_bools(op, x, y),
+        _ => None,
     }
 }
 
-pub fn bang(v: ConstVal) -> Folded
+#[tactic(auto, unfolding(rl_spec::specs::Values::bang))]
+pub fn bang(v: ConstVal) -> Option<ConstVal>
     ensures { folded_of result ≡ bang (const_of v) }
 {
     match v {
-        ConstVal::Int(_) => Folded::Nothing,
-        ConstVal::Float(_) => Folded::Nothing,
-        ConstVal::Str(_) => Folded::Nothing,
-        ConstVal::Bool(x) => Folded::Value(ConstVal::Bool(!x)),
+        ConstVal::Bool(x) => Some(ConstVal::Bool(!x)),
+        _ => None,
     }
 }
 
-fn negate_int(x: i64) -> Folded
-    ensures { folded_of result ≡ checked (neg_ℤ x) }
-{
-    if x == -9223372036854775808 {
-        return Folded::Nothing;
-    }
-    Folded::Value(ConstVal::Int(-x))
-}
-
-pub fn negate(v: ConstVal) -> Folded
+#[tactic(auto, unfolding(rl_spec::specs::Values::negate))]
+pub fn negate(v: ConstVal) -> Option<ConstVal>
     ensures { folded_of result ≡ negate (const_of v) }
 {
     match v {
-        ConstVal::Int(x) => negate_int(x),
-        ConstVal::Float(x) => Folded::Value(ConstVal::Float(-x)),
-        ConstVal::Str(_) => Folded::Nothing,
-        ConstVal::Bool(_) => Folded::Nothing,
+        ConstVal::Int(x) => x.checked_neg().map(ConstVal::Int),
+        ConstVal::Float(x) => Some(ConstVal::Float(-x)),
+        _ => None,
     }
 }
 
-pub fn arith_floats(op: ArithOp, x: f64, y: f64) -> Folded
+#[tactic(auto, using(crate::proofs::Laws::zero_bits))]
+pub fn arith_floats(op: ArithOp, x: f64, y: f64) -> Option<ConstVal>
     ensures { folded_of result ≡ arith_floats (arith_of op) x y }
 {
-    if x != x {
-        return Folded::Nothing;
-    }
-    if y != y {
-        return Folded::Nothing;
+    if x.is_nan() || y.is_nan() {
+        return None;
     }
     match op {
-        ArithOp::Plus => Folded::Value(ConstVal::Float(x + y)),
-        ArithOp::Minus => Folded::Value(ConstVal::Float(x - y)),
-        ArithOp::Star => Folded::Value(ConstVal::Float(x * y)),
-        ArithOp::Slash => {
-            if y == 0.0 {
-                return Folded::Nothing;
-            }
-            Folded::Value(ConstVal::Float(x / y))
-        }
+        ArithOp::Plus => Some(ConstVal::Float(x + y)),
+        ArithOp::Minus => Some(ConstVal::Float(x - y)),
+        ArithOp::Star => Some(ConstVal::Float(x * y)),
+        ArithOp::Slash if y == 0.0 => None,
+        ArithOp::Slash => Some(ConstVal::Float(x / y)),
     }
 }
 
-fn add_ints(x: i64, y: i64) -> Folded
-    ensures { folded_of result ≡ checked (x +ℤ y) }
-{
-    if y >= 0 {
-        if x <= 9223372036854775807 - y {
-            return Folded::Value(ConstVal::Int(x + y));
-        }
-        Folded::Nothing
-    } else {
-        if x >= -9223372036854775808 - y {
-            return Folded::Value(ConstVal::Int(x + y));
-        }
-        Folded::Nothing
-    }
-}
-
-// The lowest number has no negative that could be added.
-fn subtract_ints(x: i64, y: i64) -> Folded
-    ensures { folded_of result ≡ checked (x -ℤ y) }
-{
-    if y == -9223372036854775808 {
-        if x < 0 {
-            return Folded::Value(ConstVal::Int(x - y));
-        }
-        return Folded::Nothing;
-    }
-    add_ints(x, -y)
-}
-
-fn divide_ints(x: i64, y: i64) -> Folded
-    ensures { folded_of result ≡ arith_ints slash x y }
-{
-    if y == 0 {
-        return Folded::Nothing;
-    }
-    if y == -1 {
-        return negate_int(x);
-    }
-    Folded::Value(ConstVal::Int(x / y))
-}
-
-pub fn magnitude(x: i64) -> u64
-    ensures { result ≡ nat_abs x }
-{
-    if x < 0 {
-        return ((-1 - x) as u64) + 1;
-    }
-    x as u64
-}
-
-// The greatest magnitude of a product that fits.
-fn product_most(x: i64, y: i64) -> u64
-    ensures { result ≡ cond (beq (lt_z x (pos 0)) (lt_z y (pos 0))) 9223372036854775807 9223372036854775808 }
-{
-    if (x < 0) == (y < 0) {
-        return 0x7fff_ffff_ffff_ffff;
-    }
-    0x8000_0000_0000_0000
-}
-
-fn is_product_within(a: u64, b: u64, most: u64) -> bool
-    ensures { result ≡ leb (a * b) most }
-{
-    if b == 0 {
-        return true;
-    }
-    a <= most / b
-}
-
-fn multiply_ints(x: i64, y: i64) -> Folded
-    ensures { folded_of result ≡ checked (x *ℤ y) }
-{
-    if is_product_within(magnitude(x), magnitude(y), product_most(x, y)) {
-        return Folded::Value(ConstVal::Int(x * y));
-    }
-    Folded::Nothing
-}
-
-pub fn arith_ints(op: ArithOp, x: i64, y: i64) -> Folded
+pub fn arith_ints(op: ArithOp, x: i64, y: i64) -> Option<ConstVal>
     ensures { folded_of result ≡ arith_ints (arith_of op) x y }
 {
-    match op {
-        ArithOp::Plus => add_ints(x, y),
-        ArithOp::Minus => subtract_ints(x, y),
-        ArithOp::Star => multiply_ints(x, y),
-        ArithOp::Slash => divide_ints(x, y),
-    }
+    let z = match op {
+        ArithOp::Plus => x.checked_add(y),
+        ArithOp::Minus => x.checked_sub(y),
+        ArithOp::Star => x.checked_mul(y),
+        ArithOp::Slash => x.checked_div(y),
+    };
+    z.map(ConstVal::Int)
 }
 
-pub fn arith_values(op: ArithOp, a: ConstVal, b: ConstVal) -> Folded
+#[tactic(auto, unfolding(rl_spec::specs::Values::arith_values))]
+pub fn arith_values(op: ArithOp, a: ConstVal, b: ConstVal) -> Option<ConstVal>
     ensures { folded_of result ≡ arith_values (arith_of op) (const_of a) (const_of b) }
 {
-    match a {
-        ConstVal::Int(x) => match b {
-            ConstVal::Int(y) => arith_ints(op, x, y),
-            ConstVal::Float(y) => arith_floats(op, nearest_f64(x), y),
-            ConstVal::Str(_) => Folded::Nothing,
-            ConstVal::Bool(_) => Folded::Nothing,
-        },
-        ConstVal::Float(x) => arith_floats(op, x, as_f64(b)),
-        ConstVal::Str(_) => Folded::Nothing,
-        ConstVal::Bool(_) => Folded::Nothing,
+    match (a, b) {
+        (ConstVal::Int(x), ConstVal::Int(y)) => arith_ints(op, x, y),
+        (ConstVal::Int(x), ConstVal::Float(y)) => arith_floats(op, nearest_f64(x), y),
+        (ConstVal::Float(x), _) => arith_floats(op, x, as_f64(b)),
+        _ => None,
     }
 }

@@ -4,68 +4,50 @@ ghost use Rattle.std.specs.Float.Ieee.{of_bits};
 ghost use Rattle.std.specs.Float.{binary32, binary64};
 ghost use Rattle.rl_spec.specs.Tree.{signed, unsigned};
 
-use rl_spec::{ConstVal, Folded};
+use rl_spec::ConstVal;
+use std::num::{f32_from_bits_with_nan, f64_from_bits_with_nan};
 
+// One for each width, as std's `cast_signed` is a method of each type and of no trait: the blocks of a trait of our own would say the
+// same line once for each width too.
 pub fn signed64(n: u64) -> i64
     ensures { result ≡ signed 64 n }
 {
-    if n < 9223372036854775808 {
-        return n as i64;
-    }
-    -1 - ((u64::MAX - n) as i64)
+    n.cast_signed()
 }
 
 pub fn signed32(n: u32) -> i64
     ensures { result ≡ signed 32 n }
 {
-    if n < 2147483648 {
-        return n as i64;
-    }
-    (n as i64) - 4294967296
+    i64::from(n.cast_signed())
 }
 
 pub fn signed16(n: u16) -> i64
     ensures { result ≡ signed 16 n }
 {
-    if n < 32768 {
-        return n as i64;
-    }
-    (n as i64) - 65536
+    i64::from(n.cast_signed())
 }
 
 pub fn signed8(n: u8) -> i64
     ensures { result ≡ signed 8 n }
 {
-    if n < 128 {
-        return n as i64;
-    }
-    (n as i64) - 256
+    i64::from(n.cast_signed())
 }
 
-pub fn unsigned64(n: u64) -> Folded
+pub fn unsigned64(n: u64) -> Option<ConstVal>
     ensures { result ≡ unsigned n }
 {
-    if n < 9223372036854775808 {
-        return Folded::Value(ConstVal::Int(n as i64));
-    }
-    Folded::Nothing
+    i64::try_from(n).ok().map(ConstVal::Int)
 }
 
 // The float of a pattern; each pattern of a NaN is the NaN.
 pub fn float64(n: u64) -> f64
     ensures { result ≡ of_bits binary64 n }
 {
-    if n % 9223372036854775808 > 9218868437227405312 {
-        return 0.0 / 0.0;
-    }
-    f64::from_bits(n)
+    f64_from_bits_with_nan(n)
 }
 
 pub fn float32(n: u32) -> f64
     ensures { result ≡ of_bits binary32 n }
 {
-    if n % 2147483648 > 2139095040 {
-        return 0.0 / 0.0;
-    }
-    f32::from_bits(n) as f64
+    f64::from(f32_from_bits_with_nan(n))
 }

@@ -3,26 +3,16 @@ ghost use Rattle.std.specs.Prelude.{◌≡◌, ◌≤◌};
 ghost use Rattle.rl_spec.specs.Runner.{folded_in, content_of, plain_of_words, value_sort, value_payload, value_of_words};
 
 use crate::{payload_word, sort_word, words_value};
-use rl_spec::{Folded, Plain, Value};
+use rl_spec::{ConstVal, Plain, Value};
 
 // What a value is or holds; Null folds to nothing.
-fn content(v: Value) -> Folded
+fn content(v: Value) -> Option<ConstVal>
     ensures { result ≡ folded_in (content_of v) }
 {
-    let p = plain_in(v);
-    match p {
-        Plain::Null => Folded::Nothing,
-        Plain::Const(w) => Folded::Value(w),
-    }
-}
-
-fn plain_in(v: Value) -> Plain
-    ensures { result ≡ content_of v }
-{
     match v {
-        Value::Plain(p) => p,
-        Value::Ok(p) => p,
-        Value::Err(p) => p,
+        Value::Plain(Plain::Const(w)) | Value::Ok(Plain::Const(w)) | Value::Err(Plain::Const(w)) =>
+            Some(w),
+        _ => None,
     }
 }
 
@@ -32,13 +22,14 @@ pub fn value_sort(v: Value) -> u64
 {
     let sort = sort_word(content(v));
     match v {
-        Value::Plain(p) => sort,
-        Value::Ok(p) => sort + 8,
-        Value::Err(p) => sort + 16,
+        Value::Plain(_) => sort,
+        Value::Ok(_) => sort + 8,
+        Value::Err(_) => sort + 16,
     }
 }
 
 // The value that the words stand for is this one.
+#[tactic(auto, using(crate::proofs::Laws::value_back))]
 pub fn value_payload(v: Value) -> u64
     ensures value { result ≡ value_payload v }
     ensures result_value { value_of_words (value_sort v) result ≡ v }
@@ -49,21 +40,16 @@ pub fn value_payload(v: Value) -> u64
 fn plain_of_words(sort: u64, payload: u64) -> Plain
     ensures { result ≡ plain_of_words sort payload }
 {
-    let v = words_value(sort, payload);
-    match v {
-        Folded::Nothing => Plain::Null,
-        Folded::Value(w) => Plain::Const(w),
-    }
+    words_value(sort, payload).map_or(Plain::Null, Plain::Const)
 }
 
+#[tactic(auto, unfolding(rl_spec::specs::Runner::value_of_words))]
 pub fn value_of_words(sort: u64, payload: u64) -> Value
     ensures { result ≡ value_of_words sort payload }
 {
-    if sort < 8 {
-        return Value::Plain(plain_of_words(sort, payload));
+    match sort {
+        0..=7 => Value::Plain(plain_of_words(sort, payload)),
+        8..=15 => Value::Ok(plain_of_words(sort - 8, payload)),
+        _ => Value::Err(plain_of_words(sort - 16, payload)),
     }
-    if sort < 16 {
-        return Value::Ok(plain_of_words(sort - 8, payload));
-    }
-    Value::Err(plain_of_words(sort - 16, payload))
 }

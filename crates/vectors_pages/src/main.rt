@@ -3,95 +3,38 @@
 #![tactic(auto)]
 
 use rl_abi::rl_pages;
-use rl_bytes::{is_past, part, u32_at};
-use rl_streams::{read_full, write_all};
-use rl_text_out::{put_number, put_text};
+use rl_bytes::part;
+use rl_cases::{Case, Replay, Stop, replay_input, unpacked};
 
-fn write_line(rt: &impl Print, line: &[u8; 64], n: usize) {
-    write_all(rt, part(line, 0, n));
-}
+struct Paging;
 
-fn write_refused(rt: &impl Print, number: u64, place: u64) {
-    let mut line = [0u8; 64];
-    let mut at = put_text(&mut line, 0, b"refused ");
-    at = put_number(&mut line, at, number);
-    at = put_text(&mut line, at, b" at ");
-    at = put_number(&mut line, at, place);
-    at = put_text(&mut line, at, b"\n");
-    write_line(rt, &line, at);
-}
+impl Replay for Paging {
+    const HEAD: usize = 8;
 
-fn write_pages(rt: &impl Print, pages: &[u8]) {
-    let mut line = [0u8; 64];
-    let mut at = put_text(&mut line, 0, b"bytes ");
-    at = put_number(&mut line, at, pages.len() as u64);
-    at = put_text(&mut line, at, b"\n");
-    write_line(rt, &line, at);
-    write_all(rt, pages);
-}
-
-fn replay(rt: &impl Print, image: &[u8], work: &mut [u16], pages: &mut [u8]) {
-    let answer = rl_pages(image, work, pages);
-    let number = answer / 4294967296;
-    let low = answer % 4294967296;
-    if number == 0 {
-        write_pages(rt, part(pages, 0, low as usize));
-    } else {
-        write_refused(rt, number, low);
-    }
-}
-
-// With so many entries of the work slice and so many bytes of the page slice.
-fn replay_with(
-    rt: &impl Print,
-    image: &[u8],
-    work: &mut [u16],
-    size: usize,
-    pages: &mut [u8],
-    room: usize,
-) {
-    if size <= work.len() {
-        if room <= pages.len() {
-            replay(rt, image, &mut work[..size], &mut pages[..room]);
-            return;
+    fn replay(rt: &impl Print, case: &Case<'_>) -> Result<(), Stop> {
+        let mut space = [0u16; 16384];
+        let mut room = [0u8; 16384];
+        let work_len = case.number(0) as usize;
+        let pages_len = case.number(1) as usize;
+        let (Some(work), Some(pages)) = (space.get_mut(..work_len), room.get_mut(..pages_len))
+        else {
+            println!(rt; "too long")?;
+            return Ok(());
+        };
+        let answer = rl_pages(case.image, work, pages);
+        match unpacked(answer) {
+            Ok(len) => {
+                // no slice up to it, since no clause of `rl_pages` says that it is within `pages`
+                let pages = part(pages, 0, len as usize);
+                println!(rt; "bytes {}", pages.len())?;
+                rt.write_all(pages)?;
+            }
+            Err(refused) => println!(rt; "{refused}")?,
         }
-    }
-    write_all(rt, b"too long\n");
-}
-
-// Replays the first case, and answers how many bytes it takes; 0 where it is not whole.
-fn replay_first(rt: &impl Print, cases: &[u8]) -> usize {
-    let image_size = u32_at(cases, 0) as usize;
-    let size = u32_at(cases, 4) as usize;
-    let room = u32_at(cases, 8) as usize;
-    if is_past(cases, 12, image_size) {
-        write_all(rt, b"input ends in a case\n");
-        return 0;
-    }
-    let image = part(cases, 12, image_size);
-    let mut work = [0u16; 16384];
-    let mut pages = [0u8; 16384];
-    replay_with(rt, image, &mut work, size, &mut pages, room);
-    12 + image_size
-}
-
-fn replay_all(rt: &impl Print, cases: &[u8]) {
-    let mut at = 0;
-    while at < cases.len() {
-        let left = cases.len() - at;
-        let size = replay_first(rt, part(cases, at, left));
-        if size == 0 {
-            return;
-        }
-        if left < size {
-            return;
-        }
-        at += size;
+        Ok(())
     }
 }
 
 fn main(rt: HostRuntime) {
-    let mut input = [0u8; 262144];
-    let n = read_full(&mut rt.stdin(), &mut input);
-    replay_all(&rt, part(&input, 0, n));
+    replay_input::<Paging>(&rt, &mut rt.stdin());
 }

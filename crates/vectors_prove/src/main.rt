@@ -2,49 +2,26 @@
 // image; for each the lines of its reports are written, and `--`.
 #![tactic(auto)]
 
-use rl_bytes::{is_past, part, u32_at};
+use rl_cases::{Case, Replay, Stop, replay_input};
 use rl_report::print_reports;
-use rl_streams::{read_full, write_all};
 
-fn replay_with(rt: &impl Print, image: &[u8], space: &mut [u16], size: usize) {
-    if size <= space.len() {
-        print_reports(rt, image, &mut space[..size]);
-    } else {
-        write_all(rt, b"work too long\n");
-    }
-}
+struct Proving;
 
-// Replays the first case, and answers how many bytes it takes; 0 where it is not whole.
-fn replay_first(rt: &impl Print, cases: &[u8]) -> usize {
-    let image_size = u32_at(cases, 0) as usize;
-    let work_size = u32_at(cases, 4) as usize;
-    if is_past(cases, 8, image_size) {
-        write_all(rt, b"input ends in a case\n");
-        return 0;
-    }
-    let mut space = [0u16; 8192];
-    replay_with(rt, part(cases, 8, image_size), &mut space, work_size);
-    write_all(rt, b"--\n");
-    8 + image_size
-}
+impl Replay for Proving {
+    const HEAD: usize = 4;
 
-fn replay_all(rt: &impl Print, cases: &[u8]) {
-    let mut at = 0;
-    while at < cases.len() {
-        let left = cases.len() - at;
-        let size = replay_first(rt, part(cases, at, left));
-        if size == 0 {
-            return;
+    fn replay(rt: &impl Print, case: &Case<'_>) -> Result<(), Stop> {
+        let mut space = [0u16; 8192];
+        let work_len = case.number(0) as usize;
+        match space.get_mut(..work_len) {
+            Some(work) => print_reports(rt, case.image, work),
+            None => println!(rt; "work too long")?,
         }
-        if left < size {
-            return;
-        }
-        at += size;
+        println!(rt; "--")?;
+        Ok(())
     }
 }
 
 fn main(rt: HostRuntime) {
-    let mut input = [0u8; 262144];
-    let n = read_full(&mut rt.stdin(), &mut input);
-    replay_all(&rt, part(&input, 0, n));
+    replay_input::<Proving>(&rt, &mut rt.stdin());
 }

@@ -1,13 +1,14 @@
-use Rattle.std.proofs.Common.{arith}
-use Rattle.rl_assemble.proofs.Laws.{bytes_long, all_put}
+use Rattle.std.proofs.Common.{arith, refl, rules}
+use Rattle.rl_assemble.proofs.Laws.{image_long, bytes_long, all_put}
+use Rattle.rl_assemble.proofs.assemble.Goals.{then-sources-gt65535-via-then-sources-gt65535, then-sources-gt65535-via-else-sources-gt65535+then-new_length-gt65535}
 use Rattle.rl_assemble.proofs.assemble.Goals as goal
 
-pub returns-then-long : goal.returns-then-long
-returns-then-long c =
-    bytes_long c.args.image.now c.args.starts.now c.args.counts c.args.ctx c.args.scratch.now c.args.function c.args.list c.args.out.now _ c.new_length-long.ensures
-    (omega arith)
+pub returns-then-sources-gt65535 : goal.returns-then-sources-gt65535
+returns-then-sources-gt65535 c =
+    elim c.then-sources-gt65535.branch [
+      | then-sources-gt65535-via-then-sources-gt65535 w ↦ image_long _ _ _ _ _ _ _ _ (omega arith)
+      | then-sources-gt65535-via-else-sources-gt65535+then-new_length-gt65535 w ↦ bytes_long _ _ _ _ _ _ _ _ _ w.new_length.ensures (omega arith)
+    ]
 
 pub returns : goal.returns
-returns c =
-    all_put c.args.image.now c.args.starts.now c.args.counts c.args.ctx c.args.scratch.now c.args.function c.args.list c.args.out.now _ c.new_length-long.ensures
-    (omega arith) _ _ c.put_image-n.ensures
+returns c = all_put _ _ _ _ _ _ _ _ c.new_length.ensures (omega arith) _ _ refl c.put_image.ensures.puts _ (search rules)

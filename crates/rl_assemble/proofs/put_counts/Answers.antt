@@ -1,10 +1,9 @@
-use Rattle.rl_assemble.proofs.Puts.{counts_put}
+use Rattle.rl_assemble.proofs.Puts.{puts_then}
+use Rattle.rl_assemble.specs.Pieces.{new_counts}
 use Rattle.rl_assemble.proofs.put_counts.Goals as goal
 
-pub returns : goal.returns
-returns c = counts_put _
-    c.put_two-a.ensures
-    c.put_two-b.ensures
-    c.put_two-c.ensures
-    c.put_two-d.ensures
-    c.put_two.ensures
+pub returns-clause-puts : goal.returns-clause-puts
+unfolding new_counts
+returns-clause-puts c =
+    puts_then (puts_then (puts_then (puts_then c.put_two.ensures.puts c.put_two-2.ensures.puts) c.put_two-3.ensures.puts) c.put_two-4.ensures.puts)
+    c.put_two-5.ensures.puts

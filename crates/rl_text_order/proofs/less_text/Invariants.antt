@@ -1,11 +1,9 @@
-use mathlib.Core.Path.{◌≡◌}
-use Prim.Native.Nat.{◌-◌, ◌≤◌}
-use lib.ListN.{length, drop}
+use Rattle.std.proofs.Common.{◌≡◌, ◌-◌, ◌≤◌, drop}
 use Rattle.rl_spec.specs.Values.{less_text}
 use Rattle.rl_text_order.proofs.less_text.Given as goal
 
 abbrev pub invariant-loop-i : goal.invariant-loop-i
-invariant-loop-i l = (l.i ≤ l.n) × (l.n ≤ length l.a) × (l.n ≤ length l.b) × (less_text l.a l.b ≡ less_text (drop l.i l.a) (drop l.i l.b))
+invariant-loop-i l = (l.i ≤ l.n) × (less_text l.a l.b ≡ less_text (drop l.i l.a) (drop l.i l.b))
 
 abbrev pub decreases-loop-i : goal.decreases-loop-i
 decreases-loop-i l = l.n - l.i

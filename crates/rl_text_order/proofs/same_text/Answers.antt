@@ -1,14 +1,9 @@
-use Rattle.rl_text_order.proofs.Laws.{same_lengths, within, same_word_apart, same_word_more, same_rest}
-use Rattle.std.proofs.Common.{rules}
+use Rattle.std.proofs.Common.{arith}
+use Rattle.rl_text_order.proofs.Laws.{same_word_apart, same_word_more}
 use Rattle.rl_text_order.proofs.same_text.Goals as goal
 
-ruleset laws = (same_lengths, within, same_word_apart, same_word_more, same_rest)
-
-pub returns-then-b-n : goal.returns-then-b-n
-returns-then-b-n c = search (laws, rules)
-
 pub returns-then-x-y : goal.returns-then-x-y
-returns-then-x-y c = search (laws, rules)
+returns-then-x-y c = same_word_apart _ _ _ _ _ _ (omega arith) (omega arith) c.u64_be_at-x.ensures c.u64_be_at-y.ensures c.loop-i.invariant.1 c.if-x-y.true
 
 pub loop-i-preserved : goal.loop-i-preserved
-loop-i-preserved c = search (laws, rules)
+loop-i-preserved c = (omega arith, same_word_more _ _ _ _ _ _ (omega arith) (omega arith) c.u64_be_at-x.ensures c.u64_be_at-y.ensures c.loop-i.invariant.1 c.if-x-y.false)

@@ -1,11 +1,9 @@
-use mathlib.Core.Path.{◌≡◌}
-use Prim.Native.Nat.{◌-◌, ◌≤◌}
-use lib.ListN.{length, drop}
+use Rattle.std.proofs.Common.{◌≡◌, ◌-◌, ◌≤◌, drop}
 use Rattle.rl_spec.specs.Values.{same_text}
 use Rattle.rl_text_order.proofs.same_text.Given as goal
 
 abbrev pub invariant-loop-i : goal.invariant-loop-i
-invariant-loop-i l = (l.i ≤ l.n) × (l.n ≡ length l.a) × (length l.b ≡ l.n) × (same_text l.a l.b ≡ same_text (drop l.i l.a) (drop l.i l.b))
+invariant-loop-i l = (l.i ≤ l.n) × (same_text l.a l.b ≡ same_text (drop l.i l.a) (drop l.i l.b))
 
 abbrev pub decreases-loop-i : goal.decreases-loop-i
 decreases-loop-i l = l.n - l.i

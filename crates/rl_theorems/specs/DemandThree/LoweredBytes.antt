@@ -4,7 +4,7 @@
 use Rattle.std.specs.Prelude.{◌≡◌, ℕ, ◌-◌, ◌<◌, List, length, take, replicate, refl, Ok, Err}
 use Rattle.std.proofs.Common.{ap, sym, ◌∙◌, subst, arith}
 use Rattle.std.proofs.Math.Seq.{take-append_seam}
-use Rattle.rl_spec.specs.Answers.{accepted, refused, LowerAnswer}
+use Rattle.rl_spec.specs.Answers.{accepted, LowerAnswer}
 use Rattle.rl_spec.specs.declared.Section.TheVariants.{Functions}
 use Rattle.rl_spec.specs.Read.{answer_of}
 use Rattle.rl_spec.specs.Image.{Image, size_of, encode, image_of, AllBytes, WellFormed}

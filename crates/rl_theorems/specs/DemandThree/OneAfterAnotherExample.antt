@@ -20,7 +20,6 @@ use Rattle.rl_spec.specs.Mapped.{Text}
 use Rattle.rl_spec.specs.Runner.{outcome_in, run_of}
 use Rattle.rl_spec.specs.Make.{made}
 use Rattle.rl_spec.specs.Lower.{lowered}
-use Rattle.rl_spec.specs.Lowerer as lower
 use Rattle.rl_spec.specs.Lowerer.{or_limit, lower_of, lower_answer}
 use Rattle.rl_examples.specs.MarkedImages.{bool, identifier, clause, function, build}
 use Rattle.rl_examples.specs.LowerExamples.{lowering}

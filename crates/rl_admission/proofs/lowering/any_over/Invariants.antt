@@ -1,9 +1,7 @@
-use Prim.Native.Nat.{◌-◌}
-use Rattle.rl_admission.proofs.LoweringLaws.{Looking}
+use mathlib.Core.Path.{◌≡◌}
+use lib.ListN.{drop}
+use Rattle.rl_spec.specs.Lowerer.{any_over}
 use Rattle.rl_admission.proofs.lowering.any_over.Given as goal
 
-abbrev pub invariant-loop-i : goal.invariant-loop-i
-invariant-loop-i l = Looking l.work l.from l.n l.most l.i
-
-abbrev pub decreases-loop-i : goal.decreases-loop-i
-decreases-loop-i l = l.n - l.i
+abbrev pub invariant-loop-height : goal.invariant-loop-height
+invariant-loop-height l = any_over l.most (drop l.height-index l.height-items) ≡ any_over l.most l.height-items

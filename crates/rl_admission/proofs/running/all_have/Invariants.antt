@@ -1,11 +1,7 @@
-use Prim.Native.Nat.{◌-◌}
 use mathlib.Core.Path.{◌≡◌}
-use lib.ListN.{length, drop}
-use Rattle.rl_spec.specs.Runner.{all_have, given}
+use lib.ListN.{drop}
+use Rattle.rl_spec.specs.Runner.{all_have}
 use Rattle.rl_admission.proofs.running.all_have.Given as goal
 
-abbrev pub invariant-loop-i : goal.invariant-loop-i
-invariant-loop-i l = (length l.arguments.values ≡ 16) × (all_have l.counts (given l.arguments) ≡ all_have l.counts (drop l.i (given l.arguments)))
-
-abbrev pub decreases-loop-i : goal.decreases-loop-i
-decreases-loop-i l = 16 - l.i
+abbrev pub invariant-loop-argument : goal.invariant-loop-argument
+invariant-loop-argument l = all_have l.counts (drop l.argument-index l.argument-items) ≡ all_have l.counts l.argument-items

@@ -1,4 +1,3 @@
-use Prim.Native.Nat.{◌-◌, ◌≤◌}
 use mathlib.Core.Path.{◌≡◌}
 use mathlib.Core.List.{map}
 use lib.ListN.{length, take}
@@ -7,7 +6,4 @@ use Rattle.rl_spec.specs.Boundary.{argument_at}
 use Rattle.rl_boundary.proofs.values.arguments_of.Given as goal
 
 abbrev pub invariant-loop-i : goal.invariant-loop-i
-invariant-loop-i l = (l.i ≤ 16) × ((length l.values ≡ 16) × (take l.i l.values ≡ map (argument_at l.words) (up_from 0 l.i)))
-
-abbrev pub decreases-loop-i : goal.decreases-loop-i
-decreases-loop-i l = 16 - l.i
+invariant-loop-i l = (length l.values ≡ 16) × (take l.i l.values ≡ map (argument_at l.words) (up_from 0 l.i))

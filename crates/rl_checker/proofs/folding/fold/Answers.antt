@@ -1,29 +1,24 @@
-use Rattle.rl_checker.proofs.FoldLaws.{fold_unread, fold_unread_work, fold_other, fold_other_work, fold_missing, fold_missing_work, fold_found, fold_found_work}
+use lib.ListN.{length}
+use Rattle.rl_checker.proofs.FoldLaws.{fold_unread, fold_unread_work, fold_refused, fold_refused_work, fold_found, fold_found_work}
 use Rattle.std.proofs.Common.{rules}
 use Rattle.rl_checker.proofs.folding.fold.Goals as goal
 
-ruleset laws = (fold_unread, fold_unread_work, fold_other, fold_other_work, fold_missing, fold_missing_work, fold_found, fold_found_work)
+ruleset laws = (fold_unread, fold_unread_work, fold_found, fold_found_work)
 
-pub returns-in-Refused-clause-value : goal.returns-in-Refused-clause-value
-returns-in-Refused-clause-value c = search (laws, rules)
+pub returns-in_err-arena-clause-value : goal.returns-in_err-arena-clause-value
+returns-in_err-arena-clause-value c = search (laws, rules)
 
-pub returns-in-Refused-clause-work_after : goal.returns-in-Refused-clause-work_after
-returns-in-Refused-clause-work_after c = search (laws, rules)
+pub returns-in_err-arena-clause-work_after : goal.returns-in_err-arena-clause-work_after
+returns-in_err-arena-clause-work_after c = search (laws, rules)
 
-pub returns-in-Node-clause-value : goal.returns-in-Node-clause-value
-returns-in-Node-clause-value c = search (laws, rules)
+pub returns-in-Ok-clause-value : goal.returns-in-Ok-clause-value
+returns-in-Ok-clause-value c = search (laws, rules)
 
-pub returns-in-Node-clause-work_after : goal.returns-in-Node-clause-work_after
-returns-in-Node-clause-work_after c = search (laws, rules)
+pub returns-in-Ok-clause-work_after : goal.returns-in-Ok-clause-work_after
+returns-in-Ok-clause-work_after c = search (laws, rules)
 
-pub returns-in-OtherArena-clause-value : goal.returns-in-OtherArena-clause-value
-returns-in-OtherArena-clause-value c = search (laws, rules)
+pub returns-in-Err-clause-value : goal.returns-in-Err-clause-value
+returns-in-Err-clause-value c = fold_refused c.args.image.now (length c.args.work.now) c.args.id _ c.read_starts.ensures.value c.in_ok-arena.field-0.arena c.in_ok-arena.field-0.counts c.in_ok-arena.was _ c.node_of.ensures _ c.in-Err.is _ c.into.ensures
 
-pub returns-in-OtherArena-clause-work_after : goal.returns-in-OtherArena-clause-work_after
-returns-in-OtherArena-clause-work_after c = search (laws, rules)
-
-pub returns-in-NoSuchNode-clause-value : goal.returns-in-NoSuchNode-clause-value
-returns-in-NoSuchNode-clause-value c = search (laws, rules)
-
-pub returns-in-NoSuchNode-clause-work_after : goal.returns-in-NoSuchNode-clause-work_after
-returns-in-NoSuchNode-clause-work_after c = search (laws, rules)
+pub returns-in-Err-clause-work_after : goal.returns-in-Err-clause-work_after
+returns-in-Err-clause-work_after c = fold_refused_work c.args.image.now (length c.args.work.now) c.args.id _ c.read_starts.ensures.value c.in_ok-arena.field-0.arena c.in_ok-arena.field-0.counts c.in_ok-arena.was _ c.node_of.ensures _ c.in-Err.is c.read_starts.new.work _ c.read_starts.auto.work (c.fill.ensures.after (λ y e. e))

@@ -6,4 +6,4 @@ use Rattle.rl_context.proofs.Ctx.res_call.Goals as goal
 
 pub returns : goal.returns
 unfolding word_fields sort_of
-returns c im k = call_does _ _ c.res_path-path.result.list c.list_of-args.result.list _ _ (c.res_path-path.ensures im k) (c.list_of-args.ensures im k) c.list_word.ensures c.list_word-2.ensures (c.expr.ensures im k _ _ row_call fields_call)
+returns c im k = call_does _ _ c.res_path-path.result.made c.list_of-args.result.made _ _ (c.res_path-path.ensures im k) (c.list_of-args.ensures im k) c.list_word.ensures c.list_word-2.ensures (c.expr.ensures im k _ _ row_call fields_call)

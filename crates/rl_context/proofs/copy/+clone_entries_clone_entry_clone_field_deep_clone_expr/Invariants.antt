@@ -1,4 +1,4 @@
-use Rattle.std.proofs.Common.{◌≡◌, ◌+◌, ◌-◌, ◌*◌, ◌^◌, ◌<◌, ◌≤◌, length}
+use Rattle.std.proofs.Common.{◌≡◌, ◌+◌, ◌*◌, ◌^◌, ◌<◌, ◌≤◌, length}
 use Rattle.rl_schema.specs.Codes.{codes, table}
 use Rattle.rl_context.specs.Does.{at}
 use Rattle.rl_context.proofs.Copying.{Copying}
@@ -18,15 +18,12 @@ abbrev pub decreases-deep_clone_expr : goal.decreases-deep_clone_expr
 decreases-deep_clone_expr l = l.id * 4 + 3
 
 abbrev pub invariant-clone_entries-loop-i : goal.invariant-clone_entries-loop-i
-invariant-clone_entries-loop-i l = (l.i ≤ l.count) × ((length l.scratch ≡ length l.initial.scratch) × ((length l.waiting ≡ length l.initial.waiting) ×
-    (l.rows ≡ table → l.id < l.counts.expressions → CopyingEntries l.image l.starts l.counts l.id l.first l.count l.initial.here l.initial.other (at l.initial.now l.initial.scratch l.initial.waiting) (at l.now l.scratch l.waiting) l.i l.here l.other)))
-
-abbrev pub decreases-clone_entries-loop-i : goal.decreases-clone_entries-loop-i
-decreases-clone_entries-loop-i l = l.count - l.i
+invariant-clone_entries-loop-i l = (length l.scratch ≡ length l.initial.scratch) × ((length l.waiting ≡ length l.initial.waiting) ×
+    (l.rows ≡ table → l.id < l.image.counts.expressions → CopyingEntries l.image.bytes.now l.image.starts.now l.image.counts l.id l.list.first l.list.count l.initial.here l.initial.other (at l.initial.ctx l.initial.scratch l.initial.waiting) (at l.ctx l.scratch l.waiting) l.i l.here l.other))
 
 abbrev pub invariant-deep_clone_expr-loop-rest : goal.invariant-deep_clone_expr-loop-rest
 invariant-deep_clone_expr-loop-rest l = (length l.scratch ≡ length l.initial.scratch) × ((length l.waiting ≡ length l.initial.waiting) × ((l.rest < 2 ^ 64) × ((l.j + length (codes l.rest) ≤ 8) × ((l.place ≤ 66000 + 8 * l.j) × ((length l.words ≡ 8) ×
-    (l.rows ≡ table → l.id < l.counts.expressions → Copying l.image l.starts l.counts l.id l.row (l.start + 1) (at l.initial.now l.initial.scratch l.initial.waiting) (at l.now l.scratch l.waiting) l.words l.rest l.place l.j))))))
+    (l.rows ≡ table → l.id < l.image.counts.expressions → Copying l.image.bytes.now l.image.starts.now l.image.counts l.id l.row (l.start + 1) (at l.initial.ctx l.initial.scratch l.initial.waiting) (at l.ctx l.scratch l.waiting) l.words l.rest l.place l.j))))))
 
 abbrev pub decreases-deep_clone_expr-loop-rest : goal.decreases-deep_clone_expr-loop-rest
 decreases-deep_clone_expr-loop-rest l = l.rest

@@ -1,11 +1,13 @@
 use Rattle.rl_lines.proofs.CallLaws.{own_lines, own_entries, own_length, own_message}
 use Rattle.rl_lines.proofs.messages.message_in.Goals as goal
 
-pub put_message-requires-clause-lines_value : goal.put_message-requires-clause-lines_value
-put_message-requires-clause-lines_value c = own_lines _ _ _ c.lines_of-lines.ensures.value
-
-pub put_message-requires-clause-reports_value : goal.put_message-requires-clause-reports_value
-put_message-requires-clause-reports_value c = own_entries _ _ _ c.lines_of-lines.ensures.value _ c.lines_of-lines.ensures.reports_after
+pub invariant_of-reported : goal.invariant_of-reported
+invariant_of-reported c =
+    record {
+      known = c.args.opened.known;
+      proved = own_lines _ _ _ c.lines_of-lines.ensures.value;
+      reported = own_entries _ _ _ c.lines_of-lines.ensures.value _ c.lines_of-lines.ensures.reports_after;
+    }
 
 pub returns-clause-value : goal.returns-clause-value
 returns-clause-value c = own_length _ _ _ c.lines_of-lines.ensures.value _ 65535 _ c.put_message.ensures.value

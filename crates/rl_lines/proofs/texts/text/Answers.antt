@@ -1,23 +1,17 @@
-use Rattle.rl_lines.proofs.AnswerLaws.{text_unread, text_unread_work, text_missing, text_missing_work, text_found, text_found_work}
-use Rattle.std.proofs.Common.{rules}
+use mathlib.Core.Path.{refl}
+use Rattle.rl_lines.proofs.AnswerLaws.{text_unread_work, text_missing_work, text_found, text_found_work}
 use Rattle.rl_lines.proofs.texts.text.Goals as goal
 
-ruleset laws = (text_unread, text_unread_work, text_missing, text_missing_work, text_found, text_found_work)
+pub returns-in_err-counts-clause-work_after : goal.returns-in_err-counts-clause-work_after
+returns-in_err-counts-clause-work_after c = text_unread_work _ _ _ c.in_err-counts.ensures.value _ _ _ refl _ c.read_starts.ensures.work_after
 
-pub returns-then-texts-number-clause-value : goal.returns-then-texts-number-clause-value
-returns-then-texts-number-clause-value c = search (laws, rules)
+pub returns-then-counts-number-clause-work_after : goal.returns-then-counts-number-clause-work_after
+returns-then-counts-number-clause-work_after c =
+    text_missing_work _ _ _ c.in_ok-counts.ensures.value _ _ _ refl c.if-counts-number.true _ _ c.read_starts.auto.work (c.fill.ensures.after (λ y e. e))
 
-pub returns-then-texts-number-clause-work_after : goal.returns-then-texts-number-clause-work_after
-returns-then-texts-number-clause-work_after c = search (laws, rules)
+pub returns-clause-value : goal.returns-clause-value
+returns-clause-value c = text_found _ _ _ c.in_ok-counts.ensures.value _ _ _ refl c.if-counts-number.false _ c.text_part.ensures
 
-pub returns-in-Refused-clause-value : goal.returns-in-Refused-clause-value
-returns-in-Refused-clause-value c = search (laws, rules)
-
-pub returns-in-Refused-clause-work_after : goal.returns-in-Refused-clause-work_after
-returns-in-Refused-clause-work_after c = search (laws, rules)
-
-pub returns-else-texts-number-clause-value : goal.returns-else-texts-number-clause-value
-returns-else-texts-number-clause-value c = text_found _ _ _ c.read_starts-answer.ensures.value _ _ _ c.in-Accepted.is c.if-texts-number.false _ c.text_part.ensures
-
-pub returns-else-texts-number-clause-work_after : goal.returns-else-texts-number-clause-work_after
-returns-else-texts-number-clause-work_after c = text_found_work _ _ _ c.read_starts-answer.ensures.value _ _ _ c.in-Accepted.is c.if-texts-number.false _ c.text_part.ensures _ c.read_starts-answer.ensures.work_after
+pub returns-clause-work_after : goal.returns-clause-work_after
+returns-clause-work_after c =
+    text_found_work _ _ _ c.in_ok-counts.ensures.value _ _ _ refl c.if-counts-number.false _ c.text_part.ensures _ c.read_starts.ensures.work_after

@@ -1,5 +1,5 @@
 use native.Mathlib.Omega.{arith}
-use Rattle.rl_machine.proofs.BeginLaws.{begin_declaration, begin_value, begin_expression, begin_return, begin_alone, begin_conditional, begin_branch, begin_while, begin_loop, begin_break, begin_continue, begin_other}
+use Rattle.rl_machine.proofs.BeginLaws.{begin_declaration, begin_value, begin_expression, begin_return, begin_alone, begin_compound, begin_break, begin_continue, begin_fault}
 use Rattle.rl_machine.proofs.begin.begun_form.Goals as goal
 
 pub returns-then-last : goal.returns-then-last
@@ -18,22 +18,13 @@ pub returns-in-ReturnAlone : goal.returns-in-ReturnAlone
 returns-in-ReturnAlone c = let whole = begin_alone _ _ c.args.last c.in-ReturnAlone.is in record { begins = whole.0; room = whole.1 }
 
 pub returns-in-Conditional : goal.returns-in-Conditional
-returns-in-Conditional c = let whole = begin_conditional _ _ c.args.last _ _ c.in-Conditional.is in record { begins = whole.0; room = whole.1 }
+returns-in-Conditional c = let whole = begin_compound _ _ c.args.last c.in-Conditional.is in record { begins = whole.0; room = whole.1 }
 
 pub returns-in-Branch : goal.returns-in-Branch
-returns-in-Branch c = let whole = begin_branch _ _ c.args.last _ _ _ c.in-Branch.is c.fault.ensures in record { begins = whole.0; room = whole.1 }
-
-pub returns-in-While : goal.returns-in-While
-returns-in-While c = let whole = begin_while _ _ c.args.last _ _ c.in-While.is in record { begins = whole.0; room = whole.1 }
-
-pub returns-in-Loop : goal.returns-in-Loop
-returns-in-Loop c = let whole = begin_loop _ _ c.args.last _ c.in-Loop.is in record { begins = whole.0; room = whole.1 }
+returns-in-Branch c = let whole = begin_fault _ _ c.args.last _ c.in-Branch.is c.fault.ensures in record { begins = whole.0; room = whole.1 }
 
 pub returns-in-Break : goal.returns-in-Break
 returns-in-Break c = let whole = begin_break _ _ c.args.last c.in-Break.is in record { begins = whole.0; room = whole.1 }
 
 pub returns-in-Continue : goal.returns-in-Continue
 returns-in-Continue c = let whole = begin_continue _ _ c.args.last c.in-Continue.is in record { begins = whole.0; room = whole.1 }
-
-pub returns-in-Other : goal.returns-in-Other
-returns-in-Other c = let whole = begin_other _ _ c.args.last _ c.in-Other.is c.fault-in-Other.ensures in record { begins = whole.0; room = whole.1 }

@@ -17,7 +17,7 @@ pub returns-in-Binary : goal.returns-in-Binary
 returns-in-Binary c = let whole = enter_binary _ _ _ _ _ _ c.in-Binary.is c.push-in-Binary.ensures in record { enters = whole.0; enters_room = whole.1 }
 
 pub returns-in-Grouping : goal.returns-in-Grouping
-returns-in-Grouping c = let whole = enter_grouping _ _ _ c.in-Grouping.is in record { enters = whole.0; enters_room = whole.1 }
+returns-in-Grouping c = let whole = enter_grouping _ _ _ _ c.in-Grouping.is c.from.ensures in record { enters = whole.0; enters_room = whole.1 }
 
 pub returns-in-Assign : goal.returns-in-Assign
 returns-in-Assign c = let whole = enter_assign _ _ _ _ _ c.in-Assign.is c.push-in-Assign.ensures in record { enters = whole.0; enters_room = whole.1 }

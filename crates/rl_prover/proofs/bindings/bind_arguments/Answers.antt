@@ -1,4 +1,3 @@
-use Prim.Native.Nat.{◌-◌}
 use Rattle.rl_prover.proofs.PassLaws.{pass_start, pass_end, pass_next}
 use Rattle.std.proofs.Common.{rules}
 use Rattle.rl_prover.proofs.bindings.bind_arguments.Goals as goal

@@ -1,4 +1,3 @@
-use Prim.Native.Nat.{◌-◌}
 use Rattle.rl_prover.proofs.SecondLaws.{refining_start, refining_end, refining_next}
 use Rattle.std.proofs.Common.{rules}
 use Rattle.rl_prover.proofs.violations.report_refinements.Goals as goal

@@ -1,4 +1,3 @@
-use Prim.Native.Nat.{◌-◌}
 use Rattle.rl_prover.proofs.SecondLaws.{requiring_start, requiring_end, requiring_next}
 use Rattle.std.proofs.Common.{rules}
 use Rattle.rl_prover.proofs.violations.report_requires.Goals as goal

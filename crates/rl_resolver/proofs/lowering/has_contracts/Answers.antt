@@ -1,14 +1,13 @@
 use Rattle.rl_resolver.proofs.Contracts.{has_requires, has_ensures, has_refined}
-use Rattle.std.proofs.Common.{rules}
 use Rattle.rl_resolver.proofs.lowering.has_contracts.Goals as goal
+use Rattle.rl_resolver.proofs.lowering.has_contracts.Goals.{then-f-ne0-via-then-f-ne0, then-f-ne0-via-else-f-ne0+then-f-ne0-2}
 
-ruleset laws = (has_requires, has_ensures, has_refined)
-
-pub returns-then-required-ne0 : goal.returns-then-required-ne0
-returns-then-required-ne0 c = has_requires _ _ _ _ c.function_at-f.ensures c.if-required-ne0.true
-
-pub returns-then-ensured-ne0 : goal.returns-then-ensured-ne0
-returns-then-ensured-ne0 c = search (laws, rules)
+pub returns-then-f-ne0 : goal.returns-then-f-ne0
+returns-then-f-ne0 c =
+    elim c.then-f-ne0.branch [
+      | then-f-ne0-via-then-f-ne0 w ↦ has_requires _ _ _ _ c.function-f.ensures w.if-f-ne0.true
+      | then-f-ne0-via-else-f-ne0+then-f-ne0-2 w ↦ has_ensures _ _ _ _ c.function-f.ensures w.if-f-ne0.false w.if-f-ne0-2.true
+    ]
 
 pub returns : goal.returns
-returns c = search (laws, rules)
+returns c = has_refined _ _ _ _ c.function-f.ensures c.if-f-ne0.false c.if-f-ne0-2.false _ c.any_refined.ensures

@@ -1,79 +1,52 @@
-use Rattle.rl_statements.proofs.BindingLaws.{seek_begins, seek_hit, seek_miss}
-use Rattle.rl_statements.proofs.Falls.{falls_lighter, falls_paid, falls_compound, falls_pushed, falls_entered, falls_given}
-use Rattle.rl_statements.proofs.ListLaws.{list_over, list_spent, list_next, list_tested, list_skipped, list_compound, visit_spent, visit_node, push_frame, push_never, give_none, give_frame, name_found, name_missing, name_stored, name_bound, name_over}
-use Rattle.rl_statements.proofs.TurnLaws.{list_begins, list_finished, turns_spent, turns_again}
-use mathlib.Core.Path.{refl, sym, ◌∙◌}
-use Rattle.rl_statements.proofs.CycleLaws.{branch_lower, branch_taken, branch_missing, else_lower, else_branch_lem, else_conditional_lem, else_missing, statement_otherwise, statement_branch, statement_loop, statement_missing}
-use Rattle.std.proofs.Common.{rules}
+use mathlib.Core.Path.{sym, ◌∙◌}
+use Rattle.rl_statements.proofs.ListLaws.{stands_on, goes_lower, stands_compound}
+use Rattle.rl_statements.proofs.TurnLaws.{list_begins, turns_spent, turns_again}
 use Rattle.rl_statements.proofs.cycle.+branch_list_otherwise_statement.Goals as goal
 
-ruleset parts = (branch_lower, branch_taken, branch_missing, else_lower, else_branch_lem, else_conditional_lem, else_missing, statement_otherwise, statement_branch, statement_loop, statement_missing)
-
-ruleset falling = (falls_lighter, falls_paid, falls_compound, falls_pushed, falls_entered, falls_given)
-
-ruleset listing = (list_over, list_spent, list_next, list_tested, list_skipped, list_compound, visit_spent, visit_node, push_frame, push_never, give_none, give_frame, name_found, name_missing, name_stored, name_bound, name_over, list_begins, list_finished, turns_spent, turns_again)
-
-ruleset seeking = (seek_begins, seek_hit, seek_miss)
-
 pub list-loop-state-init : goal.list-loop-state-init
-list-loop-state-init t c = search (listing, rules)
+list-loop-state-init t c = list_begins _ _ _ _ _ _ _ c.new-frames.ensures c.len-base.ensures c.first_state-state.ensures.begins_list c.first_state-state.ensures.room c.requires.low
 
-pub list-loop-state-preserved-then-count-done : goal.list-loop-state-preserved-then-count-done
-list-loop-state-preserved-then-count-done t c = search (listing, rules)
-
-pub list-loop-state-preserved-then-left-eq0 : goal.list-loop-state-preserved-then-left-eq0
-list-loop-state-preserved-then-left-eq0 t c = search (listing, rules)
-
-pub list-loop-state-preserved-else-left-eq0 : goal.list-loop-state-preserved-else-left-eq0
-list-loop-state-preserved-else-left-eq0 t c = list_next _ _ _ _ _ _ _ _ _ _ _ _ _ _ _ _ _ c.loop-state.invariant c.in-Next.is c.if-count-done.false c.if-left-eq0.false c.is_last-last.ensures (c.entry_at-s.ensures c.args.starts.now) c.begun-state.ensures.begins c.begun-state.ensures.room c.requires.sound.low
-
-pub list-loop-state-preserved-then-holds : goal.list-loop-state-preserved-then-holds
-list-loop-state-preserved-then-holds t c = search (listing, rules)
-
-pub list-loop-state-preserved-else-holds : goal.list-loop-state-preserved-else-holds
-list-loop-state-preserved-else-holds t c = search (listing, rules)
-
-pub list-loop-state-preserved-in-Compound : goal.list-loop-state-preserved-in-Compound
-list-loop-state-preserved-in-Compound t c = search (listing, rules)
-
-pub list-loop-state-preserved-then-left-eq0-2 : goal.list-loop-state-preserved-then-left-eq0-2
-list-loop-state-preserved-then-left-eq0-2 t c = search (listing, rules)
-
-pub list-loop-state-preserved-else-left-eq0-2 : goal.list-loop-state-preserved-else-left-eq0-2
-list-loop-state-preserved-else-left-eq0-2 t c = search (listing, rules)
-
-pub list-loop-state-preserved-then-left-eq0-3 : goal.list-loop-state-preserved-then-left-eq0-3
-list-loop-state-preserved-then-left-eq0-3 t c = visit_spent _ _ _ _ _ _ _ _ _ _ _ _ _ _ _ _ (push_frame _ _ _ _ _ _ _ _ _ _ _ _ _ _ _ _ _ c.loop-state.invariant c.in-Push.is c.if-top-lt69.true) refl c.if-left-eq0-3.true
-
-pub list-loop-state-preserved-else-left-eq0-3 : goal.list-loop-state-preserved-else-left-eq0-3
-list-loop-state-preserved-else-left-eq0-3 t c = visit_node _ _ _ _ _ _ _ _ _ _ _ _ _ _ _ _ _ (push_frame _ _ _ _ _ _ _ _ _ _ _ _ _ _ _ _ _ c.loop-state.invariant c.in-Push.is c.if-top-lt69.true) refl c.if-left-eq0-3.false c.entered-state-else-left-eq0-3.ensures.enters c.entered-state-else-left-eq0-3.ensures.enters_room
-
-pub list-loop-state-preserved-then-found-eq0 : goal.list-loop-state-preserved-then-found-eq0
-list-loop-state-preserved-then-found-eq0 t c = name_missing _ _ _ _ _ _ _ _ _ _ _ _ _ _ _ _ _ _ _ _ c.loop-state.invariant c.in-Seek.is c.requires.sound.same c.loop-j.invariant c.if-found-eq0.true c.loop-j-test.false
-
-pub list-loop-state-preserved-then-storing : goal.list-loop-state-preserved-then-storing
-list-loop-state-preserved-then-storing t c = name_stored _ _ _ _ _ _ _ _ _ _ _ _ _ _ _ _ _ _ _ _ c.loop-state.invariant c.in-Seek.is c.requires.sound.same c.loop-j.invariant _ c.if-storing.true c.if-found-eq0.false c.binding.ensures
-
-pub list-loop-state-preserved-else-storing : goal.list-loop-state-preserved-else-storing
-list-loop-state-preserved-else-storing t c = name_found _ _ _ _ _ _ _ _ _ _ _ _ _ _ _ _ _ _ _ _ c.loop-state.invariant c.in-Seek.is c.requires.sound.same c.loop-j.invariant _ c.if-storing.false c.if-found-eq0.false c.value_of_words.ensures
-
-pub list-loop-state-preserved-then-n-lt128 : goal.list-loop-state-preserved-then-n-lt128
-list-loop-state-preserved-then-n-lt128 t c = name_bound _ _ _ _ _ _ _ _ _ _ _ _ _ _ _ _ _ c.loop-state.invariant c.in-Bind.is c.if-n-lt128.true c.binding-then-n-lt128.ensures
-
-pub list-loop-state-preserved-else-n-lt128 : goal.list-loop-state-preserved-else-n-lt128
-list-loop-state-preserved-else-n-lt128 t c = search (listing, rules)
-
-pub list-loop-state-preserved-then-top-eq0 : goal.list-loop-state-preserved-then-top-eq0
-list-loop-state-preserved-then-top-eq0 t c = search (listing, rules)
-
-pub list-loop-state-preserved-else-top-eq0 : goal.list-loop-state-preserved-else-top-eq0
-list-loop-state-preserved-else-top-eq0 t c = give_frame _ _ _ _ _ _ _ _ _ _ _ _ _ _ _ _ _ c.loop-state.invariant c.in-Give.is c.if-top-eq0.false refl (c.resumed-state.ensures.by_index c.args.starts.now) (c.resumed-state.ensures.resumes_room _)
-
-pub list-returns-in-Finish : goal.list-returns-in-Finish
-list-returns-in-Finish t c = list_finished _ _ _ _ _ _ c.args.looping c.args.condition _ _ _ _ _ _ _ _ c.min.ensures _ _ c.loop-state.invariant c.in-Ends.is (sym c.turn_after-turn.ensures ∙ c.in-Finish.is) _ _ refl
-
-pub list-returns-then-left-eq0-4 : goal.list-returns-then-left-eq0-4
-list-returns-then-left-eq0-4 t c = turns_spent _ _ _ _ _ _ c.args.looping c.args.condition _ _ _ _ _ _ _ _ c.min.ensures _ c.loop-state.invariant c.in-Ends.is (sym c.turn_after-turn.ensures ∙ c.in-Again.is) c.if-left-eq0-4.true _ _ refl
+pub list-returns-then-left-eq0 : goal.list-returns-then-left-eq0
+list-returns-then-left-eq0 t c = turns_spent _ _ _ _ _ _ _ _ _ _ c.loop-state.invariant _ c.in-Ends.is _ c.leave.ensures (sym c.turn_after.ensures ∙ c.in_default.is) c.if-left-eq0.true
 
 pub list-loop-state-preserved : goal.list-loop-state-preserved
-list-loop-state-preserved t c = turns_again _ _ _ _ _ _ c.args.looping c.args.condition _ _ _ _ _ _ _ _ c.min.ensures _ _ c.loop-state.invariant c.in-Ends.is (sym c.turn_after-turn.ensures ∙ c.in-Again.is) c.if-left-eq0-4.false c.condition_first-state.ensures.means c.condition_first-state.ensures.room c.requires.sound.low
+list-loop-state-preserved t c = turns_again _ _ _ _ _ _ _ _ _ _ c.loop-state.invariant _ c.in-Ends.is _ c.leave.ensures (sym c.turn_after.ensures ∙ c.in_default.is) _ _ c.if-left-eq0.false c.clear.ensures c.condition_first-state.ensures.means c.condition_first-state.ensures.room c.requires.low
+
+pub list-loop-state-preserved-in-Compound : goal.list-loop-state-preserved-in-Compound
+list-loop-state-preserved-in-Compound t c = stands_compound _ _ _ _ _ _ _ _ _ _ _ c.loop-state.invariant _ c.in-Compound.is _ c.statement-ran.ensures _ c.followed-state.ensures.follows c.followed-state.ensures.room
+
+pub list-loop-state-preserved-in-Visit : goal.list-loop-state-preserved-in-Visit
+list-loop-state-preserved-in-Visit t c = stands_on _ _ _ _ _ _ _ _ _ _ _ c.loop-state.invariant _ _ _ _ _ c.in-Visit.is (c.visited-state.ensures _ _ _)
+
+pub list-loop-state-smaller-in-Visit : goal.list-loop-state-smaller-in-Visit
+list-loop-state-smaller-in-Visit t c = goes_lower _ _ _ _ _ _ _ _ _ _ _ c.loop-state.invariant _ _ _ _ _ c.in-Visit.is (c.visited-state.ensures _ _ _)
+
+pub list-loop-state-preserved-in-Push : goal.list-loop-state-preserved-in-Push
+list-loop-state-preserved-in-Push t c = stands_on _ _ _ _ _ _ _ _ _ _ _ c.loop-state.invariant _ _ _ _ _ c.in-Push.is (c.pushed-state.ensures _ _)
+
+pub list-loop-state-smaller-in-Push : goal.list-loop-state-smaller-in-Push
+list-loop-state-smaller-in-Push t c = goes_lower _ _ _ _ _ _ _ _ _ _ _ c.loop-state.invariant _ _ _ _ _ c.in-Push.is (c.pushed-state.ensures _ _)
+
+pub list-loop-state-preserved-in-Look : goal.list-loop-state-preserved-in-Look
+list-loop-state-preserved-in-Look t c = stands_on _ _ _ _ _ _ _ _ _ _ _ c.loop-state.invariant _ _ _ _ _ c.in-Look.is (c.looked-state.ensures _ c.requires.same _ _ _)
+
+pub list-loop-state-smaller-in-Look : goal.list-loop-state-smaller-in-Look
+list-loop-state-smaller-in-Look t c = goes_lower _ _ _ _ _ _ _ _ _ _ _ c.loop-state.invariant _ _ _ _ _ c.in-Look.is (c.looked-state.ensures _ c.requires.same _ _ _)
+
+pub list-loop-state-preserved-in-Store : goal.list-loop-state-preserved-in-Store
+list-loop-state-preserved-in-Store t c = stands_on _ _ _ _ _ _ _ _ _ _ _ c.loop-state.invariant _ _ _ _ _ c.in-Store.is (c.stored-state.ensures _ c.requires.same _ _ _)
+
+pub list-loop-state-smaller-in-Store : goal.list-loop-state-smaller-in-Store
+list-loop-state-smaller-in-Store t c = goes_lower _ _ _ _ _ _ _ _ _ _ _ c.loop-state.invariant _ _ _ _ _ c.in-Store.is (c.stored-state.ensures _ c.requires.same _ _ _)
+
+pub list-loop-state-preserved-in-Bind : goal.list-loop-state-preserved-in-Bind
+list-loop-state-preserved-in-Bind t c = stands_on _ _ _ _ _ _ _ _ _ _ _ c.loop-state.invariant _ _ _ _ _ c.in-Bind.is (c.declared-state.ensures _ _ _ _)
+
+pub list-loop-state-smaller-in-Bind : goal.list-loop-state-smaller-in-Bind
+list-loop-state-smaller-in-Bind t c = goes_lower _ _ _ _ _ _ _ _ _ _ _ c.loop-state.invariant _ _ _ _ _ c.in-Bind.is (c.declared-state.ensures _ _ _ _)
+
+pub list-loop-state-preserved-in-Give : goal.list-loop-state-preserved-in-Give
+list-loop-state-preserved-in-Give t c = stands_on _ _ _ _ _ _ _ _ _ _ _ c.loop-state.invariant _ _ _ _ _ c.in-Give.is (c.given-state.ensures _ _ _)
+
+pub list-loop-state-smaller-in-Give : goal.list-loop-state-smaller-in-Give
+list-loop-state-smaller-in-Give t c = goes_lower _ _ _ _ _ _ _ _ _ _ _ c.loop-state.invariant _ _ _ _ _ c.in-Give.is (c.given-state.ensures _ _ _)

@@ -5,4 +5,4 @@ pub returns-then-limit-b : goal.returns-then-limit-b
 returns-then-limit-b c = branch_late _ _ _ _ _ c.if-limit-b.true
 
 pub returns : goal.returns
-returns c = branch_view _ _ _ _ _ _ _ c.if-limit-b.false c.statement_at.ensures c.branch_of.ensures
+returns c = branch_view _ _ _ _ _ _ _ c.if-limit-b.false c.statement.ensures c.branch_of.ensures

@@ -8,7 +8,7 @@ pub returns : goal.returns
 returns c = λ w r h j k.
     makes_rebuilt _ _ _ _ _ _ h
     c.statement_start-start.ensures
-    (c.kind_at-kind.ensures ∙ kind_in _ _) _
+    (c.kind_at-number.ensures ∙ kind_in _ _) _
     (row_codes _ _ _ r c.row_of-row.ensures) _
     c.fields_of-words.ensures.value
     c.fields_of-words.ensures.result_value _ _ _ _ j k _ _

@@ -1,8 +1,0 @@
-use Rattle.rl_abi.proofs.RunLaws.{run_refused_place}
-use Rattle.std.proofs.Common.{rules}
-use Rattle.rl_abi.proofs.rl_run.Goals as goal
-
-ruleset laws = (run_refused_place)
-
-pub pack-requires : goal.pack-requires
-pack-requires c = search (laws, rules)
