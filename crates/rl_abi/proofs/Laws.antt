@@ -120,3 +120,5 @@ module _ (s : List ℕ) (k room : ℕ) (a : ProveAnswer) (e : a ≡ prove_all_of
 
   pub all_packed : (r : ℕ) → r ≡ packed_by (λ n. n) a → r ≡ prove_packed (prove_all_of s k room)
   all_packed r g = g ∙ count_packed a ∙ ap prove_packed e
+
+pub ruleset folding = (fold_refused_place, fold_refused, fold_refused_value, fold_found, fold_found_value)

@@ -63,3 +63,5 @@ module _ (s : List ℕ) (k f : ℕ) (words : List ℕ) (budget : ℕ) (args : Ar
 
     pub run_ran_outcome : (l : List ℕ) → l ≡ outcome_words h.outcome h.steps → l ≡ run_words (run_of s k f (arguments_of words) budget)
     run_ran_outcome l z = rw (← whole, y) z
+
+pub ruleset running = (run_work, run_refused_place, run_refused, run_refused_outcome, run_ran, run_ran_outcome)

@@ -25,7 +25,7 @@ pub fn rl_read(image: &[u8], work: &mut [u16]) -> u64
 
 // Reads an image and folds a node without names. value[0]: 0 none, 1 Int, 2 Float, 3 Str, 4 Bool; value[1]: the i64's or f64's
 // bits, the text's index, 0 or 1.
-#[tactic(auto, using(crate::proofs::Laws::fold_refused_place, crate::proofs::Laws::fold_refused, crate::proofs::Laws::fold_refused_value, crate::proofs::Laws::fold_found, crate::proofs::Laws::fold_found_value))]
+#[tactic(auto, using(crate::proofs::Laws::folding))]
 pub fn rl_fold(image: &[u8], work: &mut [u16], arena: u32, node: u32, value: &mut [u64; 2]) -> u64
     ensures value { result ≡ fold_packed (fold_of image.now (length work.old) (id_of arena node)) }
     ensures value_after { value.new ≡ fold_words (fold_of image.now (length work.old) (id_of arena node)) }
@@ -70,7 +70,7 @@ pub fn rl_prove_all(image: &[u8], work: &mut [u16], reports: &mut [u32]) -> u64
 
 // Reads an image and runs a function on values, two words each, within a budget. outcome[0]: 1 Returned, 2 Stopped, 3 Fault, 4 Spent;
 // outcome[1]: the steps; outcome[2] and [3]: the value's words, or the fault's number and 0. Words that are no values are 19.
-#[tactic(auto, using(crate::proofs::RunLaws::run_work, crate::proofs::RunLaws::run_refused_place, crate::proofs::RunLaws::run_refused, crate::proofs::RunLaws::run_refused_outcome, crate::proofs::RunLaws::run_ran, crate::proofs::RunLaws::run_ran_outcome))]
+#[tactic(auto, using(crate::proofs::RunLaws::running))]
 pub fn rl_run(
     image: &[u8],
     work: &mut [u16],
