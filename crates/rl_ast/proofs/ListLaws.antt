@@ -1,21 +1,18 @@
 -- The section of list entries is read as the definition has it.
 -- Assumes nothing.
-use Prim.Native.Nat.{ℕ, zero, suc, ◌+◌, ◌-◌, ◌≤◌, ◌<◌}
+use Prim.Native.Nat.{ℕ, zero, suc, ◌+◌, ◌≤◌}
 use mathlib.Core.Path.{◌≡◌, refl}
 use mathlib.Core.Bool.{Bool, true, false, cond}
 use mathlib.Core.List.{List}
 use native.Mathlib.Omega.{arith}
 use lib.Dec.{ltb, leb, eqb}
-use lib.ListN.{length, get_or}
-use mir.Val.{Fits}
-use mir.Syntax.{w64}
+use lib.ListN.{get_or}
 use borrow.Author.Tests.{lt-ltb, le-ltb, le-leb, lt-leb, eq-eqb, ne_eqb, eqb-true}
 use Rattle.rl_spec.specs.declared.Counts.{Counts}
 use Rattle.rl_spec.specs.declared.Cause.TheVariants.{BytesEnd, WrongKind}
 use Rattle.rl_spec.specs.declared.Section.{Section}
 use Rattle.rl_spec.specs.declared.Section.TheVariants.{Lists}
 use Rattle.rl_spec.specs.Answers.{Step, goes_on, refused}
-use Rattle.std.specs.Prelude.{Err}
 use Rattle.rl_spec.specs.Bytes.{past}
 use Rattle.rl_spec.specs.Schema.{in_section, fields_of, fields_in, schema, sort_of}
 use Rattle.rl_spec.specs.Fields.{height_step, record_at, fields_from, field_at, value_of}

@@ -1,6 +1,5 @@
 // The reader: the header, the sections, the whole.
-ghost use Rattle.std.specs.Prelude.{◌≡◌, ◌≤◌, length, cond, Ok};
-ghost use Rattle.std.specs.Prelude.{◌+◌};
+ghost use Rattle.std.specs.Prelude.{◌≡◌, ◌+◌, ◌≤◌, length, cond, Ok};
 ghost use Rattle.std.specs.Result.{IfOk};
 ghost use Rattle.rl_ast.specs.Lists.{lists_from};
 ghost use Rattle.rl_spec.specs.Answers.{refused};
@@ -23,24 +22,24 @@ const LIMITS: [u16; 9] = [16384, 2048, 4096, 4096, 2048, 256, 256, 64, 256];
 
 // Refuses where n bytes at a place run past the end.
 #[tactic(auto, unfolding(rl_spec::specs::Bytes::past))]
-fn have(s: &[u8], at: usize, n: usize) -> Result<(), Refusal>
-    ensures step { result ≡ cond (past s.now at n) (refused Cause.BytesEnd at) (Ok tt) }
-    ensures there { IfOk result (λ u. at + n ≤ length s.now) }
+fn have(image: &[u8], at: usize, n: usize) -> Result<(), Refusal>
+    ensures step { result ≡ cond (past image.now at n) (refused Cause.BytesEnd at) (Ok tt) }
+    ensures there { IfOk result (λ u. at + n ≤ length image.now) }
 {
-    if is_past(s, at, n) {
+    if is_past(image, at, n) {
         return Err(Cause::BytesEnd.at(at));
     }
     Ok(())
 }
 
 #[tactic(auto, unfolding(rl_spec::specs::Read::counts_from))]
-fn count_step(s: &[u8], limits: &[u16]) -> Result<Next, Refusal>
-    ensures { result ≡ counts_from s.now limits.now 5 }
+fn count_step(image: &[u8], limits: &[u16]) -> Result<Next, Refusal>
+    ensures { result ≡ counts_from image.now limits.now 5 }
 {
     let mut at = 5;
     for &most in limits {
-        have(s, at, 2)?;
-        if most < u16_at(s, at) {
+        have(image, at, 2)?;
+        if most < u16_at(image, at) {
             return Err(Cause::CountOverLimit.at(at));
         }
         at += 2;
@@ -49,37 +48,37 @@ fn count_step(s: &[u8], limits: &[u16]) -> Result<Next, Refusal>
 }
 
 #[tactic(auto, unfolding(rl_spec::specs::Read::header_of, rl_spec::specs::Schema::limits))]
-fn header(s: &[u8]) -> Result<Next, Refusal>
-    ensures { result ≡ header_of s.now }
+fn header(image: &[u8]) -> Result<Next, Refusal>
+    ensures { result ≡ header_of image.now }
 {
-    have(s, 0, 1)?;
-    if get_or(s, 0, 0) != 1 {
+    have(image, 0, 1)?;
+    if get_or(image, 0, 0) != 1 {
         return Err(Cause::WrongKind.at(0));
     }
-    have(s, 1, 4)?;
-    count_step(s, &LIMITS)
+    have(image, 1, 4)?;
+    count_step(image, &LIMITS)
 }
 
 #[tactic(auto, unfolding(rl_spec::specs::Read::counts_of))]
-fn header_counts(s: &[u8]) -> Counts
-    ensures { result ≡ counts_of s.now }
+fn header_counts(image: &[u8]) -> Counts
+    ensures { result ≡ counts_of image.now }
 {
     Counts {
-        bytes: u16_at(s, 5),
-        texts: u16_at(s, 7),
-        lists: u16_at(s, 9),
-        expressions: u16_at(s, 11),
-        statements: u16_at(s, 13),
-        parameters: u16_at(s, 15),
-        clauses: u16_at(s, 17),
-        functions: u16_at(s, 19),
-        calls: u16_at(s, 21),
+        bytes: u16_at(image, 5),
+        texts: u16_at(image, 7),
+        lists: u16_at(image, 9),
+        expressions: u16_at(image, 11),
+        statements: u16_at(image, 13),
+        parameters: u16_at(image, 15),
+        clauses: u16_at(image, 17),
+        functions: u16_at(image, 19),
+        calls: u16_at(image, 21),
     }
 }
 
 // What the i-th record of a section may refer to.
-fn seen_by(c: Counts, own: Section, i: u16) -> Counts
-    ensures { result ≡ seen_by c own i }
+fn seen_by(counts: Counts, own: Section, i: u16) -> Counts
+    ensures { result ≡ seen_by counts own i }
 {
     let earlier = Counts {
         statements: 0,
@@ -87,7 +86,7 @@ fn seen_by(c: Counts, own: Section, i: u16) -> Counts
         clauses: 0,
         functions: 0,
         calls: 0,
-        ..c
+        ..counts
     };
     match own {
         Section::Expressions => Counts {
@@ -98,133 +97,146 @@ fn seen_by(c: Counts, own: Section, i: u16) -> Counts
             statements: i,
             ..earlier
         },
-        _ => c,
+        _ => counts,
     }
 }
 
 // Keeps a number for the i-th record of a section.
-fn keep_number(c: Counts, own: Section, i: u16, x: u16, w: &mut [u16])
-    ensures { w.new ≡ keep c own i x w.old }
+fn keep_number(counts: Counts, own: Section, i: u16, x: u16, kept: &mut [u16])
+    ensures { kept.new ≡ keep counts own i x kept.old }
 {
-    let first = usize::from(c.expressions);
+    let first = usize::from(counts.expressions);
     match own {
-        Section::Expressions => put(w, usize::from(i), x),
-        Section::Statements => put(w, first + usize::from(i), x),
+        Section::Expressions => put(kept, usize::from(i), x),
+        Section::Statements => put(kept, first + usize::from(i), x),
         _ => {}
     }
 }
 
-// The records of a section.
-#[tactic(auto, using(rl_fields::proofs::FieldLaws::turn), unfolding(rl_spec::specs::Read::records_from))]
+// The records of a section. The image, its counts and the two lists are parameters here and below: as fields behind a `&mut self`,
+// each function would have to promise of all four that they stay the same ones.
+#[tactic(auto, using(rl_fields::proofs::Turns::turn), unfolding(rl_spec::specs::Read::records_from))]
 fn records(
-    s: &[u8],
-    c: Counts,
+    image: &[u8],
+    counts: Counts,
     own: Section,
     start: usize,
-    w: &mut [u16],
-    p: &mut [u16],
+    heights: &mut [u16],
+    starts: &mut [u16],
 ) -> Result<Next, Refusal>
-    requires s_len_bound { length s.now ≤ 65535 }
-    ensures { out_of result w.new p.new ≡ records_from s.now c own (count_of c own) 0 start w.old p.old }
+    requires image_len_bound { length image.now ≤ 65535 }
+    ensures { out_of result heights.new starts.new ≡ records_from image.now counts own (count_of counts own) 0 start heights.old starts.old }
 {
     let mut at = start;
-    for i in 0..count_in(c, own) {
+    for i in 0..count_in(counts, own) {
         let scope = Scope {
-            image: s,
-            heights: w,
-            starts: p,
-            seen: seen_by(c, own, i),
+            image,
+            heights,
+            starts,
+            seen: seen_by(counts, own, i),
             own,
         };
         let next = scope.record(at)?;
-        keep_number(c, own, i, next.tall, w);
-        keep_number(c, own, i, at as u16, p);
+        keep_number(counts, own, i, next.tall, heights);
+        keep_number(counts, own, i, at as u16, starts);
         at = next.at;
     }
     Ok(Next { at, tall: 0 })
 }
 
 // The list entries: records of one kind whose only field may hold any number.
-#[tactic(auto, using(rl_fields::proofs::FieldLaws::turn), unfolding(crate::specs::Lists::lists_from))]
-fn list_records(s: &[u8], count: u16, start: usize) -> Result<Next, Refusal>
-    ensures { result ≡ lists_from s.now count start }
+#[tactic(auto, using(rl_fields::proofs::Turns::turn), unfolding(crate::specs::Lists::lists_from))]
+fn list_records(image: &[u8], count: u16, start: usize) -> Result<Next, Refusal>
+    ensures { result ≡ lists_from image.now count start }
 {
     let mut at = start;
     for _ in 0..count {
-        have(s, at, 1)?;
-        if s[at] != 3 {
+        have(image, at, 1)?;
+        if image[at] != 3 {
             return Err(Cause::WrongKind.at(at));
         }
-        have(s, at + 1, 2)?;
+        have(image, at + 1, 2)?;
         at = at + 1 + 2;
     }
     Ok(Next { at, tall: 0 })
 }
 
-// The records of a section. List entries have their own loop, and the two large sections their own calls, which the compiler makes
-// loops of their own of.
+// The records of a section. For speed, list entries have their own loop, and the two large sections their own calls, which the
+// compiler makes loops of their own of.
 #[tactic(auto, using(crate::proofs::ListLaws::lists_section))]
 fn section_records(
-    s: &[u8],
-    c: Counts,
+    image: &[u8],
+    counts: Counts,
     own: Section,
     start: usize,
-    w: &mut [u16],
-    p: &mut [u16],
+    heights: &mut [u16],
+    starts: &mut [u16],
 ) -> Result<Next, Refusal>
-    requires s_len_bound { length s.now ≤ 65535 }
-    ensures { out_of result w.new p.new ≡ records_from s.now c own (count_of c own) 0 start w.old p.old }
+    requires image_len_bound { length image.now ≤ 65535 }
+    ensures { out_of result heights.new starts.new ≡ records_from image.now counts own (count_of counts own) 0 start heights.old starts.old }
 {
     match own {
-        Section::Lists => list_records(s, c.lists, start),
-        Section::Expressions => records(s, c, Section::Expressions, start, w, p),
-        Section::Statements => records(s, c, Section::Statements, start, w, p),
-        _ => records(s, c, own, start, w, p),
+        Section::Lists => list_records(image, counts.lists, start),
+        Section::Expressions => records(
+            image,
+            counts,
+            Section::Expressions,
+            start,
+            heights,
+            starts,
+        ),
+        Section::Statements => records(image, counts, Section::Statements, start, heights, starts),
+        _ => records(image, counts, own, start, heights, starts),
     }
 }
 
 // The sections, in order.
 #[tactic(auto, unfolding(rl_spec::specs::Read::sections_from))]
 fn all_sections(
-    s: &[u8],
-    c: Counts,
+    image: &[u8],
+    counts: Counts,
     sections: &[Section],
     start: usize,
-    w: &mut [u16],
-    p: &mut [u16],
+    heights: &mut [u16],
+    starts: &mut [u16],
 ) -> Result<Next, Refusal>
-    requires s_len_bound { length s.now ≤ 65535 }
-    ensures { out_of result w.new p.new ≡ sections_from s.now c sections.now start w.old p.old }
+    requires image_len_bound { length image.now ≤ 65535 }
+    ensures { out_of result heights.new starts.new ≡ sections_from image.now counts sections.now start heights.old starts.old }
 {
     let mut at = start;
     for &own in sections {
-        at = section_records(s, c, own, at, w, p)?.at;
+        at = section_records(image, counts, own, at, heights, starts)?.at;
     }
     Ok(Next { at, tall: 0 })
 }
 
 // After the header: the text bytes, the sections, the end.
 #[tactic(auto, unfolding(rl_spec::specs::Read::body_of, rl_spec::specs::Read::end_of, rl_spec::specs::Schema::sections))]
-fn after_header(s: &[u8], c: Counts, w: &mut [u16], p: &mut [u16]) -> Result<Next, Refusal>
-    requires s_len_bound { length s.now ≤ 65535 }
-    ensures { out_of result w.new p.new ≡ body_of s.now c w.old p.old }
+fn after_header(
+    image: &[u8],
+    counts: Counts,
+    heights: &mut [u16],
+    starts: &mut [u16],
+) -> Result<Next, Refusal>
+    requires image_len_bound { length image.now ≤ 65535 }
+    ensures { out_of result heights.new starts.new ≡ body_of image.now counts heights.old starts.old }
 {
-    let size = usize::from(c.bytes);
-    have(s, 23, size)?;
-    let end = all_sections(s, c, &SECTIONS, 23 + size, w, p)?;
-    if end.at < s.len() {
+    let size = usize::from(counts.bytes);
+    have(image, 23, size)?;
+    let end = all_sections(image, counts, &SECTIONS, 23 + size, heights, starts)?;
+    if end.at < image.len() {
         return Err(Cause::BytesLeft.at(end.at));
     }
     Ok(end)
 }
 
 // The image's content, where its length is within the limit.
-fn content(s: &[u8], w: &mut [u16], p: &mut [u16]) -> Result<Next, Refusal>
-    requires s_len_bound { length s.now ≤ 65535 }
-    ensures { out_of result w.new p.new ≡ content_of s.now w.old p.old }
+fn content(image: &[u8], heights: &mut [u16], starts: &mut [u16]) -> Result<Next, Refusal>
+    requires image_len_bound { length image.now ≤ 65535 }
+    ensures { out_of result heights.new starts.new ≡ content_of image.now heights.old starts.old }
 {
-    header(s)?;
-    after_header(s, header_counts(s), w, p)
+    header(image)?;
+    after_header(image, header_counts(image), heights, starts)
 }
 
 // Reads an image. Where it is accepted, the work slice holds the heights of the expressions and then of the statements, and

@@ -1,2 +1,2 @@
-pub mod FieldLaws
 pub mod RecordLaws
+pub mod Turns

@@ -4,8 +4,7 @@
 mod lists;
 mod references;
 
-ghost use Rattle.std.specs.Prelude.{◌≡◌, cond, ◌+◌, ◌≤◌, length, Ok, Err};
-ghost use Rattle.std.specs.Prelude.{◌<◌};
+ghost use Rattle.std.specs.Prelude.{◌≡◌, cond, ◌+◌, ◌<◌, ◌≤◌, length, Ok, Err};
 ghost use Rattle.std.specs.Result.{IfOk};
 ghost use Rattle.rl_spec.specs.Bytes.{past, u16_at};
 ghost use Rattle.rl_spec.specs.Schema.{sort_of, fields_of};
@@ -55,7 +54,7 @@ fn operand_sort(refinement: u8, b: u8, tall: u16) -> Result<u16, Cause>
     byte_in(1, 4, b, tall)
 }
 
-// A field of n bytes of any value.
+// A field of n bytes of any value: `Scope::field` for these alone, for speed.
 fn raw_field(s: &[u8], n: u8, at: usize, tall: u16) -> Result<u16, Cause>
     ensures { result ≡ cond (past s.now at n) (Err Cause.BytesEnd) (Ok tall) }
 {
@@ -83,7 +82,7 @@ impl Scope<'_> {
         unless(Cause::BadText, rl_text::is_utf8(text), tall)
     }
 
-    #[tactic(auto, using(crate::proofs::FieldLaws::turn), unfolding(rl_spec::specs::Fields::zeros))]
+    #[tactic(auto, using(crate::proofs::Turns::turn), unfolding(rl_spec::specs::Fields::zeros))]
     fn are_zeros(self, at: usize, n: usize) -> bool
         requires { at + n ≤ length self.image.now }
         ensures { result ≡ zeros self.entry.image.now at n }
@@ -141,7 +140,7 @@ impl Scope<'_> {
         }
     }
 
-    // A field of one reference.
+    // A field of one reference: `field` for these alone, for speed.
     #[tactic(auto, unfolding(rl_spec::specs::Fields::field_at, rl_spec::specs::Fields::value_of))]
     fn one_reference(self, target: Target, at: usize, tall: u16) -> Result<u16, Cause>
         ensures { result ≡ in_scope self.entry field_at (Sort.One target) at tall }
@@ -152,7 +151,7 @@ impl Scope<'_> {
         self.refer_to(target, u16_at(self.image, at), tall)
     }
 
-    // A field by its code; the most frequent ones first, for speed.
+    // A field by its code; the most frequent ones by themselves (with `field` for all, a typical image takes a fifth longer).
     #[tactic(auto, unfolding(rl_spec::specs::Schema::sort_of, rl_spec::specs::Fields::field_at, rl_spec::specs::Fields::value_of))]
     fn coded_field(self, code: u8, at: usize, tall: u16) -> Result<u16, Cause>
         ensures { result ≡ in_scope self.entry field_at (sort_of code) at tall }

@@ -19,7 +19,7 @@ fn is_multiple(count: u16, step: u8) -> bool
 
 impl Scope<'_> {
     // The entries of a list, by turns a left and a right.
-    #[tactic(auto, using(crate::proofs::FieldLaws::turn), unfolding(rl_spec::specs::Fields::entries_from, rl_spec::specs::Fields::refer_to))]
+    #[tactic(auto, using(crate::proofs::Turns::turn), unfolding(rl_spec::specs::Fields::entries_from, rl_spec::specs::Fields::refer_to))]
     fn entries(self, list: Interval, left: Target, right: Target, tall: u16) -> Result<u16, Cause>
         ensures { result ≡ in_scope self.entry entries_from list.count list.first left right tall }
     {
@@ -58,7 +58,7 @@ impl Scope<'_> {
     }
 
     // The entries of a list of expressions in an expression, none of them past the end: the long lists are such, so this is for speed.
-    #[tactic(auto, using(crate::proofs::FieldLaws::turn), unfolding(rl_spec::specs::Fields::entries_from, rl_spec::specs::Fields::refer_to))]
+    #[tactic(auto, using(crate::proofs::Turns::turn), unfolding(rl_spec::specs::Fields::entries_from, rl_spec::specs::Fields::refer_to))]
     fn node_entries(self, list: Interval, tall: u16) -> Result<u16, Cause>
         requires there { lists_at self.seen + (list.first + list.count) * 3 ≤ length self.image.now }
         requires own { self.own ≡ Section.Expressions }

@@ -40,9 +40,6 @@ module _ (s : List ℕ) (k : ℕ) (a : Answer) (e : a ≡ answer_of s k) where
         text_none : text_for s k t ≡ refused NoSuchText 0
         text_none = text_by_lem _ f ∙ rw (le-ltb t c.texts h) refl
 
-        pub text_missing : refused NoSuchText 0 ≡ text_for s k t
-        text_missing = sym text_none
-
         pub text_missing_work : (v w : List ℕ) → length v ≡ k → w ≡ replicate (length v) 0 → w ≡ work_unless (text_number (text_for s k t)) s k
         text_missing_work v w n z = text_work _ text_none w (z ∙ ap (λ (i : ℕ). replicate i 0) n ∙ zeros_unless NoSuchText s k)
 
@@ -84,9 +81,6 @@ module _ (s : List ℕ) (k : ℕ) (a : Answer) (e : a ≡ answer_of s k) where
       module _ (h : c.calls ≤ call) where
         message_none : message_answer s k call number ≡ refused NoSuchCall 0
         message_none = message_by_lem _ f ∙ rw (le-ltb call c.calls h) refl
-
-        pub message_missing : refused NoSuchCall 0 ≡ message_answer s k call number
-        message_missing = sym message_none
 
         pub message_missing_out : (m : ℕ) (o : List ℕ) → m ≡ 65535 → o ≡ replicate m 0 → o ≡ message_out s k call number
         message_missing_out m o l z = message_bytes_lem _ message_none o (z ∙ ap (λ (i : ℕ). replicate i 0) l)

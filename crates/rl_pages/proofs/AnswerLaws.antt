@@ -24,16 +24,6 @@ use Rattle.rl_prover.specs.Reports.{Shown, kept_at}
 use Rattle.rl_prover.proofs.ShownLaws.{none_shown, all_shown}
 use Rattle.rl_pages.specs.Added.{Adds, answer_at}
 
--- ---- the answer by the place after the bytes
-
-pub answered_short : (room at : ℕ) → room < at → refused PagesTooShort 0 ≡ answer_at room at
-unfolding answer_at
-answered_short room at h = rw (lt-ltb room at h) refl
-
-pub answered_all : (room at : ℕ) → at ≤ room → Ok at ≡ answer_at room at
-unfolding answer_at
-answered_all room at h = rw (le-ltb room at h) refl
-
 module _ (s : List ℕ) (k room : ℕ) (a : Answer) (e : a ≡ answer_of s k) where
   pages_by_lem : (x : Answer) → a ≡ x → pages_answer s k room ≡ pages_from s room x
   unfolding pages_answer

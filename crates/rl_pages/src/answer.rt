@@ -44,6 +44,7 @@ fn put_pages(opened: OpenImage, pages: &mut [u8]) -> usize
 }
 
 // Answers for bytes up to a place, or refuses a slice that is too short for them; then both slices are cleared.
+#[tactic(auto, unfolding(crate::specs::Added::answer_at, rl_prover::specs::Reports::kept_at))]
 fn answer_at(work: &mut [u16], pages: &mut [u8], at: usize) -> Result<u32, Refusal>
     requires { at ≤ 38290544 }
     ensures value { result ≡ answer_at (length pages.old) at }

@@ -1,4 +1,4 @@
-use Rattle.std.proofs.Common.{rules, ◌≡◌, ◌∙◌, length}
+use Rattle.std.proofs.Common.{◌∙◌}
 use native.Mathlib.Omega.{arith}
 use Rattle.rl_ast.proofs.ReadLaws.{cleared, read_long, read_short, read_stop, read_good}
 use Rattle.rl_ast.proofs.reader.read_starts.Goals as goal
@@ -18,8 +18,8 @@ returns-in-Err c =
     let p =
     read_stop _ _ c.if-image-gt-LONGEST.false (omega (arith, c.fill.auto.self)) _ _ _ _ _ (c.fill.ensures.after (λ y e. e))
     (cleared c.args.starts.now _ _ (c.fill-2.ensures.after (λ y e. e)) c.told-starts) c.content.ensures _ c.in-Err.is _ _
-    (cleared c.content.new.w _ _ (c.fill-in-Err.ensures.after (λ y e. e)) (c.content.auto.w ∙ c.fill.auto.self))
-    (cleared c.content.new.p _ _ (c.fill-in-Err-2.ensures.after (λ y e. e)) (c.content.auto.p ∙ c.fill-2.auto.self ∙ c.told-starts)) in
+    (cleared c.content.new.heights _ _ (c.fill-in-Err.ensures.after (λ y e. e)) (c.content.auto.heights ∙ c.fill.auto.self))
+    (cleared c.content.new.starts _ _ (c.fill-in-Err-2.ensures.after (λ y e. e)) (c.content.auto.starts ∙ c.fill-2.auto.self ∙ c.told-starts)) in
     record { value = p.0; work_after = p.1.0; starts_after = p.1.1 }
 
 pub returns : goal.returns

@@ -1,6 +1,6 @@
 use Rattle.std.proofs.Common.{◌≡◌, ◌+◌, ◌-◌}
 use Rattle.rl_spec.specs.declared.Target.TheVariants.{Expression}
-use Rattle.rl_spec.specs.Fields.{entries_from, lists_at}
+use Rattle.rl_spec.specs.Fields.{entries_from}
 use Rattle.rl_fields.specs.Scopes.{in_scope}
 use Rattle.rl_fields.proofs.Scope.node_entries.Given as goal
 

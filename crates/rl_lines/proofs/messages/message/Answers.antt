@@ -1,7 +1,7 @@
-use mathlib.Core.Path.{◌≡◌, refl, ap, ◌∙◌}
+use mathlib.Core.Path.{◌≡◌, refl}
 use lib.ListN.{length}
-use Rattle.std.proofs.Common.{rules, Err}
-use Rattle.rl_lines.proofs.AnswerLaws.{message_unread_out, message_unread_work, message_missing, message_missing_out, message_missing_work, message_found, message_found_out, message_found_work}
+use Rattle.std.proofs.Common.{rules}
+use Rattle.rl_lines.proofs.AnswerLaws.{message_unread_out, message_unread_work, message_missing_out, message_missing_work, message_found, message_found_out, message_found_work}
 use Rattle.rl_lines.proofs.messages.message.Goals as goal
 
 pub returns-in_err-counts-clause-out_after : goal.returns-in_err-counts-clause-out_after
@@ -10,10 +10,6 @@ returns-in_err-counts-clause-out_after c = let size : length c.args.out.now ≡ 
 
 pub returns-in_err-counts-clause-work_after : goal.returns-in_err-counts-clause-work_after
 returns-in_err-counts-clause-work_after c = message_unread_work _ _ _ c.in_err-counts.ensures.value _ _ _ _ refl _ c.open.ensures.work_after
-
-pub returns-then-counts-call-clause-value : goal.returns-then-counts-call-clause-value
-returns-then-counts-call-clause-value c =
-    ap Err c.into.ensures ∙ message_missing _ _ _ c.in_ok-counts.ensures.value _ _ _ _ refl c.if-counts-call.true
 
 pub returns-then-counts-call-clause-out_after : goal.returns-then-counts-call-clause-out_after
 returns-then-counts-call-clause-out_after c = let size : length c.args.out.now ≡ 65535 = search rules in

@@ -1,14 +1,9 @@
-use mathlib.Core.Path.{refl, ap, ◌∙◌}
-use Rattle.std.proofs.Common.{Err}
-use Rattle.rl_lines.proofs.AnswerLaws.{text_unread_work, text_missing, text_missing_work, text_found, text_found_work}
+use mathlib.Core.Path.{refl}
+use Rattle.rl_lines.proofs.AnswerLaws.{text_unread_work, text_missing_work, text_found, text_found_work}
 use Rattle.rl_lines.proofs.texts.text.Goals as goal
 
 pub returns-in_err-counts-clause-work_after : goal.returns-in_err-counts-clause-work_after
 returns-in_err-counts-clause-work_after c = text_unread_work _ _ _ c.in_err-counts.ensures.value _ _ _ refl _ c.read_starts.ensures.work_after
-
-pub returns-then-counts-number-clause-value : goal.returns-then-counts-number-clause-value
-returns-then-counts-number-clause-value c =
-    ap Err c.into.ensures ∙ text_missing _ _ _ c.in_ok-counts.ensures.value _ _ _ refl c.if-counts-number.true
 
 pub returns-then-counts-number-clause-work_after : goal.returns-then-counts-number-clause-work_after
 returns-then-counts-number-clause-work_after c =
