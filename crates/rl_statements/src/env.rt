@@ -89,7 +89,7 @@ impl Env {
         }
     }
 
-    pub fn len(&self) -> usize
+    pub(crate) fn len(&self) -> usize
         ensures { result ≡ length self.now }
     {
         self.len
@@ -109,7 +109,7 @@ impl Env {
     }
 
     // The value of a name.
-    pub fn look(&self, classes: &[u16], name: u16) -> Option<Value>
+    pub(crate) fn look(&self, classes: &[u16], name: u16) -> Option<Value>
         ensures { (bytes : ℕ → List ℕ) → Classes bytes classes.now → valued result ≡ find bytes self.now name }
     {
         let at = slot_of(classes, &self.slots, self.len, name)?;
@@ -117,7 +117,7 @@ impl Env {
     }
 
     // Gives a name that is bound a value.
-    pub fn store(&mut self, classes: &[u16], name: u16, value: Value) -> bool
+    pub(crate) fn store(&mut self, classes: &[u16], name: u16, value: Value) -> bool
         ensures { (bytes : ℕ → List ℕ) → Classes bytes classes.now → update bytes self.old name (value_of value) ≡ stored result self.new }
     {
         let Some(at) = slot_of(classes, &self.slots, self.len, name) else {
@@ -128,7 +128,7 @@ impl Env {
     }
 
     // Leaves a scope: the first `len` bindings stay.
-    pub fn leave(&mut self, len: usize)
+    pub(crate) fn leave(&mut self, len: usize)
         ensures { self.new ≡ drop (length self.old - len) self.old }
     {
         self.len = self.len.min(len);
