@@ -118,7 +118,8 @@ impl Env {
 
     // Gives a name that is bound a value.
     pub(crate) fn store(&mut self, classes: &[u16], name: u16, value: Value) -> bool
-        ensures { (bytes : ℕ → List ℕ) → Classes bytes classes.now → update bytes self.old name (value_of value) ≡ stored result self.new }
+        ensures value { (bytes : ℕ → List ℕ) → Classes bytes classes.now → update bytes self.old name (value_of value) ≡ stored result self.new }
+        ensures unbound { result ≡ false → self.new ≡ self.old }
     {
         let Some(at) = slot_of(classes, &self.slots, self.len, name) else {
             return false;
