@@ -1,5 +1,5 @@
 // The bindings of a run.
-ghost use Rattle.std.specs.Prelude.{◌≡◌, ◌-◌, ◌<◌, ◌≤◌, ◌∷◌, [], List, ℕ, IfSome, cond, drop, length, nat_lt};
+ghost use Rattle.std.specs.Prelude.{◌≡◌, ◌-◌, ◌<◌, ◌≤◌, ◌∷◌, [], List, ℕ, IfSome, cond, drop, false, length, nat_lt};
 ghost use Rattle.rl_spec.specs.Run.{find, named, update};
 ghost use Rattle.rl_spec.specs.Runner.{value_of, value_of_words};
 ghost use Rattle.rl_names.specs.Names.{Classes};
