@@ -12,13 +12,13 @@ trap 'exit 1' HUP INT TERM
 fail() { echo "examples_test: $*" >&2; exit 1; }
 runs=0
 
-# ---- the header's refusals have the numbers of number_of
+# ---- the header's refusals have the numbers of Cause, which number_of answers
 
 sed -n '/^enum rl_refusal/,/^};/s/^ *\(RL_[A-Z_]*\) = \([0-9]*\).*/\1 \2/p' include/rl_contracts.h | sort >"$new/header"
-sed -n 's/^ *Cause::\([A-Za-z]*\) => \([0-9]*\),$/\1 \2/p' crates/rl_numbers/src/lib.rt |
+sed -n '/^pub enum Cause/,/^}/s/^ *\([A-Za-z]*\) = \([0-9]*\),$/\1 \2/p' crates/rl_spec/src/lib.rt |
     sed 's/[A-Z]/_&/g; s/^/RL/' | tr a-z A-Z | sort >"$new/numbers"
-[ "$(wc -l <"$new/numbers")" -eq 22 ] || fail 'number_of has not 22 causes'
-diff "$new/numbers" "$new/header" >&2 || fail 'the header has other refusals than number_of'
+[ "$(wc -l <"$new/numbers")" -eq 22 ] || fail 'Cause has not 22 numbers'
+diff "$new/numbers" "$new/header" >&2 || fail 'the header has other refusals than Cause'
 
 # ---- and its other numbers are those of 01, those of pages 02's
 
