@@ -20,7 +20,7 @@ use rl_text_out::Out;
 // The image, and what lowering has added to it: as much of each section in the scratch slice as the context counts.
 #[derive(Clone, Copy)]
 pub struct Sources<'a> {
-    pub image: ImageRef<'a>,
+    pub image: ImageRef<'a, 'a>,
     pub ctx: Ctx,
     pub scratch: &'a [u8],
 }

@@ -11,25 +11,14 @@ mod answer;
 pub use answer::{Refused, unpacked};
 use rl_bytes::u32_at;
 use rl_streams::read_full;
-use std::io;
 use std::io::Read;
 use std::marker::PhantomData;
 
-// Why replaying stops before the input's end.
+// Why replaying stops before the input's end: what is written in place of the case.
 #[derive(Drop)]
-pub enum Stop {
-    // what is written in place of the case
-    BadCase(&'static str),
-    Output(io::Error),
-}
+pub struct BadCase(pub &'static str);
 
-impl From<io::Error> for Stop {
-    fn from(error: io::Error) -> Stop {
-        Stop::Output(error)
-    }
-}
-
-const CUT: Stop = Stop::BadCase("input ends in a case");
+const CUT: BadCase = BadCase("input ends in a case");
 
 #[derive(Clone, Copy)]
 pub struct Case<'a> {
@@ -53,11 +42,12 @@ pub trait Replay {
     const HEAD: usize;
 
     // How many bytes follow the image, or why there can be no such case. Those that the input lacks are left out.
-    fn tail_len(_head: &[u8]) -> Result<usize, Stop> {
+    fn tail_len(_head: &[u8]) -> Result<usize, BadCase> {
         Ok(0)
     }
 
-    fn replay(rt: &impl Print, case: &Case<'_>) -> Result<(), Stop>;
+    // That the output takes no more is no failure: what comes after is written all the same.
+    fn replay(rt: &impl Print, case: &Case<'_>);
 }
 
 #[derive(Drop)]
@@ -67,11 +57,11 @@ struct Cases<'a, R> {
 }
 
 impl<'a, R: Replay> Iterator for Cases<'a, R> {
-    type Item = Result<Case<'a>, Stop>;
+    type Item = Result<Case<'a>, BadCase>;
 
     ghost remaining = { λ s. at_most (length s.rest.now) };
 
-    fn next(&mut self) -> Option<Result<Case<'a>, Stop>> {
+    fn next(&mut self) -> Option<Result<Case<'a>, BadCase>> {
         if self.rest.is_empty() {
             return None;
         }
@@ -80,16 +70,16 @@ impl<'a, R: Replay> Iterator for Cases<'a, R> {
                 self.rest = rest;
                 Some(Ok(case))
             }
-            Err(stop) => {
+            Err(bad) => {
                 self.rest = &[];
-                Some(Err(stop))
+                Some(Err(bad))
             }
         }
     }
 }
 
 // The first n bytes, and those behind them.
-fn split(bytes: &[u8], n: usize) -> Result<(&[u8], &[u8]), Stop>
+fn split(bytes: &[u8], n: usize) -> Result<(&[u8], &[u8]), BadCase>
     ensures both { IfOk result (λ r. bytes.now ≡ r.0.now ++ r.1.now) }
     ensures first { IfOk result (λ r. length r.0.now ≡ n) }
 {
@@ -104,7 +94,7 @@ fn split_within(bytes: &[u8], n: usize) -> (&[u8], &[u8])
 }
 
 // The case at the start, and what stands behind it.
-fn first_case<R: Replay>(bytes: &[u8]) -> Result<(Case<'_>, &[u8]), Stop>
+fn first_case<R: Replay>(bytes: &[u8]) -> Result<(Case<'_>, &[u8]), BadCase>
     ensures parts { IfOk result (λ r. drop 4 bytes.now ≡ r.0.head.now ++ (r.0.image.now ++ (r.0.tail.now ++ r.1.now))) }
     ensures image { IfOk result (λ r. length r.0.image.now ≡ u32_at bytes.now 0) }
     ensures shrinks { IfOk result (λ r. length r.1.now < length bytes.now) }
@@ -116,22 +106,22 @@ fn first_case<R: Replay>(bytes: &[u8]) -> Result<(Case<'_>, &[u8]), Stop>
     Ok((Case { head, image, tail }, rest))
 }
 
-fn replay_all<R: Replay>(rt: &impl Print, input: &[u8]) -> Result<(), Stop> {
+fn replay_all<R: Replay>(rt: &impl Print, input: &[u8]) -> Result<(), BadCase> {
     let cases = Cases {
         rest: input,
         of: PhantomData::<R>,
     };
     for case in cases {
-        R::replay(rt, &case?)?;
+        R::replay(rt, &case?);
     }
     Ok(())
 }
 
-// Replays the cases of the input, of which 262,144 bytes are read, in turn. After the output's first error nothing more is written.
+// Replays the cases of the input, of which 262,144 bytes are read, in turn.
 pub fn replay_input<R: Replay>(rt: &impl Print, from: &mut impl Read) {
     let mut input = [0u8; 262144];
     let n = read_full(from, &mut input);
-    if let Err(Stop::BadCase(why)) = replay_all::<R>(rt, &input[..n]) {
+    if let Err(BadCase(why)) = replay_all::<R>(rt, &input[..n]) {
         let _ = println!(rt; "{why}");
     }
 }

@@ -4,11 +4,13 @@
 mod lists;
 mod references;
 
-ghost use Rattle.std.specs.Prelude.{◌≡◌, cond, ◌+◌, ◌<◌, ◌≤◌, length, Ok, Err};
+ghost use Rattle.std.specs.Prelude.{◌≡◌, cond, ◌+◌, ◌<◌, ◌≤◌, length, List, ℕ, Ok, Err};
 ghost use Rattle.std.specs.Result.{IfOk};
 ghost use Rattle.rl_spec.specs.Bytes.{past, u16_at};
 ghost use Rattle.rl_spec.specs.Schema.{sort_of, fields_of};
 ghost use Rattle.rl_spec.specs.Fields.{unless, range_of, part_of, byte_in, operand_sort_of, zeros, operand_of, field_at, fields_from, record_at};
+ghost use Rattle.rl_schema.specs.Codes.{table};
+ghost use Rattle.rl_fields.specs.Checked.{record_by};
 ghost use Rattle.rl_fields.specs.Scopes.{in_scope};
 
 use rl_bytes::{byte_before, get_or, is_past, part, second_u16, u16_at, u32_at};
@@ -166,13 +168,21 @@ impl Scope<'_> {
     }
 
     // The fields of a kind, left to right.
-    #[tactic(auto, using(rl_schema::proofs::Rows::codes_more, rl_schema::proofs::Rows::codes_none), unfolding(rl_spec::specs::Fields::fields_from, rl_spec::specs::Fields::field_at, rl_spec::specs::Bytes::past))]
+    #[tactic(auto, using(rl_schema::proofs::Rows::codes_more, rl_schema::proofs::Rows::codes_none), unfolding(rl_spec::specs::Fields::fields_from, rl_spec::specs::Fields::field_at, rl_spec::specs::Fields::value_of, rl_spec::specs::Schema::sort_of, rl_spec::specs::Bytes::past))]
     fn fields(self, kind: u8, start: usize) -> Result<Next, Refusal>
         ensures { result ≡ in_scope self.entry fields_from (fields_of kind) start 0 }
     {
         let mut rest = schema_row(kind);
         let mut at = start;
         let mut tall = 0;
+        // a span by itself, for speed: most kinds begin with one
+        if rest % 256 == 3 {
+            if is_past(self.image, at, 4) {
+                return Err(Cause::BytesEnd.at(at));
+            }
+            at += 4;
+            rest /= 256;
+        }
         while rest != 0 {
             let code = (rest % 256) as u8;
             tall = self
@@ -184,9 +194,18 @@ impl Scope<'_> {
         Ok(Next { at, tall })
     }
 
-    // One record: its kind, its fields, its height.
-    #[tactic(auto, unfolding(rl_spec::specs::Fields::record_at, rl_spec::specs::Bytes::past))]
+    // One record: its kind, its fields, its height. Over any list that is the schema's table, that is `record_by`.
+    #[tactic(auto, using(crate::proofs::RecordLaws::record_by_table))]
     pub fn record(self, at: usize) -> Result<Next, Refusal>
+        ensures step { result ≡ in_scope self.entry record_at at }
+        ensures by_table { (rows : List ℕ) → rows ≡ table → result ≡ in_scope self.entry (record_by rows) at }
+        ensures there { IfOk result (λ next. at < length self.entry.image.now) }
+    {
+        self.checked(at)
+    }
+
+    #[tactic(auto, unfolding(rl_spec::specs::Fields::record_at, rl_spec::specs::Bytes::past))]
+    fn checked(self, at: usize) -> Result<Next, Refusal>
         ensures step { result ≡ in_scope self.entry record_at at }
         ensures there { IfOk result (λ next. at < length self.entry.image.now) }
     {

@@ -51,7 +51,7 @@ impl Scope<'_> {
         ensures { result ≡ in_scope self.entry refer_to Target.Expression n tall }
     {
         if n < self.seen.expressions {
-            Ok(tall.max(self.heights[usize::from(n)]))
+            Ok(self.heights[usize::from(n)].max(tall))
         } else {
             Err(Cause::BadReference)
         }

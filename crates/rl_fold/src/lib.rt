@@ -16,7 +16,7 @@ use rl_records::ImageRef;
 use rl_spec::{ConstVal, Form};
 
 // The bytes of a value that is a text.
-pub fn value_text<'a>(image: ImageRef<'a>, v: ConstVal) -> &'a [u8]
+pub fn value_text<'a>(image: ImageRef<'a, '_>, v: ConstVal) -> &'a [u8]
     ensures { (p : List ℕ) → TextIs (text_of (found_with image.entry p)) v result.now }
 {
     match v {
@@ -67,10 +67,10 @@ pub fn const_eval(image: ImageRef, names: Names, memory: &mut [u64], n: u16) -> 
         }
         Form::Unary { operator, operand } => {
             if operand < n {
-                unary_folded(operator, const_eval(image, names, memory, operand))
-            } else {
-                None
+                let v = unary_folded(operator, const_eval(image, names, memory, operand));
+                return remember(memory, names.count, n, v);
             }
+            None
         }
         Form::Binary {
             left,

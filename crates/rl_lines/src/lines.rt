@@ -24,7 +24,7 @@ pub struct Lines {
 // A call of an image with its lines and the entries of its reports.
 #[derive(Clone, Copy)]
 pub struct Reported<'a> {
-    pub image: ImageRef<'a>,
+    pub image: ImageRef<'a, 'a>,
     pub lines: Lines,
     pub entries: &'a [u32; 2048],
     ghost known: { ∥ Known image.bytes.now image.starts.now image.counts ∥₁ },
@@ -56,10 +56,10 @@ pub fn lines_with(
         0,
     );
     let record = opened.image.call(call);
-    let callee = find_callee(opened.image, opened.classes, record.callee);
+    let function = find_callee(opened.image, opened.classes, record.callee).unwrap_or(0);
     Lines {
         call,
-        function: callee.unwrap_or(0),
+        function,
         span: record.span,
         count: (end / 4) as u32,
     }

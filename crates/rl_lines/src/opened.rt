@@ -13,7 +13,7 @@ use rl_spec::{Accepted, Refusal};
 // An image that is open: its records, which are those of its accepted bytes, and the classes of its texts.
 #[derive(Clone, Copy)]
 pub struct OpenImage<'a> {
-    pub image: ImageRef<'a>,
+    pub image: ImageRef<'a, 'a>,
     pub classes: &'a [u16],
     ghost known: { ∥ Known image.bytes.now image.starts.now image.counts ∥₁ },
     ghost named: { Classes (text_of (image_of image.bytes.now)) classes.now },

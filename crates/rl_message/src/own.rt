@@ -24,11 +24,12 @@ fn string_in(form: Form) -> Option<u16>
 fn own_string(image: ImageRef, message: Option<u16>) -> Option<u16>
     ensures { text_option result ≡ own_string (optional_tree (found image.entry) message) }
 {
-    string_in(image.form(message?))
+    let node = message?;
+    string_in(image.form(node))
 }
 
 // The clause's own text, a part of the image, or the default, as it was lent.
-fn clause_message<'a>(image: ImageRef<'a>, clause: Clause, default: &'a [u8]) -> &'a [u8]
+fn clause_message<'a>(image: ImageRef<'a, '_>, clause: Clause, default: &'a [u8]) -> &'a [u8]
     ensures { result.now ≡ clause_message (found image.entry) clause default.now }
 {
     match own_string(image, clause.message) {
@@ -47,7 +48,7 @@ fn clause_of(image: ImageRef, function: u16, number: u16) -> Clause
 
 // The message of a violation: the clause's own text or the default.
 pub fn message<'a>(
-    image: ImageRef<'a>,
+    image: ImageRef<'a, '_>,
     function: u16,
     violation: Violation,
     default: &'a [u8],

@@ -76,7 +76,7 @@ fn refinement(op: u8, sort: u8, x: u64) -> Option<Refinement>
     })
 }
 
-impl ImageRef<'_> {
+impl ImageRef<'_, '_> {
     // A parameter: name, type, refinement, operand's sort, operand.
     pub fn param(self, i: u32) -> Param
         ensures { (p : List ℕ) → result ≡ param_at (found_with self.entry p) i }

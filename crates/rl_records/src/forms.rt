@@ -101,7 +101,7 @@ fn form_in(image: ImageRef, start: u16) -> Form
     }
 }
 
-impl ImageRef<'_> {
+impl ImageRef<'_, '_> {
     // The form of the n-th expression.
     pub fn form(self, n: u16) -> Form
         ensures { result ≡ form_of (found self.entry) n }

@@ -13,8 +13,8 @@ pub use texts::optional_at;
 
 // An image that is borrowed: its bytes, where its expressions and then its statements start, and its counts.
 #[derive(Clone, Copy)]
-pub struct ImageRef<'a> {
+pub struct ImageRef<'a, 's> {
     pub bytes: &'a [u8],
-    pub starts: &'a [u16],
+    pub starts: &'s [u16],
     pub counts: Counts,
 }

@@ -41,7 +41,7 @@ fn statement_in(bytes: &[u8], start: u16) -> StatementForm
     }
 }
 
-impl ImageRef<'_> {
+impl ImageRef<'_, '_> {
     // The form of the n-th statement.
     pub fn statement(self, n: u16) -> StatementForm
         ensures { result ≡ statement_of (found self.entry) n }

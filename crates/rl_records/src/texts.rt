@@ -10,7 +10,7 @@ use crate::ImageRef;
 use rl_bytes::{part, second_u16, u16_at};
 use rl_spec::{Interval, TextPart};
 
-impl<'a> ImageRef<'a> {
+impl<'a> ImageRef<'a, '_> {
     // The k-th list entry.
     pub fn entry(self, k: u32) -> u16
         ensures { (p : List ℕ) → result ≡ entry_of (found_with self.entry p) k }

@@ -4,14 +4,17 @@ ghost use Rattle.std.specs.Prelude.{◌≡◌, length};
 ghost use Rattle.rl_spec.specs.Read.{work_of};
 
 use rl_bytes::part;
-use rl_lines::{OpenImage, Reported, lines_of, open, put_refused};
+use rl_lines::{OpenImage, Reported, lines_with, open, put_refused};
 use rl_records::ImageRef;
 use std::io;
 
 fn print_calls(rt: &impl Print, opened: OpenImage, out: &mut [u8; 65536]) -> io::Result<()> {
+    // scratch for all calls, so that none is cleared twice
+    let mut names = [0u64; 768];
+    let mut memory = [0u64; 8192];
     for call in 0..opened.image.counts.calls {
         let mut entries = [0u32; 2048];
-        let lines = lines_of(opened, call, &mut entries);
+        let lines = lines_with(opened, call, &mut names, &mut memory, &mut entries);
         let reported = Reported {
             image: opened.image,
             lines,

@@ -15,9 +15,9 @@ use std::marker::Model;
 // (`run_limits`).
 #[derive(Clone, Copy)]
 pub struct Binding {
-    name: u16,
-    sort: u16,
-    payload: u64,
+    pub name: u16,
+    pub sort: u16,
+    pub payload: u64,
 }
 
 // At most 128 bindings, the latest last. An array and a length, passed by value: a rule of the project.
@@ -57,7 +57,7 @@ fn slot_of(classes: &[u16], slots: &[Binding; 128], len: usize, name: u16) -> Op
 }
 
 impl Binding {
-    fn new(name: u16, value: Value) -> Binding
+    pub fn new(name: u16, value: Value) -> Binding
         ensures { bound_of result ≡ named name (value_of value) }
     {
         Binding {

@@ -9,5 +9,5 @@ mod types;
 mod views;
 
 pub use cycle::list;
-pub use env::Env;
+pub use env::{Binding, Env};
 pub use types::{Block, Ran, Source};

@@ -7,7 +7,7 @@ use rl_spec::Interval;
 // An image, and the classes of its texts: equal ones have the same bytes.
 #[derive(Clone, Copy)]
 pub struct Source<'a> {
-    pub image: ImageRef<'a>,
+    pub image: ImageRef<'a, 'a>,
     pub classes: &'a [u16],
 }
 

@@ -12,7 +12,7 @@ use rl_spec::Interval;
 // What a transform reads: an image, the schema's rows, and the ensures clauses of the function at hand.
 #[derive(Clone, Copy)]
 pub struct Walk<'a> {
-    pub image: ImageRef<'a>,
+    pub image: ImageRef<'a, 'a>,
     pub rows: &'a [u64],
     pub ensured: Interval,
 }

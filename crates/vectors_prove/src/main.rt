@@ -2,7 +2,7 @@
 // image; for each the lines of its reports are written, and `--`.
 #![tactic(auto)]
 
-use rl_cases::{Case, Replay, Stop, replay_input};
+use rl_cases::{Case, Replay, replay_input};
 use rl_report::print_reports;
 
 struct Proving;
@@ -10,15 +10,16 @@ struct Proving;
 impl Replay for Proving {
     const HEAD: usize = 4;
 
-    fn replay(rt: &impl Print, case: &Case<'_>) -> Result<(), Stop> {
+    fn replay(rt: &impl Print, case: &Case<'_>) {
         let mut space = [0u16; 8192];
         let work_len = case.number(0) as usize;
         match space.get_mut(..work_len) {
             Some(work) => print_reports(rt, case.image, work),
-            None => println!(rt; "work too long")?,
+            None => {
+                let _ = println!(rt; "work too long");
+            }
         }
-        println!(rt; "--")?;
-        Ok(())
+        let _ = println!(rt; "--");
     }
 }
 
