@@ -50,6 +50,11 @@ sed -n 's/^ *("\(rl_[a-z_]*\)", \([0-9]*\)),$/\1 \2/p' tools/check/src/bin/stack
 [ "$(wc -l <"$new/measured")" -eq 9 ] || fail 'stack_limits has not 9 exports'
 diff "$new/measured" "$new/stated" >&2 || fail 'the header states other bounds than stack_limits has'
 
+# ---- the archive asks its user for no other function
+
+asked=$(nm -u "$archive" | sed -n 's/^ *U //p' | sort -u | tr '\n' ' ')
+[ "$asked" = 'memcpy memset ' ] || fail "the archive asks for $asked"
+
 # ---- NULL is taken for a slice of length 0
 
 cat >"$new/null.c" <<'END'

@@ -46,6 +46,7 @@ tools/target/release/compare_reading 100000
 tools/target/release/lower_limits
 tools/target/release/stack_limits
 tools/target/release/compare_print
+tools/target/release/replay_goes_on
 
 # the example in C on the samples, which are what rlimg makes of their texts
 sh tools/examples_test.sh target/staticlib/librl_abi.a
