@@ -5,6 +5,6 @@ pub invariant_of-reported : goal.invariant_of-reported
 invariant_of-reported g c =
     record {
       known = c.args.opened.known;
-      proved = own_lines _ _ _ c.lines_of-lines.ensures.value;
-      reported = own_entries _ _ _ c.lines_of-lines.ensures.value _ c.lines_of-lines.ensures.reports_after;
+      proved = own_lines _ _ _ c.lines_with-lines.ensures.value;
+      reported = own_entries _ _ _ c.lines_with-lines.ensures.value _ c.lines_with-lines.ensures.reports_after;
     }
