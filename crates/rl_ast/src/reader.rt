@@ -76,40 +76,38 @@ fn header_counts(image: &[u8]) -> Counts
     }
 }
 
-// What the i-th record of a section may refer to.
+// What the i-th record of a section may refer to. Number by number, for speed: a choice among whole values is a jump in each record.
 fn seen_by(counts: Counts, own: Section, i: u16) -> Counts
     ensures { result ≡ seen_by counts own i }
 {
-    let earlier = Counts {
-        statements: 0,
-        parameters: 0,
-        clauses: 0,
-        functions: 0,
-        calls: 0,
+    let node = matches!(own, Section::Expressions);
+    let statement = matches!(own, Section::Statements);
+    let either = node || statement;
+    Counts {
+        expressions: if node { i } else { counts.expressions },
+        statements: if node {
+            0
+        } else if statement {
+            i
+        } else {
+            counts.statements
+        },
+        parameters: if either { 0 } else { counts.parameters },
+        clauses: if either { 0 } else { counts.clauses },
+        functions: if either { 0 } else { counts.functions },
+        calls: if either { 0 } else { counts.calls },
         ..counts
-    };
-    match own {
-        Section::Expressions => Counts {
-            expressions: i,
-            ..earlier
-        },
-        Section::Statements => Counts {
-            statements: i,
-            ..earlier
-        },
-        _ => counts,
     }
 }
 
-// Keeps a number for the i-th record of a section.
+// Keeps a number for the i-th record of a section; by `if`, for speed too.
 fn keep_number(counts: Counts, own: Section, i: u16, x: u16, kept: &mut [u16])
     ensures { kept.new ≡ keep counts own i x kept.old }
 {
     let first = usize::from(counts.expressions);
-    match own {
-        Section::Expressions => put(kept, usize::from(i), x),
-        Section::Statements => put(kept, first + usize::from(i), x),
-        _ => {}
+    let node = matches!(own, Section::Expressions);
+    if node || matches!(own, Section::Statements) {
+        put(kept, usize::from(i) + if node { 0 } else { first }, x);
     }
 }
 
